@@ -1,0 +1,99 @@
+-- Edges, verdict and hem edges, by counting over the list of all edges of a mesh, as document 01, 'Edges, verdict and wires', has them.
+-- Assumes nothing.
+use mathlib.Core.Bool.{Bool, true, false, cond, not, _&&_, _||_}
+use mathlib.Core.List.{List, [], _∷_, _++_, map}
+use Prim.Native.Nat.{ℕ, zero, suc}
+use lib.Dec.{leb, ltb, eqb}
+use Rattle.lists.specs.Lists.{count, some, only}
+use Rattle.mesh.specs.Mesh.{Ring, position}
+
+module _ {A : Type 0} where
+  -- the edges of a walk from a through the list to z
+  abbrev pub runEdges : A → List A → A → List (A × A)
+  runEdges a [] z = (a, z) ∷ []
+  runEdges a (b ∷ r) z = (a, b) ∷ runEdges b r z
+
+  -- a face's edges run from each corner to the next and from the last to the first
+  abbrev pub ringEdges : List A → List (A × A)
+  ringEdges [] = []
+  ringEdges (a ∷ r) = runEdges a r a
+
+  -- the edges of all faces, in the order of the faces
+  abbrev pub meshEdges : List (List A) → List (A × A)
+  meshEdges [] = []
+  meshEdges (f ∷ fs) = ringEdges f ++ meshEdges fs
+
+-- an edge runs from a position to a position
+abbrev pub Edge : Type 0
+Edge = ℕ × ℕ
+
+-- the edges of the faces, by position
+abbrev pub edgesOf : List Ring → List Edge
+edgesOf fs = meshEdges (map (map position) fs)
+
+-- whether two edges have the same start and the same end
+abbrev pub same : Edge → Edge → Bool
+same d e = eqb (d .0) (e .0) && eqb (d .1) (e .1)
+
+-- an edge without direction is its lower and higher position; the two may be equal
+abbrev pub flip : Edge → Edge
+flip e = (e .1, e .0)
+
+unfoldable pub key : Edge → Edge
+key e = cond (leb (e .0) (e .1)) e (flip e)
+
+-- how often the edge k, without direction, is used; how often it is used from d's start to d's end
+abbrev pub uses : Edge → List Edge → ℕ
+uses k es = count (λ e. same k (key e)) es
+
+abbrev pub runs : Edge → List Edge → ℕ
+runs d es = count (same d) es
+
+-- the four verdicts
+pub data Verdict : Type 0 where
+  Irregular Regular Oriented Closed : Verdict
+
+-- some edge is used three times or more; twice in the same direction; exactly once
+abbrev pub thrice : List Edge → Bool
+thrice es = some (λ e. leb 3 (uses (key e) es)) es
+
+abbrev pub alike : List Edge → Bool
+alike es = some (λ e. leb 2 (runs e es)) es
+
+abbrev pub once : List Edge → Bool
+once es = some (λ e. eqb 1 (uses (key e) es)) es
+
+-- Irregular if some edge is used three times or more; else Regular if some edge is used twice in the same direction; else
+-- Closed if no edge is used exactly once; else Oriented
+unfoldable pub verdict : List Edge → Verdict
+verdict es = cond (thrice es) Irregular (cond (alike es) Regular (cond (once es) Oriented Closed))
+
+-- ascending order: by the first number, then by the second
+abbrev pub before : Edge → Edge → Bool
+before d e = ltb (d .0) (e .0) || (eqb (d .0) (e .0) && ltb (d .1) (e .1))
+
+-- k into an ascending list, unless it is there
+abbrev pub insert : Edge → List Edge → List Edge
+insert k [] = k ∷ []
+insert k (x ∷ l) = cond (before k x) (k ∷ x ∷ l) (cond (same k x) (x ∷ l) (x ∷ insert k l))
+
+-- the edges without direction, each once, in ascending order (lower, higher)
+abbrev pub keys : List Edge → List Edge
+keys [] = []
+keys (e ∷ es) = insert (key e) (keys es)
+
+abbrev pub odd : ℕ → Bool
+odd zero = false
+odd (suc n) = not (odd n)
+
+-- the last use of the edge k; d where there is none
+abbrev pub lastOr : Edge → Edge → List Edge → Edge
+lastOr k d [] = d
+lastOr k d (e ∷ es) = lastOr k (cond (same k (key e)) e d) es
+
+-- hem edges: those used an odd number of times, with the direction of their last use
+abbrev pub hemKeys : List Edge → List Edge
+hemKeys es = only (λ k. odd (uses k es)) (keys es)
+
+unfoldable pub hems : List Edge → List Edge
+hems es = map (λ k. lastOr k k es) (hemKeys es)

@@ -1,0 +1,1 @@
+// Edges, verdict and hem edges. The definitions stand in specs/.

@@ -1,0 +1,4 @@
+pub mod Bools
+pub mod Numbers
+pub mod Parts
+pub mod Writing

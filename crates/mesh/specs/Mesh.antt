@@ -1,0 +1,63 @@
+-- The mesh: its five lists, its corners and its faces, as document 01, 'The mesh', has them. Assumes nothing.
+use Prim.Native.Nat.{ℕ, zero, suc, _+_, _*_, _/_}
+use mathlib.Core.List.{List, [], _∷_}
+use lib.ListN.{length, getD, take, drop}
+use lib.Ieee.{Float}
+
+-- positions, texture points and normals as flat lists of coordinates; one flat list of corners, one list of face sizes
+pub record Mesh : Type 0 where
+  pub positions : List Float
+  pub textures : List Float
+  pub normals : List Float
+  pub corners : List ℕ
+  pub sizes : List ℕ
+
+abbrev pub meshOf : List Float → List Float → List Float → List ℕ → List ℕ → Mesh
+meshOf p t n c s = record { positions = p; textures = t; normals = n; corners = c; sizes = s }
+
+-- a texture or normal index that means missing
+abbrev pub missing : ℕ
+missing = 4294967295
+
+-- a corner is three numbers: position, texture, normal
+abbrev pub Corner : Type 0
+Corner = List ℕ
+
+abbrev pub position : Corner → ℕ
+position c = getD c 0 0
+
+abbrev pub texture : Corner → ℕ
+texture c = getD c 1 0
+
+abbrev pub normal : Corner → ℕ
+normal c = getD c 2 0
+
+-- a ring is the corners of one face, in their order
+abbrev pub Ring : Type 0
+Ring = List Corner
+
+-- the corners of a flat list, three numbers each
+abbrev pub threes : List ℕ → Ring
+threes [] = []
+threes (p ∷ []) = []
+threes (p ∷ t ∷ []) = []
+threes (p ∷ t ∷ n ∷ cs) = (p ∷ t ∷ n ∷ []) ∷ threes cs
+
+-- the faces of a flat list of corners: each takes as many corners as its size says
+abbrev pub rings : List ℕ → List ℕ → List Ring
+rings [] cs = []
+rings (n ∷ s) cs = threes (take (3 * n) cs) ∷ rings s (drop (3 * n) cs)
+
+-- the faces of a mesh; face k is the one at place k
+unfoldable pub faces : Mesh → List Ring
+faces m = rings (m .sizes) (m .corners)
+
+-- how many positions, texture points and normals there are
+abbrev pub positionCount : Mesh → ℕ
+positionCount m = length (m .positions) / 3
+
+abbrev pub textureCount : Mesh → ℕ
+textureCount m = length (m .textures) / 2
+
+abbrev pub normalCount : Mesh → ℕ
+normalCount m = length (m .normals) / 3

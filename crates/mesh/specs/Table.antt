@@ -1,0 +1,102 @@
+-- The table of numbers returned, as document 01 has it: rows 1 to 5, which every call on a mesh looks at, the room of row 9, and
+-- what a call leaves behind by its number. Assumes nothing.
+use Prim.Native.Nat.{ℕ, zero, suc, _+_, _*_, _/_, _%_}
+use mathlib.Core.Bool.{Bool, true, false, not, _&&_, _||_}
+use mathlib.Core.List.{List, [], _∷_, map}
+use lib.ListN.{length}
+use lib.Dec.{ltb, leb, eqb}
+use Rattle.lists.specs.Lists.{some, sum}
+use Rattle.mesh.specs.Mesh.{Mesh, Corner, position, texture, normal, missing, threes, positionCount, textureCount, normalCount}
+
+-- a row of the table: its number where its rule says so, else 0
+abbrev pub when : Bool → ℕ → ℕ
+when true n = n
+when false n = 0
+
+-- calls check in ascending order of number: the first number that is given, or 0
+abbrev pub firstOf : List ℕ → ℕ
+firstOf [] = 0
+firstOf (zero ∷ ns) = firstOf ns
+firstOf (suc n ∷ ns) = suc n
+
+-- 1: a list holds more numbers than limit times width, or there are over 1,365 face sizes
+unfoldable pub overLimits : Mesh → Bool
+overLimits m =
+    ltb (2048 * 3) (length (m .positions))
+    || ltb (2048 * 2) (length (m .textures))
+    || ltb (2048 * 3) (length (m .normals))
+    || ltb (4096 * 3) (length (m .corners))
+    || ltb 1365 (length (m .sizes))
+
+-- 2: a list's length is no multiple of its width, or the sizes don't add up to the corners
+unfoldable pub uneven : Mesh → Bool
+uneven m =
+    not (eqb (length (m .positions) % 3) 0)
+    || not (eqb (length (m .textures) % 2) 0)
+    || not (eqb (length (m .normals) % 3) 0)
+    || not (eqb (length (m .corners) % 3) 0)
+    || not (eqb (3 * sum (m .sizes)) (length (m .corners)))
+
+-- 3: a face size lies outside 3 to 32
+abbrev pub outside : ℕ → Bool
+outside n = ltb n 3 || ltb 32 n
+
+unfoldable pub misfit : Mesh → Bool
+misfit m = some outside (m .sizes)
+
+-- triangles first, then quadrangles, then larger faces
+abbrev pub kindBy : Bool → Bool → ℕ
+kindBy true quadrangle = 0
+kindBy false true = 1
+kindBy false false = 2
+
+abbrev pub kind : ℕ → ℕ
+kind n = kindBy (leb n 3) (leb n 4)
+
+-- whether some number is followed by a smaller one
+abbrev pub falls : List ℕ → Bool
+falls [] = false
+falls (a ∷ []) = false
+falls (a ∷ b ∷ l) = ltb b a || falls (b ∷ l)
+
+-- 4: sizes aren't grouped as above
+unfoldable pub ungrouped : Mesh → Bool
+ungrouped m = falls (map kind (m .sizes))
+
+-- 5: a position index, or a texture or normal index that isn't missing, is not below its list's count
+abbrev pub beyond : ℕ → ℕ → Bool
+beyond count i = leb count i
+
+abbrev pub beyondOrMissing : ℕ → ℕ → Bool
+beyondOrMissing count i = not (eqb i missing) && leb count i
+
+abbrev pub astrayAt : Mesh → Corner → Bool
+astrayAt m c = beyond (positionCount m) (position c) || beyondOrMissing (textureCount m) (texture c) || beyondOrMissing (normalCount m) (normal c)
+
+unfoldable pub astray : Mesh → Bool
+astray m = some (astrayAt m) (threes (m .corners))
+
+-- rows 1 to 4, and all five
+unfoldable pub shapeNumber : Mesh → ℕ
+shapeNumber m = firstOf (when (overLimits m) 1 ∷ when (uneven m) 2 ∷ when (misfit m) 3 ∷ when (ungrouped m) 4 ∷ [])
+
+unfoldable pub meshNumber : Mesh → ℕ
+meshNumber m = firstOf (shapeNumber m ∷ when (astray m) 5 ∷ [])
+
+-- 9: a lent result list is shorter than its stated room
+pub record Lent : Type 0 where
+  pub room : ℕ
+  pub stated : ℕ
+
+abbrev pub lent : ℕ → ℕ → Lent
+lent room stated = record { room = room; stated = stated }
+
+unfoldable pub short : List Lent → Bool
+short ls = some (λ (l : Lent). ltb (l .room) (l .stated)) ls
+
+-- every number but 0 comes with no writing to any list, and each count answered beside it is 0: what there is after a call
+-- that answered a number is the new where that is 0, and the old where it is not
+module _ {A : Type 0} where
+  abbrev pub after : ℕ → A → A → A
+  after zero new old = new
+  after (suc n) new old = old

@@ -1,0 +1,1 @@
+// Panels: the faces that hang together. The definitions stand in specs/.

@@ -1,0 +1,2 @@
+pub mod Ported
+pub mod House

@@ -1,0 +1,1 @@
+// Wires along the hem edges. The definitions stand in specs/.
