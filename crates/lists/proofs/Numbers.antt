@@ -74,9 +74,9 @@ seek-found p (suc c) k h =
     by-cases (p k)
     (λ e. rw (seek-here p c k e) e)
     (λ e.
-      let z : seek p (suc c) k ≡ seek p c (suc k) = seek-on p c k e in
-      let l : seek p (suc c) k < k + suc c = h in
-      rw z (seek-found p c (suc k) (omega arith)))
+    let z : seek p (suc c) k ≡ seek p c (suc k) = seek-on p c k e in
+    let l : seek p (suc c) k < k + suc c = h in
+    rw z (seek-found p c (suc k) (omega arith)))
 
 pub seek-before : (p : ℕ → Bool) (c k j : ℕ) → k ≤ j → j < seek p c k → p j ≡ false
 seek-before p zero k j a b = absurd (let z : seek p zero k ≡ k = seek-none p k in let l : j < seek p zero k = b in omega arith)
@@ -84,6 +84,6 @@ seek-before p (suc c) k j a b =
     by-cases (p k)
     (λ e. absurd (let z : seek p (suc c) k ≡ k = seek-here p c k e in let l : j < seek p (suc c) k = b in omega arith))
     (λ e.
-      let z : seek p (suc c) k ≡ seek p c (suc k) = seek-on p c k e in
-      let l : j < seek p (suc c) k = b in
-      ⊎-elim (λ q. ap p (sym q) ∙ e) (λ m. seek-before p c (suc k) j m (omega arith)) (eq-or-lt-of-le a))
+    let z : seek p (suc c) k ≡ seek p c (suc k) = seek-on p c k e in
+    let l : j < seek p (suc c) k = b in
+    ⊎-elim (λ q. ap p (sym q) ∙ e) (λ m. seek-before p c (suc k) j m (omega arith)) (eq-or-lt-of-le a))
