@@ -1,4 +1,6 @@
 pub mod Bools
+pub mod Cases
+pub mod Counting
 pub mod Numbers
 pub mod Parts
 pub mod Writing
