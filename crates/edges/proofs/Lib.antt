@@ -1,0 +1,3 @@
+pub mod SameEdge
+pub mod Ascending
+pub mod HemUses
