@@ -6,39 +6,40 @@ use mathlib.Core.List.{List, [], _∷_, map, map-id}
 use Prim.Native.Nat.{suc}
 use Rattle.lists.specs.Lists.{keepIf, only, some, bump}
 use Rattle.lists.proofs.Bools.{by-cases}
-use Rattle.lists.proofs.Cases.{clash, or-either, or-swap}
-use Rattle.lists.proofs.Counting.{Alike, some-alike}
+use Rattle.lists.proofs.Cases.{or-swap}
+use Rattle.lists.proofs.Counting.{clash, or-either}
+use Rattle.lists.proofs.Alike.{Alike, some-alike}
 use Rattle.edges.specs.Edges.{Edge, same, key, runs, before, insert, keys}
-use Rattle.edges.proofs.Comparing.{same-true, same-refl, Lt, before-true, before-false, lt-asym, lt-trans}
+use Rattle.edges.proofs.SameEdge.{same-true, same-refl, Before, before-true, before-false, before-asym, before-trans}
 
 -- x is before each edge of the list; each edge of the list is before those behind it
 abbrev pub Above : Edge → List Edge → Type 0
 Above x [] = Unit {0}
-Above x (y ∷ l) = Lt x y × Above x l
+Above x (y ∷ l) = Before x y × Above x l
 
 abbrev pub Asc : List Edge → Type 0
 Asc [] = Unit {0}
 Asc (x ∷ l) = Above x l × Asc l
 
-pub above-above : (x y : Edge) (l : List Edge) → Lt x y → Above y l → Above x l
+pub above-above : (x y : Edge) (l : List Edge) → Before x y → Above y l → Above x l
 above-above x y [] h a = tt
-above-above x y (z ∷ l) h a = (lt-trans x y z h (a .0), above-above x y l h (a .1))
+above-above x y (z ∷ l) h a = (before-trans x y z h (a .0), above-above x y l h (a .1))
 
 -- ---- known by its members, where what g makes of the edges ascends
 
 module _ (g : Edge → Edge) where
-  above-member : (x y : Edge) (l : List Edge) → Above (g x) (map g l) → some (same y) l ≡ true → Lt (g x) (g y)
+  above-member : (x y : Edge) (l : List Edge) → Above (g x) (map g l) → some (same y) l ≡ true → Before (g x) (g y)
   above-member x y [] a h = clash h refl
   above-member x y (z ∷ l) a h =
       ⊎-elim
-      (λ p. subst (λ w. Lt (g x) (g w)) (sym (same-true y z p)) (a .0))
+      (λ p. subst (λ w. Before (g x) (g w)) (sym (same-true y z p)) (a .0))
       (λ p. above-member x y l (a .1) p)
       (or-either _ _ h)
 
   -- x is not among the edges that it is before
   pub above-not : (x : Edge) (l : List Edge) → Above (g x) (map g l) → some (same x) l ≡ false
   above-not x l a =
-      by-cases (some (same x) l) (λ p. let k : Lt (g x) (g x) = above-member x x l a p in absurd (lt-asym (g x) (g x) k k)) (λ p. p)
+      by-cases (some (same x) l) (λ p. let k : Before (g x) (g x) = above-member x x l a p in absurd (before-asym (g x) (g x) k k)) (λ p. p)
 
   pub unique : (s t : List Edge) → Asc (map g s) → Asc (map g t) → ((x : Edge) → some (same x) s ≡ some (same x) t) → s ≡ t
   unique [] [] a b h = refl
@@ -59,7 +60,7 @@ module _ (g : Edge → Edge) where
           (λ p.
           ⊎-elim
           (λ q. sym (same-true y x q))
-          (λ q. absurd (lt-asym (g x) (g y) (above-member x y s (a .0) q) (above-member y x t (b .0) p)))
+          (λ q. absurd (before-asym (g x) (g y) (above-member x y s (a .0) q) (above-member y x t (b .0) p)))
           (or-either _ _ in-s))
           (or-either _ _ in-t)
 
@@ -117,7 +118,7 @@ insert-member x k (y ∷ l) = go (before k y) (same k y) refl (insert-member x k
     go false true e m = rw (same-true k y e) (sym (or-self-left (same x y) (some (same x) l)))
     go false false e m = rw m (or-swap (same x y) (same x k) (some (same x) l))
 
-insert-above : (x k : Edge) (l : List Edge) → Lt x k → Above x l → Above x (insert k l)
+insert-above : (x k : Edge) (l : List Edge) → Before x k → Above x l → Above x (insert k l)
 insert-above x k [] h a = (h, tt)
 insert-above x k (y ∷ l) h a = go (before k y) (same k y) (insert-above x k l h (a .1))
   where
@@ -135,7 +136,7 @@ insert-asc k (y ∷ l) a = go (before k y) (same k y) refl refl (insert-asc k l 
         → same k y ≡ c
         → Asc (insert k l)
         → Asc (cond b (k ∷ y ∷ l) (cond c (y ∷ l) (y ∷ insert k l)))
-    go true c e f r = let h : Lt k y = before-true k y e in ((h, above-above k y l h (a .0)), a)
+    go true c e f r = let h : Before k y = before-true k y e in ((h, above-above k y l h (a .0)), a)
     go false true e f r = a
     go false false e f r = (insert-above y k l (before-false k y e f) (a .0), r)
 

@@ -1,6 +1,6 @@
-pub mod Comparing
+pub mod SameEdge
 pub mod Ascending
-pub mod Using
-pub mod Hemming
+pub mod HemUses
+pub mod OnlyHems
 pub mod Reordered
 pub mod Rings

@@ -1,16 +1,25 @@
 -- The verdict and the hem edges rest on counts alone: the same edges, each as often, in any order give the same. The direction
 -- of the last use is the one thing that rests on the order, and not where an edge is used once. Assumes nothing.
-use mathlib.Core.Path.{_≡_, sym, ap, _∙_, fun-ext}
-use mathlib.Core.Bool.{Bool, false}
+use mathlib.Core.Path.{_≡_, refl, sym, ap, _∙_, fun-ext}
+use mathlib.Core.Bool.{Bool, true, false}
 use mathlib.Core.List.{List, map}
-use Prim.Native.Nat.{ℕ}
+use Prim.Native.Nat.{ℕ, zero, suc, _<_}
+use native.Mathlib.Omega.{arith}
 use lib.Dec.{leb, eqb}
 use Rattle.lists.specs.Lists.{only, some}
-use Rattle.lists.proofs.Counting.{map-only, Alike, some-alike}
+use Rattle.lists.proofs.Counting.{clash, pos, some-count}
+use Rattle.lists.proofs.Alike.{Alike, some-alike, map-only}
 use Rattle.edges.specs.Edges.{Edge, same, key, uses, runs, thrice, once, verdict, keys, odd, lastOr, hemKeys, hems}
 use Rattle.edges.proofs.Ascending.{keys-alike}
-use Rattle.edges.proofs.Using.{below-three, odd-once, last-once, UsedOnce, used-once}
-use Rattle.edges.proofs.Hemming.{hems-keys}
+use Rattle.edges.proofs.SameEdge.{found}
+use Rattle.edges.proofs.HemUses.{below-three, last-once, hems-keys}
+
+-- of the numbers below three only one is odd
+odd-once : (n : ℕ) → n < 3 → odd n ≡ true → n ≡ 1
+odd-once zero l o = clash o refl
+odd-once (suc zero) l o = refl
+odd-once (suc (suc zero)) l o = clash o refl
+odd-once (suc (suc (suc n))) l o = absurd (omega arith)
 
 module _ {es fs : List Edge} (h : Alike es fs) where
   -- a test of a count passes at some edge of the one list where it does at some edge of the other
@@ -43,9 +52,10 @@ module _ {es fs : List Edge} (h : Alike es fs) where
   -- an edge that is used once keeps its direction
   pub last-alike : (k : Edge) → uses k es ≡ 1 → lastOr k k es ≡ lastOr k k fs
   last-alike k u =
-      let r : UsedOnce k es = used-once k es u in
-      r .last
-      ∙ sym (last-once k k (r .edge) fs (sym (uses-alike k) ∙ u) (r .uses-it) (sym (some-alike (same (r .edge)) h) ∙ r .among))
+      let r : (e : Edge) × (same k (key e) ≡ true) × (some (same e) es ≡ true) =
+      found (λ e. same k (key e)) es (some-count (λ e. same k (key e)) es ∙ ap pos u) in
+      last-once k k (r .0) es u (r .1) (r .2)
+      ∙ sym (last-once k k (r .0) fs (sym (uses-alike k) ∙ u) (r .1) (sym (some-alike (same (r .0)) h) ∙ r .2))
 
   -- not Irregular: the same hem edges, with their directions
   pub hems-alike : thrice es ≡ false → hems es ≡ hems fs

@@ -1,16 +1,10 @@
--- The edges of rings: a ring begun elsewhere has the same edges, and a ring comes into each position as often as it goes out.
--- Assumes nothing.
-use mathlib.Core.Path.{_≡_, refl, ap, _∙_, sym}
+-- The edges of a ring: begun elsewhere it has the same, each as often. Assumes nothing.
+use mathlib.Core.Path.{_≡_, refl, ap, _∙_}
 use mathlib.Core.Bool.{Bool}
 use mathlib.Core.List.{List, [], _∷_, _++_, append-assoc, append-nil}
-use Prim.Native.Nat.{ℕ, _+_}
-use native.Mathlib.Omega.{arith}
-use lib.Dec.{eqb}
-use Rattle.lists.specs.Lists.{bump, count}
+use Rattle.lists.specs.Lists.{count}
 use Rattle.lists.proofs.Counting.{bump-plus, count-append}
-use Rattle.edges.specs.Edges.{runEdges, ringEdges, meshEdges, Edge}
-
--- ---- begun elsewhere
+use Rattle.edges.specs.Edges.{runEdges, ringEdges}
 
 module _ {A : Type 0} where
   pub run-snoc : (a : A) (r : List A) (c z : A) → runEdges a (r ++ (c ∷ [])) z ≡ runEdges a r c ++ ((c, z) ∷ [])
@@ -31,33 +25,3 @@ module _ {A : Type 0} where
       ∙ ap (λ l. count p (ringEdges l)) (append-assoc a b (x ∷ []))
       ∙ ring-turn p a (b ++ (x ∷ []))
       ∙ ap (λ l. count p (ringEdges l)) (append-assoc b (x ∷ []) a)
-
--- ---- in as often as out
-
--- how many edges start at v; how many end there; one where v is a
-abbrev pub outs : ℕ → List Edge → ℕ
-outs v es = count (λ e. eqb v (e .0)) es
-
-abbrev pub ins : ℕ → List Edge → ℕ
-ins v es = count (λ e. eqb v (e .1)) es
-
-abbrev pub at : ℕ → ℕ → ℕ
-at v a = bump (eqb v a) 0
-
-run-balance : (v a : ℕ) (r : List ℕ) (z : ℕ) → outs v (runEdges a r z) + at v z ≡ ins v (runEdges a r z) + at v a
-run-balance v a [] z = omega arith
-run-balance v a (b ∷ r) z =
-    let m : _ = run-balance v b r z in
-    let x : _ = bump-plus (eqb v a) (outs v (runEdges b r z)) in
-    let y : _ = bump-plus (eqb v b) (ins v (runEdges b r z)) in
-    omega arith
-
-ring-balance : (v : ℕ) (f : List ℕ) → outs v (ringEdges f) ≡ ins v (ringEdges f)
-ring-balance v [] = refl
-ring-balance v (a ∷ r) = let h : _ = run-balance v a r a in omega arith
-
-pub mesh-balance : (v : ℕ) (fs : List (List ℕ)) → outs v (meshEdges fs) ≡ ins v (meshEdges fs)
-mesh-balance v [] = refl
-mesh-balance v (f ∷ fs) =
-    count-append (λ e. eqb v (e .0)) (ringEdges f) (meshEdges fs)
-    ∙ rw (ring-balance v f, mesh-balance v fs) (sym (count-append (λ e. eqb v (e .1)) (ringEdges f) (meshEdges fs)))

@@ -1,3 +1,4 @@
+pub mod Alike
 pub mod Bools
 pub mod Cases
 pub mod Counting

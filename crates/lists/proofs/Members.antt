@@ -11,9 +11,8 @@ use borrow.Author.Tests.{eqb-true, eqb-false, eq-eqb, ne-eqb}
 use Rattle.lists.specs.Lists.{keepIf, bump, count, has}
 use Rattle.lists.specs.Numbers.{countBelow}
 use Rattle.lists.proofs.Bools.{by-cases, or-left, or-right}
-use Rattle.lists.proofs.Cases.{clash, or-either}
 use Rattle.lists.proofs.Parts.{some-append}
-use Rattle.lists.proofs.Counting.{positive, some-count, bump-plus, count-append, count-le-length, some-above, none-zero}
+use Rattle.lists.proofs.Counting.{clash, or-either, bump-plus, pos, count-append, count-length, some-count, count-some, count-none}
 
 -- ---- x stands in l
 
@@ -69,11 +68,11 @@ once-append s t a b h x =
     let b′ : count (eqb x) t ≤ 1 = b x in
     by-cases
     (has x t)
-    (λ p. let z : count (eqb x) s ≡ 0 = none-zero (eqb x) s (h x p) in omega arith)
-    (λ p. let z : count (eqb x) t ≡ 0 = none-zero (eqb x) t p in omega arith)
+    (λ p. let z : count (eqb x) s ≡ 0 = count-none (eqb x) s (h x p) in omega arith)
+    (λ p. let z : count (eqb x) t ≡ 0 = count-none (eqb x) t p in omega arith)
 
 pub once-one : (y : ℕ) → Once (y ∷ [])
-once-one y x = count-le-length (eqb x) (y ∷ [])
+once-one y x = count-length (eqb x) (y ∷ [])
 
 -- a number that is not there comes in
 pub once-snoc : (l : List ℕ) (y : ℕ) → Once l → has y l ≡ false → Once (l ++ (y ∷ []))
@@ -81,7 +80,7 @@ once-snoc l y o n = once-append l (y ∷ []) o (once-one y) (λ x p. subst (λ z
 
 -- in a list where each number stands at most once, one that is there stands once
 pub once-in : (l : List ℕ) → Once l → (x : ℕ) → In x l → count (eqb x) l ≡ 1
-once-in l o x p = let a : count (eqb x) l ≤ 1 = o x in let b : 0 < count (eqb x) l = some-above (eqb x) l p in omega arith
+once-in l o x p = let a : count (eqb x) l ≤ 1 = o x in let b : 0 < count (eqb x) l = count-some (eqb x) l p in omega arith
 
 -- ---- how many numbers below m do not stand in l
 
@@ -135,7 +134,7 @@ once-free m (y ∷ l) o b =
     let c : bump (eqb y y) (count (eqb y) l) ≤ 1 = o y in
     let s : suc (count (eqb y) l) ≤ 1 = rw (eq-eqb y y refl) at c in
     let z : count (eqb y) l ≡ 0 = omega arith in
-    let n : has y l ≡ false = some-count (eqb y) l ∙ ap positive z in
+    let n : has y l ≡ false = some-count (eqb y) l ∙ ap pos z in
     let f : free m l ≡ suc (free m (y ∷ l)) = free-cons m y l (b y (in-head y l)) n in
     let e : length l + free m l ≡ m = once-free m l rest (λ x h. b x (in-tail x y l h)) in
     omega arith

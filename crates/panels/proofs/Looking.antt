@@ -9,7 +9,8 @@ use native.Mathlib.Omega.{arith}
 use lib.Dec.{eqb}
 use lib.ListN.{length}
 use Rattle.lists.specs.Lists.{has, keepIf}
-use Rattle.lists.proofs.Cases.{clash, or-either, or-parts, or-swap}
+use Rattle.lists.proofs.Cases.{or-parts, or-swap}
+use Rattle.lists.proofs.Counting.{clash, or-either}
 use Rattle.lists.proofs.Members.{In, in-cases, in-head, in-tail, in-left, in-one, in-snoc, in-last, has-keep, Once, once-one, once-snoc, free, free-none, free-snoc}
 use Rattle.panels.specs.Panels.{Join, neighbours, look, search′}
 use Rattle.panels.proofs.Chains.{Reach, here, step, reach-trans, reach-one}

@@ -11,7 +11,8 @@ use lib.ListN.{length, length-append}
 use borrow.Author.Tests.{eqb-true, eqb-false}
 use Rattle.lists.specs.Lists.{has, joined}
 use Rattle.lists.proofs.Bools.{by-cases, and-both, or-left, or-right}
-use Rattle.lists.proofs.Cases.{clash, or-either, and-parts}
+use Rattle.lists.proofs.Cases.{and-parts}
+use Rattle.lists.proofs.Counting.{clash, or-either}
 use Rattle.lists.proofs.Parts.{joined-append}
 use Rattle.lists.proofs.Members.{In, in-left, in-right, in-append, Once, once-append}
 use Rattle.panels.specs.Panels.{Join, search′, panelsFrom, together}

@@ -13,7 +13,8 @@ use lib.ListN.{length, getD, List·getD-eq-default}
 use borrow.Author.Tests.{eqb-true, eq-eqb, ne-eqb, ltb-true, ltb-false}
 use Rattle.lists.specs.Lists.{some}
 use Rattle.lists.proofs.Bools.{by-cases, or-left, or-right}
-use Rattle.lists.proofs.Cases.{clash, or-either, and-parts}
+use Rattle.lists.proofs.Cases.{and-parts}
+use Rattle.lists.proofs.Counting.{clash, or-either}
 use Rattle.lists.proofs.Parts.{some-append}
 use Rattle.mesh.specs.Mesh.{Ring}
 use Rattle.panels.specs.Panels.{Key, sameKey, faceKeys, Use, usesFrom, firstFace, Join, joinOf, joinsFrom, joins}
