@@ -1,4 +1,5 @@
 pub mod Bools
 pub mod Numbers
 pub mod Parts
+pub mod Only
 pub mod Writing
