@@ -5,4 +5,5 @@ pub mod Counting
 pub mod Members
 pub mod Numbers
 pub mod Parts
+pub mod Only
 pub mod Writing
