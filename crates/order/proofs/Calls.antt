@@ -62,5 +62,6 @@ module _ (m n : Mesh) (a : meshNumber m ≡ 0) (b : meshNumber n ≡ 0) (s : Sam
   one-answer d r q c e h = c ∙ h ∙ sym e
 
 -- what is left behind is one, where number, result and what was there are
-pub one-outcome : {B : Type 0} (i j : ℕ) (new new′ old old′ : B) → i ≡ j → new ≡ new′ → old ≡ old′ → after i new old ≡ after j new′ old′
+pub one-outcome :
+    {B : Type 0} (i j : ℕ) (new new′ old old′ : B) → i ≡ j → new ≡ new′ → old ≡ old′ → after i new old ≡ after j new′ old′
 one-outcome i j new new′ old old′ p q r = λ t. after (p t) (q t) (r t)

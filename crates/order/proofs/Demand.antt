@@ -62,5 +62,8 @@ demand3 m n a b s = same-faces (accepted-full m a) (accepted-full n b) s
 
 -- ported wires go by the hem edges alone: they are the same too, unless the verdict is Irregular
 pub same-ported :
-    {m n : List Ring} → Demand3 m n → (verdict (edgesOf m) ≡ Irregular → ⊥) → portedWires (hems (edgesOf m)) ≡ portedWires (hems (edgesOf n))
+    {m n : List Ring}
+    → Demand3 m n
+    → (verdict (edgesOf m) ≡ Irregular → ⊥)
+    → portedWires (hems (edgesOf m)) ≡ portedWires (hems (edgesOf n))
 same-ported d v = ap portedWires (d .same-directions v)

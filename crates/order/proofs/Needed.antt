@@ -45,7 +45,8 @@ hem-of-the-other = (refl, refl)
 
 -- so it is not true that directions are kept whatever the verdict
 pub directions-not-kept :
-    ((m n : Mesh) → meshNumber m ≡ 0 → meshNumber n ≡ 0 → Same (faces m) (faces n) → hems (edgesOf (faces m)) ≡ hems (edgesOf (faces n))) → ⊥
+    ((m n : Mesh) → meshNumber m ≡ 0 → meshNumber n ≡ 0 → Same (faces m) (faces n)
+    → hems (edgesOf (faces m)) ≡ hems (edgesOf (faces n))) → ⊥
 directions-not-kept kept =
     let e : hems (edgesOf (faces thriceUsed)) ≡ hems (edgesOf (faces exchanged)) =
     kept thriceUsed exchanged (both-accepted .0) (both-accepted .1) exchanged-same in

@@ -45,6 +45,8 @@ end-least d (x ∷ h) m =
     this : d ≡ x → AtMost (leastEnd (d .0) (x ∷ h)) (d .1)
     this e = rw (e, eq-eqb (x .0) (x .0) refl) (lesser-here (x .1) (leastEnd (x .0) h))
 
-    later : (b : Bool) → AtMost (leastEnd (d .0) h) (d .1) → AtMost (cond b (lesser (x .1) (leastEnd (d .0) h)) (leastEnd (d .0) h)) (d .1)
+    later :
+        (b : Bool) → AtMost (leastEnd (d .0) h) (d .1)
+        → AtMost (cond b (lesser (x .1) (leastEnd (d .0) h)) (leastEnd (d .0) h)) (d .1)
     later true r = lesser-there (x .1) (d .1) (leastEnd (d .0) h) r
     later false r = r
