@@ -1,4 +1,5 @@
 pub mod Bools
+pub mod Buckets
 pub mod Numbers
 pub mod Parts
 pub mod Writing
