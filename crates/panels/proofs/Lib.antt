@@ -3,3 +3,4 @@ pub mod Looking
 pub mod Parting
 pub mod Sharing
 pub mod Panelled
+pub mod Using

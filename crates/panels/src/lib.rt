@@ -1,1 +1,2 @@
 // Panels: the faces that hang together. The definitions stand in specs/.
+mod keys;
