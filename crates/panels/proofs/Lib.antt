@@ -4,3 +4,5 @@ pub mod Parting
 pub mod Sharing
 pub mod Panelled
 pub mod Using
+pub mod Sorted
+pub mod Marking
