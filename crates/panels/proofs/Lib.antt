@@ -6,3 +6,4 @@ pub mod Panelled
 pub mod Using
 pub mod Sorted
 pub mod Marking
+pub mod Recording

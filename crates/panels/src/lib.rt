@@ -5,6 +5,7 @@ ghost use lib.ListN.{length};
 ghost use Rattle.lists.specs.Lists.{span};
 
 mod firsts;
+mod joins;
 mod keys;
 
 fn wide(x: u32) -> usize
