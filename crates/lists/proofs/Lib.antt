@@ -1,5 +1,6 @@
 pub mod Alike
 pub mod Bools
+pub mod Buckets
 pub mod Cases
 pub mod Counting
 pub mod Members
