@@ -1,2 +1,9 @@
 pub mod Balance
 pub mod Closing
+pub mod Entries
+pub mod Tables
+pub mod Steps
+pub mod Following
+pub mod AllWires
+pub mod Twins
+pub mod Linking

@@ -1,2 +1,3 @@
 pub mod Ported
 pub mod House
+pub mod Tracing
