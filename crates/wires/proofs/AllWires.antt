@@ -18,16 +18,16 @@ use Rattle.lists.proofs.Bools.{by-cases}
 use Rattle.lists.proofs.Parts.{joined-append}
 use Rattle.lists.proofs.Writing.{sets-append, sets-snoc}
 use Rattle.edges.specs.Edges.{Edge}
+use Rattle.wires.specs.Hems.{Written, outs, pairs}
 use Rattle.wires.specs.House.{leastStart, Walk}
 use Rattle.wires.specs.Ported.{entry}
-use Rattle.wires.specs.Tracing.{pairs, leftFrom, left, Stands, trace, traces, Begun, Ended, Written, Unwritten, OneMore, Room, AllLeft}
-use Rattle.wires.proofs.Balance.{outs}
+use Rattle.wires.specs.Tracing.{leftFrom, left, Stands, trace, traces, Begun, Ended, Unwritten, OneMore, Room, AllLeft}
 use Rattle.wires.proofs.Entries.{entry-none, entry-outs, trace-kept, trace-outs, start-traced, traces-step, traces-end}
 use Rattle.wires.proofs.Tables.{length-pairs, none-left, entry-left, least-left, left-none}
 
 -- ---- what is left is no more than there was, so that a wire's length is a small number
 
-left-few : (firsts : List ℕ) (i : ℕ) (h : List Edge) → length (leftFrom firsts i h) ≤ length h
+pub left-few : (firsts : List ℕ) (i : ℕ) (h : List Edge) → length (leftFrom firsts i h) ≤ length h
 left-few firsts i [] = omega arith
 left-few firsts i (e ∷ h) = go (leb (getD firsts (e .0) 0) i) (left-few firsts (suc i) h)
   where
@@ -39,13 +39,13 @@ pub left-length : {starts ends nexts firsts : List ℕ} → Stands starts ends n
 unfolding left
 left-length {starts} {ends} {nexts} {firsts} s =
     let a : length (leftFrom firsts 0 (pairs starts ends)) ≤ length (pairs starts ends) = left-few firsts 0 (pairs starts ends) in
-    let b : length (pairs starts ends) ≡ length starts = length-pairs starts ends (s .hemmed .paired) in
+    let b : length (pairs starts ends) ≡ length starts = length-pairs starts ends (s .edges .paired) in
     omega arith
 
 pub wire-small : {starts ends nexts firsts : List ℕ} → Stands starts ends nexts firsts → (f c : ℕ) → length (trace f c (left starts ends firsts) .0) ≤ 4097
 wire-small {starts} {ends} {nexts} {firsts} s f c =
     let a : length (left starts ends firsts) ≤ length starts = left-length s in
-    let b : length starts ≤ 4096 = s .hemmed .few in
+    let b : length starts ≤ 4096 = s .edges .few in
     omega (arith, trace-kept f c (left starts ends firsts) .long)
 
 -- ---- one wire more behind those that are written
@@ -124,7 +124,7 @@ module _ {starts ends nexts firsts₀ flat₀ lengths₀ firsts flat lengths : L
   -- an edge at p: a wire begins there
   module _ (h : getD firsts p 0 < length starts) where
     least : leastStart (left starts ends firsts) ≡ some p
-    least = least-left starts ends nexts firsts (t .stands .hemmed) (t .stands .linked) p inside (t .passed) h
+    least = least-left starts ends nexts firsts (t .stands .edges) (t .stands .linked) p inside (t .passed) h
 
     opened : traces (left starts ends firsts₀) ≡ t .done ++ (trace p p (left starts ends firsts) .0 ∷ traces (trace p p (left starts ends firsts) .1))
     opened = t .whole ∙ ap (λ (ws : List (List ℕ)). t .done ++ ws) (traces-step (left starts ends firsts) p least)
@@ -156,10 +156,10 @@ module _ {starts ends nexts firsts₀ flat₀ lengths₀ firsts flat lengths : L
           by-cases (ltb (getD firsts′ s 0) (length starts))
           (λ q.
           let st : Stands starts ends nexts firsts′ = r .ended .stands in
-          let a : 0 < outs s (left starts ends firsts′) = entry-outs s (left starts ends firsts′) (s, getD ends (getD firsts′ s 0) 0) (entry-left starts ends nexts firsts′ (st .hemmed) (st .linked) s (omega arith) (ltb-true (getD firsts′ s 0) (length starts) q)) in
+          let a : 0 < outs s (left starts ends firsts′) = entry-outs s (left starts ends firsts′) (s, getD ends (getD firsts′ s 0) 0) (entry-left starts ends nexts firsts′ (st .edges) (st .linked) s (omega arith) (ltb-true (getD firsts′ s 0) (length starts) q)) in
           let b : outs s (left starts ends firsts′) ≡ outs s (trace p p (left starts ends firsts) .1) = ap (outs s) (r .ended .left-is) in
           let c : outs s (trace p p (left starts ends firsts) .1) ≤ outs s (left starts ends firsts) = trace-outs s p p (left starts ends firsts) in
-          let d : outs s (left starts ends firsts) ≡ 0 = entry-none s (left starts ends firsts) (none-left starts ends nexts firsts (t .stands .hemmed) (t .stands .linked) s (omega arith) (t .passed s l)) in
+          let d : outs s (left starts ends firsts) ≡ 0 = entry-none s (left starts ends firsts) (none-left starts ends nexts firsts (t .stands .edges) (t .stands .linked) s (omega arith) (t .passed s l)) in
           absurd (omega arith))
           (λ q. ltb-false (getD firsts′ s 0) (length starts) q)
 
@@ -187,6 +187,6 @@ pub gather-ends :
     → Gathering starts ends nexts firsts₀ flat₀ lengths₀ firsts flat lengths m k p → length firsts ≤ p
     → Written (traces (left starts ends firsts₀)) flat₀ lengths₀ flat lengths m k
 gather-ends {starts} {ends} {nexts} {firsts₀} {flat₀} {lengths₀} {firsts} {flat} {lengths} {m} {k} {p} t h =
-    let e : left starts ends firsts ≡ [] = left-none starts ends nexts firsts (t .stands .hemmed) (t .stands .linked) (λ s l. t .passed s (omega arith)) in
+    let e : left starts ends firsts ≡ [] = left-none starts ends nexts firsts (t .stands .edges) (t .stands .linked) (λ s l. t .passed s (omega arith)) in
     let a : traces (left starts ends firsts₀) ≡ t .done = t .whole ∙ ap (λ (ws : List (List ℕ)). t .done ++ ws) (traces-end (left starts ends firsts) e) ∙ append-nil (t .done) in
     subst (λ (ws : List (List ℕ)). Written ws flat₀ lengths₀ flat lengths m k) (sym a) (t .written)

@@ -14,10 +14,11 @@ use Rattle.lists.specs.Lists.{some as has-some}
 use Rattle.lists.proofs.Bools.{by-cases, or-left, or-right}
 use Rattle.edges.specs.Edges.{Edge, same}
 use Rattle.edges.proofs.SameEdge.{same-refl}
+use Rattle.wires.specs.Hems.{outs}
 use Rattle.wires.specs.House.{lesser, leastStart, without, Walk, longer}
 use Rattle.wires.specs.Ported.{entry, follow, tracesIn}
 use Rattle.wires.specs.Tracing.{onward, taken, trace, traceOn, traces}
-use Rattle.wires.proofs.Balance.{outs, without-count}
+use Rattle.wires.proofs.Balance.{without-count}
 use Rattle.wires.proofs.Closing.{start-none, start-some, taken-length}
 
 -- ---- what is found

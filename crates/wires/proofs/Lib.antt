@@ -7,3 +7,6 @@ pub mod Following
 pub mod AllWires
 pub mod Twins
 pub mod Linking
+pub mod Lasts
+pub mod Chains
+pub mod Rising

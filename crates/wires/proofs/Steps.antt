@@ -6,8 +6,9 @@ use Prim.Native.Nat.{ℕ, _+_, _≤_, _<_}
 use native.Mathlib.Omega.{arith}
 use lib.ListN.{length, getD, set, length-set}
 use Rattle.edges.specs.Edges.{Edge}
+use Rattle.wires.specs.Hems.{EdgeLists}
 use Rattle.wires.specs.Ported.{entry}
-use Rattle.wires.specs.Tracing.{Hemmed, left, Linked, Stands, onward, taken, Onward}
+use Rattle.wires.specs.Tracing.{left, Linked, Stands, onward, taken, Onward}
 use Rattle.wires.proofs.Tables.{none-left, entry-left, gone-left, linked-on}
 
 -- a table of the same length
@@ -15,7 +16,7 @@ pub stands-on : {starts ends nexts firsts : List ℕ} (firsts′ : List ℕ) →
 stands-on {starts} {ends} {nexts} {firsts} firsts′ s e l =
     record {
       low = rw e (s .low);
-      hemmed = subst (λ (n : ℕ). Hemmed starts ends n) (sym e) (s .hemmed);
+      edges = subst (λ (n : ℕ). EdgeLists starts ends n) (sym e) (s .edges);
       linked = l;
     }
 
@@ -23,18 +24,18 @@ module _ (starts ends nexts firsts : List ℕ) (f c : ℕ) (s : Stands starts en
   -- no entry: back to the first position
   pub back-home : length starts ≤ getD firsts c 0 → Onward starts ends nexts f c firsts firsts f
   back-home h =
-      let e : entry c (left starts ends firsts) ≡ none = none-left starts ends nexts firsts (s .hemmed) (s .linked) c inside h in
+      let e : entry c (left starts ends firsts) ≡ none = none-left starts ends nexts firsts (s .edges) (s .linked) c inside h in
       record { leads = sym (ap (onward f) e); inside = home; left-is = sym (ap (λ (o : Option Edge). taken o (left starts ends firsts)) e); stands = s }
 
   -- an entry
   goes-on : getD firsts c 0 < length starts → Onward starts ends nexts f c firsts (set firsts c (getD nexts (getD firsts c 0) 0)) (getD ends (getD firsts c 0) 0)
   goes-on h =
-      let e : entry c (left starts ends firsts) ≡ some (c, getD ends (getD firsts c 0) 0) = entry-left starts ends nexts firsts (s .hemmed) (s .linked) c inside h in
+      let e : entry c (left starts ends firsts) ≡ some (c, getD ends (getD firsts c 0) 0) = entry-left starts ends nexts firsts (s .edges) (s .linked) c inside h in
       record {
         leads = sym (ap (onward f) e);
-        inside = s .hemmed .into (getD firsts c 0) h;
-        left-is = gone-left starts ends nexts firsts (s .hemmed) (s .linked) c inside h ∙ sym (ap (λ (o : Option Edge). taken o (left starts ends firsts)) e);
-        stands = stands-on (set firsts c (getD nexts (getD firsts c 0) 0)) s (length-set firsts c (getD nexts (getD firsts c 0) 0)) (linked-on starts ends nexts firsts (s .hemmed) (s .linked) c inside h);
+        inside = s .edges .into (getD firsts c 0) h;
+        left-is = gone-left starts ends nexts firsts (s .edges) (s .linked) c inside h ∙ sym (ap (λ (o : Option Edge). taken o (left starts ends firsts)) e);
+        stands = stands-on (set firsts c (getD nexts (getD firsts c 0) 0)) s (length-set firsts c (getD nexts (getD firsts c 0) 0)) (linked-on starts ends nexts firsts (s .edges) (s .linked) c inside h);
       }
 
   -- the same by the code's names for the place and the edge

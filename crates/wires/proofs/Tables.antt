@@ -16,10 +16,10 @@ use Rattle.lists.proofs.Bools.{by-cases}
 use Rattle.lists.proofs.Counting.{bump-up}
 use Rattle.edges.specs.Edges.{Edge, same}
 use Rattle.edges.proofs.SameEdge.{same-refl}
+use Rattle.wires.specs.Hems.{EdgeLists, outs, pairs}
 use Rattle.wires.specs.House.{lesser, leastStart, without}
 use Rattle.wires.specs.Ported.{entry}
-use Rattle.wires.specs.Tracing.{pairs, Hemmed, leftFrom, left, Next, Linked}
-use Rattle.wires.proofs.Balance.{outs}
+use Rattle.wires.specs.Tracing.{leftFrom, left, Next, Linked}
 use Rattle.wires.proofs.Closing.{start-none, start-some}
 use Rattle.wires.proofs.Entries.{entry-none, entry-outs, start-le}
 
@@ -143,12 +143,12 @@ empty-from firsts i (e ∷ h) f =
 
 -- ---- the tables as the functions have them
 
-module _ (starts ends nexts firsts : List ℕ) (hemmed : Hemmed starts ends (length firsts)) (linked : Linked starts nexts firsts) where
+module _ (starts ends nexts firsts : List ℕ) (edges : EdgeLists starts ends (length firsts)) (linked : Linked starts nexts firsts) where
   count : length (pairs starts ends) ≡ length starts
-  count = length-pairs starts ends (hemmed .paired)
+  count = length-pairs starts ends (edges .paired)
 
   edge-at : (k : ℕ) → k < length starts → edgeAt (pairs starts ends) k ≡ (getD starts k 0, getD ends k 0)
-  edge-at k h = pairs-at starts ends k (hemmed .paired) h
+  edge-at k h = pairs-at starts ends k (edges .paired) h
 
   start-at : (k : ℕ) → k < length starts → edgeAt (pairs starts ends) k .0 ≡ getD starts k 0
   start-at k h = ap (λ (e : Edge). e .0) (edge-at k h)
@@ -248,5 +248,5 @@ module _ (starts ends nexts firsts : List ℕ) (hemmed : Hemmed starts ends (len
       empty-from firsts 0 (pairs starts ends) (λ j l.
       let n : length (pairs starts ends) ≡ length starts = count in
       let s : edgeAt (pairs starts ends) j .0 ≡ getD starts j 0 = start-at j (omega arith) in
-      let m : length starts ≤ getD firsts (getD starts j 0) 0 = f (getD starts j 0) (hemmed .from j (omega arith)) in
+      let m : length starts ≤ getD firsts (getD starts j 0) 0 = f (getD starts j 0) (edges .from j (omega arith)) in
       rw s (omega arith))

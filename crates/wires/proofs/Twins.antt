@@ -12,9 +12,9 @@ use Rattle.lists.specs.Lists.{bump, keepIf, only}
 use Rattle.lists.proofs.Bools.{by-cases}
 use Rattle.edges.specs.Edges.{Edge, same}
 use Rattle.edges.proofs.SameEdge.{same-true}
+use Rattle.wires.specs.Hems.{outs}
 use Rattle.wires.specs.House.{leastStart, without, Walk, longer}
 use Rattle.wires.specs.Ported.{entry, follow, tracesIn}
-use Rattle.wires.proofs.Balance.{outs}
 use Rattle.wires.proofs.Closing.{start-none, start-some}
 use Rattle.wires.proofs.Entries.{start-le}
 

@@ -1,31 +1,18 @@
--- What the functions of this crate say to each other: hem edges as two lists, starts and ends, and two tables that stand for what is
--- left of them. In the tables a hem edge is its number, its place in the two lists; a number that no hem edge has says 'none'.
--- Assumes nothing.
+-- What the functions of this crate say to each other: two tables that stand for what is left of the hem edges. In the tables a hem
+-- edge is its number, its place in the two lists of starts and ends; a number that no hem edge has says 'none'. Assumes nothing.
 use mathlib.Core.Path.{_≡_}
 use mathlib.Core.Bool.{Bool, true, false, cond}
 use mathlib.Core.Option.{Option, none, some}
-use mathlib.Core.List.{List, [], _∷_, map}
+use mathlib.Core.List.{List, [], _∷_}
 use Prim.Native.Nat.{ℕ, zero, suc, _+_, _≤_, _<_}
 use lib.Dec.{leb, eqb}
 use lib.ListN.{length, getD, set}
 use lib.Seq.{sets}
 use Rattle.lists.specs.Lists.{keepIf, joined}
 use Rattle.edges.specs.Edges.{Edge}
+use Rattle.wires.specs.Hems.{pairs, EdgeLists}
 use Rattle.wires.specs.House.{without, Walk}
 use Rattle.wires.specs.Ported.{entry, follow, tracesIn}
-
--- the edges from each start to its end
-abbrev pub pairs : List ℕ → List ℕ → List Edge
-pairs [] es = []
-pairs (s ∷ ss) [] = []
-pairs (s ∷ ss) (e ∷ es) = (s, e) ∷ pairs ss es
-
--- as many starts as ends, few enough, and each of them a position below n
-pub record Hemmed (starts ends : List ℕ) (n : ℕ) : Type 0 where
-  pub paired : length starts ≡ length ends
-  pub few : length starts ≤ 4096
-  pub from : (k : ℕ) → k < length starts → getD starts k 0 < n
-  pub into : (k : ℕ) → k < length starts → getD ends k 0 < n
 
 -- The first table has for each position the number of the first edge that is left there. So what is left of edges that are numbered
 -- from k on are those whose number is not below the first at their start.
@@ -51,7 +38,7 @@ pub record Linked (starts nexts firsts : List ℕ) : Type 0 where
 -- the hem edges and their tables, over at most 2,048 positions
 pub record Stands (starts ends nexts firsts : List ℕ) : Type 0 where
   pub low : length firsts ≤ 2048
-  pub hemmed : Hemmed starts ends (length firsts)
+  pub edges : EdgeLists starts ends (length firsts)
   pub linked : Linked starts nexts firsts
 
 -- Ported wires: the edges, numbered from k on, come into the first table one after the other; a later one replaces an earlier with
@@ -126,13 +113,6 @@ pub record Ended (starts ends nexts : List ℕ) (w : Walk) (flat : List ℕ) (at
   pub left-is : left starts ends firsts′ ≡ w .1
   pub flat-is : flat′ ≡ sets flat at (w .0)
   pub end-is : r ≡ at + length (w .0)
-
--- wires as a flat list and a list of lengths, with how many numbers and how many wires there are
-pub record Written (ws : List (List ℕ)) (flat lengths flat′ lengths′ : List ℕ) (numbers wires : ℕ) : Type 0 where
-  pub flat-is : flat′ ≡ sets flat 0 (joined ws)
-  pub lengths-is : lengths′ ≡ sets lengths 0 (map length ws)
-  pub numbers-is : numbers ≡ length (joined ws)
-  pub wires-is : wires ≡ length ws
 
 -- one wire more, behind so many numbers and so many wires: its room, and what there is then
 pub record Unwritten (starts ends nexts firsts : List ℕ) (f : ℕ) (flat lengths : List ℕ) (numbers wires : ℕ) : Type 0 where

@@ -1,6 +1,7 @@
 // Wires along the hem edges. The definitions stand in specs/.
 ghost use mathlib.Core.Path.{_≡_};
-ghost use Rattle.wires.specs.Tracing.{numbered, Startable, Linkable, Chained, left, trace, traces, Underway, Onward, Begun, Ended, Unwritten, OneMore, AllLeft, Written};
+ghost use Rattle.wires.specs.Tracing.{numbered, Startable, Linkable, Chained, left, trace, traces, Underway, Onward, Begun, Ended, Unwritten, OneMore, AllLeft};
+ghost use Rattle.wires.specs.Hems.{Written};
 
 // How many numbers and how many wires are written.
 pub struct Traced {
