@@ -4,22 +4,24 @@ use mathlib.Core.Path.{_≡_, refl, sym, ap, _∙_}
 use mathlib.Core.Bool.{Bool, true, false, cond, _||_}
 use mathlib.Core.Option.{Option, none, some}
 use mathlib.Core.List.{List, [], _∷_, _++_}
-use Prim.Native.Nat.{ℕ, zero, suc, _+_, _*_, _≤_, _<_, min}
+use Prim.Native.Nat.{ℕ, zero, suc, _+_, _*_, _≤_, _<_}
 use native.Mathlib.Omega.{arith}
 use lib.Dec.{eqb}
 use lib.ListN.{length, length-append}
 use borrow.Author.Tests.{eqb-true, eqb-false, eq-eqb, ne-eqb}
 use Rattle.lists.specs.Lists.{bump, count, joined}
 use Rattle.lists.specs.Lists.{some as has-some}
-use Rattle.lists.proofs.Bools.{by-cases, or-left, or-right}
+use Rattle.lists.proofs.Bools.{or-left, or-right}
+use Rattle.lists.proofs.Counting.{some-counted}
 use Rattle.edges.specs.Edges.{Edge, same}
-use Rattle.edges.proofs.SameEdge.{same-refl}
+use Rattle.edges.proofs.SameEdge.{same-refl, found}
 use Rattle.wires.specs.Hems.{outs}
-use Rattle.wires.specs.House.{lesser, leastStart, without, Walk, longer}
+use Rattle.wires.specs.House.{leastStart, without, Walk, longer}
 use Rattle.wires.specs.Ported.{entry, follow, tracesIn}
 use Rattle.wires.specs.Tracing.{onward, taken, trace, traceOn, traces}
 use Rattle.wires.proofs.Balance.{without-count}
-use Rattle.wires.proofs.Closing.{start-none, start-some, taken-length}
+use Rattle.wires.proofs.Closing.{start-some, taken-length}
+use Rattle.wires.proofs.Smallest.{AtMost, start-least}
 
 -- ---- what is found
 
@@ -221,17 +223,16 @@ entry-outs s (x ∷ g) e q = go (eqb s (x .0)) q (entry-outs s g e)
     go true q ih = omega arith
     go false q ih = ih q
 
+some-same : (a b : ℕ) → _≡_ {A = Option ℕ} (some a) (some b) → a ≡ b
+some-same a b e = cc
+
 pub start-le : (g : List Edge) (s q : ℕ) → leastStart g ≡ some s → 0 < outs q g → s ≤ q
-start-le [] s q e l = absurd (omega arith)
-start-le (x ∷ g) s q e l = go (eqb q (x .0)) refl (leastStart g) refl e l (start-le g)
-  where
-    go :
-        (b : Bool) → eqb q (x .0) ≡ b → (o : Option ℕ) → leastStart g ≡ o → lesser (x .0) o ≡ some s → 0 < bump b (outs q g)
-        → ((m p : ℕ) → leastStart g ≡ some m → 0 < outs p g → m ≤ p) → s ≤ q
-    go true p none o e l ih = let a : x .0 ≡ s = cc in let b : q ≡ x .0 = eqb-true q (x .0) p in omega arith
-    go false p none o e l ih = absurd (let a : outs q g ≡ 0 = ap (outs q) (start-none g o) in omega arith)
-    go true p (some m) o e l ih = let a : min (x .0) m ≡ s = cc in let b : q ≡ x .0 = eqb-true q (x .0) p in omega arith
-    go false p (some m) o e l ih = let a : min (x .0) m ≡ s = cc in let b : m ≤ q = ih m q o l in omega arith
+start-le g s q e l =
+    let r : (d : Edge) × (eqb q (d .0) ≡ true) × (has-some (same d) g ≡ true) = found (λ d. eqb q (d .0)) g (some-counted (λ d. eqb q (d .0)) g l) in
+    let m : AtMost (leastStart g) (r .0 .0) = start-least (r .0) g (r .2) in
+    let a : s ≡ m .0 = some-same s (m .0) (sym e ∙ m .1) in
+    let b : q ≡ r .0 .0 = eqb-true q (r .0 .0) (r .1) in
+    omega (arith, m .2)
 
 start-entry : (g : List Edge) (s : ℕ) → leastStart g ≡ some s → (e : Edge) × (entry s g ≡ some e)
 start-entry g s q = go (entry s g) refl

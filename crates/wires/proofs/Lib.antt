@@ -1,5 +1,6 @@
 pub mod Balance
 pub mod Closing
+pub mod Smallest
 pub mod Entries
 pub mod Tables
 pub mod Steps
