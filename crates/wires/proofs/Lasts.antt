@@ -18,15 +18,11 @@ use Rattle.lists.proofs.Only.{only-append}
 use Rattle.edges.specs.Edges.{Edge}
 use Rattle.wires.specs.Hems.{EdgeLists, pairs}
 use Rattle.wires.specs.Ported.{put, fill, portedWires}
-use Rattle.wires.specs.Tracing.{leftFrom, left, Next, Linked, Stands, numbered, traces}
+use Rattle.wires.specs.Tracing.{leftFrom, left, Next, Linked, Stands, numbered, traces, nobody}
 use Rattle.wires.proofs.Entries.{traces-enough}
 use Rattle.wires.proofs.Tables.{edgeAt, length-pairs, pairs-at}
 use Rattle.wires.proofs.AllWires.{left-few}
 use Rattle.wires.proofs.Twins.{from, Twin, twin-traces}
-
--- the number that says 'none'
-abbrev pub nobody : ℕ
-nobody = 4294967295
 
 -- ---- the map: its starts ascend strictly, and an edge put in is the only one at its start
 

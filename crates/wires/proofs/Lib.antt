@@ -11,3 +11,4 @@ pub mod Linking
 pub mod Lasts
 pub mod Chains
 pub mod Rising
+pub mod BlankTables

@@ -6,11 +6,11 @@ use mathlib.Core.Option.{Option, none, some}
 use mathlib.Core.List.{List, [], _∷_}
 use Prim.Native.Nat.{ℕ, zero, suc, _+_, _≤_, _<_}
 use lib.Dec.{leb, eqb}
-use lib.ListN.{length, getD, set}
+use lib.ListN.{length, getD, set, replicate}
 use lib.Seq.{sets}
 use Rattle.lists.specs.Lists.{keepIf, joined}
 use Rattle.edges.specs.Edges.{Edge}
-use Rattle.wires.specs.Hems.{pairs, EdgeLists}
+use Rattle.wires.specs.Hems.{pairs, EdgeLists, Portable, Houseable}
 use Rattle.wires.specs.House.{without, Walk}
 use Rattle.wires.specs.Ported.{entry, follow, tracesIn}
 
@@ -132,3 +132,22 @@ pub record Room (ws : List (List ℕ)) (flat lengths : List ℕ) : Type 0 where
 pub record AllLeft (starts ends nexts firsts flat lengths : List ℕ) : Type 0 where
   pub stands : Stands starts ends nexts firsts
   pub room : Room (traces (left starts ends firsts)) flat lengths
+
+-- the tables before any edge is in them
+abbrev pub nobody : ℕ
+nobody = 4294967295
+
+unfoldable pub blank : ℕ → List ℕ
+blank n = replicate n nobody
+
+pub record Blank (nexts firsts : List ℕ) : Type 0 where
+  pub nexts-is : nexts ≡ blank 4096
+  pub firsts-is : firsts ≡ blank 2048
+
+pub record PortedIn (starts ends nexts firsts flat lengths : List ℕ) : Type 0 where
+  pub given : Portable starts ends flat lengths
+  pub tables : Blank nexts firsts
+
+pub record HouseIn (starts ends nexts firsts flat lengths : List ℕ) : Type 0 where
+  pub given : Houseable starts ends flat lengths
+  pub tables : Blank nexts firsts

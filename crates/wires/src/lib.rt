@@ -1,12 +1,67 @@
 // Wires along the hem edges. The definitions stand in specs/.
 ghost use mathlib.Core.Path.{_≡_};
-ghost use Rattle.wires.specs.Tracing.{numbered, Startable, Linkable, Chained, left, trace, traces, Underway, Onward, Begun, Ended, Unwritten, OneMore, AllLeft};
-ghost use Rattle.wires.specs.Hems.{Written};
+ghost use Rattle.wires.specs.Tracing.{numbered, Startable, Linkable, Chained, left, trace, traces, Underway, Onward, Begun, Ended, Unwritten, OneMore, AllLeft, PortedIn, HouseIn};
+ghost use Rattle.wires.specs.Hems.{pairs, Portable, Houseable, Written};
+ghost use Rattle.wires.specs.Ported.{portedWires};
+ghost use Rattle.wires.specs.House.{houseWires};
 
 // How many numbers and how many wires are written.
 pub struct Traced {
     pub flat: usize,
     pub wires: usize,
+}
+
+// No hem edge's number: there is none, or none any more.
+const NOBODY: u32 = 4294967295;
+
+// The ported wires of hem edges, into `flat` and `lengths`. Room: two numbers and one wire per hem edge.
+pub fn trace_ported(starts: &[u32], ends: &[u32], flat: &mut [u32], lengths: &mut [u32]) -> Traced
+    requires { ⌜ Portable (now starts) (now ends) (now flat) (now lengths) ⌝ }
+    ensures { λ r. ⌜ Written (portedWires (pairs (now (starts .entry)) (now (ends .entry)))) (now (flat .entry)) (now (lengths .entry)) (now (flat .exit)) (now (lengths .exit)) (r .flat) (r .wires) ⌝ }
+{
+    let mut firsts = [NOBODY; 2048];
+    let nexts = [NOBODY; 4096];
+    ported_in(starts, ends, &nexts[..], &mut firsts[..], flat, lengths)
+}
+
+// The house wires of hem edges that are balanced and ascend, into `flat` and `lengths`. Room: one number and one wire per hem edge.
+pub fn trace_house(starts: &[u32], ends: &[u32], flat: &mut [u32], lengths: &mut [u32]) -> Traced
+    requires { ⌜ Houseable (now starts) (now ends) (now flat) (now lengths) ⌝ }
+    ensures { λ r. ⌜ Written (houseWires (pairs (now (starts .entry)) (now (ends .entry)))) (now (flat .entry)) (now (lengths .entry)) (now (flat .exit)) (now (lengths .exit)) (r .flat) (r .wires) ⌝ }
+{
+    let mut firsts = [NOBODY; 2048];
+    let mut nexts = [NOBODY; 4096];
+    house_in(starts, ends, &mut nexts[..], &mut firsts[..], flat, lengths)
+}
+
+fn ported_in(
+    starts: &[u32],
+    ends: &[u32],
+    nexts: &[u32],
+    firsts: &mut [u32],
+    flat: &mut [u32],
+    lengths: &mut [u32],
+) -> Traced
+    requires { ⌜ PortedIn (now starts) (now ends) (now nexts) (now firsts) (now flat) (now lengths) ⌝ }
+    ensures { λ r. ⌜ Written (portedWires (pairs (now (starts .entry)) (now (ends .entry)))) (now (flat .entry)) (now (lengths .entry)) (now (flat .exit)) (now (lengths .exit)) (r .flat) (r .wires) ⌝ }
+{
+    keep_last(starts, firsts);
+    trace_all(starts, ends, nexts, firsts, flat, lengths)
+}
+
+fn house_in(
+    starts: &[u32],
+    ends: &[u32],
+    nexts: &mut [u32],
+    firsts: &mut [u32],
+    flat: &mut [u32],
+    lengths: &mut [u32],
+) -> Traced
+    requires { ⌜ HouseIn (now starts) (now ends) (now nexts) (now firsts) (now flat) (now lengths) ⌝ }
+    ensures { λ r. ⌜ Written (houseWires (pairs (now (starts .entry)) (now (ends .entry)))) (now (flat .entry)) (now (lengths .entry)) (now (flat .exit)) (now (lengths .exit)) (r .flat) (r .wires) ⌝ }
+{
+    link_all(starts, nexts, firsts);
+    trace_all(starts, ends, nexts, firsts, flat, lengths)
 }
 
 fn wide(x: u32) -> usize
