@@ -1,4 +1,6 @@
 pub mod Bools
 pub mod Numbers
 pub mod Parts
+pub mod Rows
+pub mod Seeking
 pub mod Writing
