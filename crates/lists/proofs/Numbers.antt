@@ -1,13 +1,13 @@
 -- Laws of `below`, `countBelow` and `seek`. Assumes nothing.
 use mathlib.Core.Path.{_≡_, refl, sym, ap, _∙_}
-use mathlib.Core.Bool.{Bool, true, false, _&&_}
+use mathlib.Core.Bool.{Bool, true, false}
 use mathlib.Core.Logic.{⊎-elim}
 use Prim.Native.Nat.{ℕ, zero, suc, _+_, _≤_, _<_}
 use native.Mathlib.Nat.{le-of-suc-le-suc, eq-or-lt-of-le, not-suc-le-zero}
 use native.Mathlib.Numerals.{add-one}
 use native.Mathlib.Omega.{arith}
 use Rattle.lists.specs.Lists.{bump}
-use Rattle.lists.specs.Numbers.{below, countBelow, seek, stopAt}
+use Rattle.lists.specs.Numbers.{below, countBelow, seek}
 use Rattle.lists.proofs.Bools.{and-both, and-left, and-right, and-false-left, and-false-right, by-cases}
 
 -- a test that holds below i and at i holds below i + 1

@@ -2,14 +2,13 @@
 use mathlib.Core.Path.{_≡_, refl, sym, ap, _∙_}
 use mathlib.Core.Bool.{Bool, true, false, _&&_, _||_, or-assoc, and-assoc}
 use mathlib.Core.List.{List, [], _∷_, _++_, append-assoc, map}
-use mathlib.Core.Logic.{_⊎_}
-use Prim.Native.Nat.{ℕ, zero, suc, _+_, _*_, _≤_, _<_}
+use Prim.Native.Nat.{ℕ, zero, suc, _+_, _≤_, _<_}
 use native.Mathlib.Nat.{le-of-suc-le-suc, not-suc-le-zero}
 use native.Mathlib.Numerals.{add-one}
 use native.Mathlib.Omega.{arith}
 use lib.ListN.{length, getD, take, drop, length-append}
-use lib.Seq.{take-suc, drop-cons, take-length, drop-length}
-use Rattle.lists.specs.Lists.{some, every, only, keepIf, joined, each, sum}
+use lib.Seq.{take-suc, drop-cons, drop-length}
+use Rattle.lists.specs.Lists.{some, every, joined, each, sum}
 use Rattle.lists.proofs.Bools.{and-left, and-right, or-false-left, or-false-right, or-left, or-right}
 
 -- ---- sums

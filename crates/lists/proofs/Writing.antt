@@ -1,12 +1,12 @@
 -- Growing a slice: what was written from a place on, and one thing more after it. Assumes nothing.
-use mathlib.Core.Path.{_≡_, refl, sym, ap, _∙_}
+use mathlib.Core.Path.{_≡_, refl, ap, _∙_}
 use mathlib.Core.List.{List, [], _∷_, _++_}
-use Prim.Native.Nat.{ℕ, zero, suc, _+_, _≤_, _<_}
+use Prim.Native.Nat.{ℕ, suc, _+_, _≤_, _<_}
 use native.Mathlib.Nat.{add-zero, add-suc, suc-add, zero-add}
 use native.Mathlib.Numerals.{add-one}
 use native.Mathlib.Omega.{arith}
-use lib.ListN.{length, getD, take, drop, set, length-append, length-set}
-use lib.Seq.{sets, length-sets, take-suc, length-take-le, take-length, sets-eq}
+use lib.ListN.{length, getD, take, drop, set, length-set}
+use lib.Seq.{sets, take-suc, length-take-le, take-length, sets-eq}
 
 module _ {A : Type 0} where
   -- first a, then b behind it

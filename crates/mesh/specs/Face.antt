@@ -1,5 +1,5 @@
 -- The corners of face k, as a part of the flat list of corners. Assumes nothing.
-use Prim.Native.Nat.{ℕ, zero, suc, _+_, _*_, _≤_}
+use Prim.Native.Nat.{ℕ, zero, suc, _+_, _*_, _≤_, _<_}
 use mathlib.Core.Path.{_≡_}
 use mathlib.Core.Bool.{Bool, true, false, _&&_}
 use mathlib.Core.List.{List, []}
@@ -30,3 +30,9 @@ pub record Sound (cs s : List ℕ) : Type 0 where
   pub few : length s ≤ 1365
   pub fits : length cs ≤ 12288
   pub adds : 3 * sum s ≡ length cs
+
+-- face k, before which `at` corners stand
+pub record Here (cs s : List ℕ) (k at : ℕ) : Type 0 where
+  pub sound : Sound cs s
+  pub is-face : k < length s
+  pub offset : at ≡ offsetOf s k

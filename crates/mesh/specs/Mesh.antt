@@ -43,6 +43,10 @@ threes (p ∷ []) = []
 threes (p ∷ t ∷ []) = []
 threes (p ∷ t ∷ n ∷ cs) = (p ∷ t ∷ n ∷ []) ∷ threes cs
 
+-- corner k of a flat list
+abbrev pub cornerAt : List ℕ → ℕ → Corner
+cornerAt cs k = getD cs (3 * k) 0 ∷ getD cs (3 * k + 1) 0 ∷ getD cs (3 * k + 2) 0 ∷ []
+
 -- the faces of a flat list of corners: each takes as many corners as its size says
 abbrev pub rings : List ℕ → List ℕ → List Ring
 rings [] cs = []

@@ -67,11 +67,16 @@ ungrouped m = falls (map kind (m .sizes))
 abbrev pub beyond : ℕ → ℕ → Bool
 beyond count i = leb count i
 
-abbrev pub beyondOrMissing : ℕ → ℕ → Bool
-beyondOrMissing count i = not (eqb i missing) && leb count i
+abbrev pub beyondUnlessMissing : ℕ → ℕ → Bool
+beyondUnlessMissing count i = not (eqb i missing) && beyond count i
+
+abbrev pub astrayBy : ℕ → ℕ → ℕ → ℕ → ℕ → ℕ → Bool
+astrayBy p t n position texture normal =
+    beyond p position || beyondUnlessMissing t texture || beyondUnlessMissing n normal
 
 abbrev pub astrayAt : Mesh → Corner → Bool
-astrayAt m c = beyond (positionCount m) (position c) || beyondOrMissing (textureCount m) (texture c) || beyondOrMissing (normalCount m) (normal c)
+astrayAt m c =
+    astrayBy (positionCount m) (textureCount m) (normalCount m) (position c) (texture c) (normal c)
 
 unfoldable pub astray : Mesh → Bool
 astray m = some (astrayAt m) (threes (m .corners))

@@ -1,1 +1,260 @@
 // The mesh: five lent lists, the number that they earn, and the corners of a face.
+//
+// A mesh comes as five lists: positions and normals, three coordinates each; texture points, two each; corners, three numbers
+// each (position, texture, normal; 4,294,967,295 for a missing texture or normal); and the sizes of the faces. `number` says
+// which row of the table of numbers returned they earn first, 0 where none; every call on a mesh begins with it. `face` and
+// `face_at` hand back the corners of one face as a part of the list of corners.
+ghost use mathlib.Core.Path.{_≡_};
+ghost use mathlib.Core.List.{map};
+ghost use Prim.Native.Nat.{ℕ, _+_, _*_, _-_, _<_, _≤_, _/_, _%_};
+ghost use lib.ListN.{length, getD, take, drop};
+ghost use Rattle.lists.specs.Lists.{some, sum};
+ghost use Rattle.mesh.specs.Mesh.{meshOf, threes};
+ghost use Rattle.mesh.specs.Table as table;
+ghost use Rattle.mesh.specs.Face as part;
+
+// The mark of a missing texture or normal.
+pub const MISSING: u32 = 4294967295;
+
+// The number that the five lists earn: the first row of 1 to 5 whose rule says so, or 0.
+pub fn number(
+    positions: &[f64],
+    textures: &[f64],
+    normals: &[f64],
+    corners: &[u32],
+    sizes: &[u32],
+) -> u32
+    ensures { λ r. ⌜ r ≡ table.meshNumber (meshOf (now (positions .entry)) (now (textures .entry)) (now (normals .entry)) (now (corners .entry)) (now (sizes .entry))) ⌝ }
+{
+    let shape = shape_number(positions, textures, normals, corners, sizes);
+    if shape != 0 {
+        return shape;
+    }
+    if astray(positions, textures, normals, corners, sizes) {
+        return 5;
+    }
+    0
+}
+
+// The corners of face k, as a part of the list of corners; empty where k is no face or the lists earn 1 to 4.
+pub fn face<'a>(
+    positions: &[f64],
+    textures: &[f64],
+    normals: &[f64],
+    corners: &'a [u32],
+    sizes: &[u32],
+    k: usize,
+) -> &'a [u32]
+    ensures { λ r. ⌜ now r ≡ part.facePart (meshOf (now (positions .entry)) (now (textures .entry)) (now (normals .entry)) (now (corners .entry)) (now (sizes .entry))) k ⌝ }
+{
+    if sizes.len() <= k {
+        return &corners[..0];
+    }
+    if shape_number(positions, textures, normals, corners, sizes) != 0 {
+        return &corners[..0];
+    }
+    face_at(corners, sizes, k, offset(sizes, k))
+}
+
+// The corners of face k, before which `at` corners stand: for a caller that goes over the faces and carries `at` along.
+pub fn face_at<'a>(corners: &'a [u32], sizes: &[u32], k: usize, at: usize) -> &'a [u32]
+    requires { ⌜ part.Here (now corners) (now sizes) k at ⌝ }
+    ensures { λ r. ⌜ now r ≡ part.faceOf (now (corners .entry)) (now (sizes .entry)) k ⌝ }
+{
+    let n = sizes[k] as usize;
+    let a = 3 * at;
+    let e = a + 3 * n;
+    &corners[a..e]
+}
+
+// How many corners stand before face k.
+pub fn offset(sizes: &[u32], k: usize) -> usize
+    requires { ⌜ (k ≤ length (now sizes)) × (length (now sizes) ≤ 1365) ⌝ }
+    ensures { λ r. ⌜ (r ≡ part.offsetOf (now (sizes .entry)) k) × (r ≤ 4294967295 * k) ⌝ }
+{
+    let mut t: usize = 0;
+    let mut i: usize = 0;
+    while i < k {
+        t += sizes[i] as usize;
+        i += 1;
+    }
+    t
+}
+
+// Rows 1 to 4: what concerns the lists' lengths and the sizes.
+fn shape_number(
+    positions: &[f64],
+    textures: &[f64],
+    normals: &[f64],
+    corners: &[u32],
+    sizes: &[u32],
+) -> u32
+    ensures { λ r. ⌜ r ≡ table.shapeNumber (meshOf (now (positions .entry)) (now (textures .entry)) (now (normals .entry)) (now (corners .entry)) (now (sizes .entry))) ⌝ }
+{
+    if over_limits(positions, textures, normals, corners, sizes) {
+        return 1;
+    }
+    if uneven(positions, textures, normals, corners, sizes) {
+        return 2;
+    }
+    if misfit(sizes) {
+        return 3;
+    }
+    if ungrouped(sizes) {
+        return 4;
+    }
+    0
+}
+
+// Row 1: a list holds more numbers than limit times width, or there are over 1,365 face sizes.
+fn over_limits(
+    positions: &[f64],
+    textures: &[f64],
+    normals: &[f64],
+    corners: &[u32],
+    sizes: &[u32],
+) -> bool
+    ensures { λ r. ⌜ r ≡ table.overLimits (meshOf (now (positions .entry)) (now (textures .entry)) (now (normals .entry)) (now (corners .entry)) (now (sizes .entry))) ⌝ }
+{
+    if 6144 < positions.len() {
+        return true;
+    }
+    if 4096 < textures.len() {
+        return true;
+    }
+    if 6144 < normals.len() {
+        return true;
+    }
+    if 12288 < corners.len() {
+        return true;
+    }
+    1365 < sizes.len()
+}
+
+// Row 2: a list's length is no multiple of its width, or the sizes don't add up to the corners.
+fn uneven(
+    positions: &[f64],
+    textures: &[f64],
+    normals: &[f64],
+    corners: &[u32],
+    sizes: &[u32],
+) -> bool
+    requires { ⌜ length (now sizes) ≤ 1365 ⌝ }
+    ensures { λ r. ⌜ r ≡ table.uneven (meshOf (now (positions .entry)) (now (textures .entry)) (now (normals .entry)) (now (corners .entry)) (now (sizes .entry))) ⌝ }
+{
+    if positions.len() % 3 != 0 {
+        return true;
+    }
+    if textures.len() % 2 != 0 {
+        return true;
+    }
+    if normals.len() % 3 != 0 {
+        return true;
+    }
+    if corners.len() % 3 != 0 {
+        return true;
+    }
+    3 * offset(sizes, sizes.len()) != corners.len()
+}
+
+// Row 3: a face size lies outside 3 to 32.
+fn misfit(sizes: &[u32]) -> bool
+    ensures { λ r. ⌜ r ≡ some table.outside (now (sizes .entry)) ⌝ }
+{
+    let mut k: usize = 0;
+    while k < sizes.len() {
+        if is_outside(sizes[k]) {
+            return true;
+        }
+        k += 1;
+    }
+    false
+}
+
+fn is_outside(n: u32) -> bool
+    ensures { λ r. ⌜ r ≡ table.outside n ⌝ }
+{
+    if n < 3 {
+        return true;
+    }
+    32 < n
+}
+
+// Row 4: sizes aren't grouped: triangles first, then quadrangles, then larger faces.
+fn ungrouped(sizes: &[u32]) -> bool
+    ensures { λ r. ⌜ r ≡ table.falls (map table.kind (now (sizes .entry))) ⌝ }
+{
+    let mut last: u32 = 0;
+    let mut k: usize = 0;
+    while k < sizes.len() {
+        let kind = kind_of(sizes[k]);
+        if kind < last {
+            return true;
+        }
+        last = kind;
+        k += 1;
+    }
+    false
+}
+
+// A triangle is of kind 0, a quadrangle of kind 1, a larger face of kind 2.
+pub fn kind_of(n: u32) -> u32
+    ensures { λ r. ⌜ r ≡ table.kind n ⌝ }
+{
+    if n <= 3 {
+        return 0;
+    }
+    if n <= 4 {
+        return 1;
+    }
+    2
+}
+
+// Row 5: a position index, or a texture or normal index that isn't missing, is not below its list's count.
+fn astray(
+    positions: &[f64],
+    textures: &[f64],
+    normals: &[f64],
+    corners: &[u32],
+    sizes: &[u32],
+) -> bool
+    requires { ⌜ length (now corners) % 3 ≡ 0 ⌝ }
+    ensures { λ r. ⌜ r ≡ table.astray (meshOf (now (positions .entry)) (now (textures .entry)) (now (normals .entry)) (now (corners .entry)) (now (sizes .entry))) ⌝ }
+{
+    let p = positions.len() / 3;
+    let t = textures.len() / 2;
+    let n = normals.len() / 3;
+    let count = corners.len() / 3;
+    let mut k: usize = 0;
+    while k < count {
+        let at = 3 * k;
+        if is_astray(p, t, n, corners[at], corners[at + 1], corners[at + 2]) {
+            return true;
+        }
+        k += 1;
+    }
+    false
+}
+
+// One corner: p, t and n positions, texture points and normals are there.
+fn is_astray(p: usize, t: usize, n: usize, position: u32, texture: u32, normal: u32) -> bool
+    ensures { λ r. ⌜ r ≡ table.astrayBy p t n position texture normal ⌝ }
+{
+    if p <= position as usize {
+        return true;
+    }
+    if is_beyond(t, texture) {
+        return true;
+    }
+    is_beyond(n, normal)
+}
+
+// An index that isn't missing and is not below the count.
+fn is_beyond(count: usize, i: u32) -> bool
+    ensures { λ r. ⌜ r ≡ table.beyondUnlessMissing count i ⌝ }
+{
+    if i == MISSING {
+        return false;
+    }
+    count <= i as usize
+}

@@ -1,3 +1,4 @@
+-- `lists::put` meets its contract: the first i numbers of the part are copied, and i rises to all of them. Assumes nothing.
 use Prim.Native.Nat.{_-_}
 use lib.ListN.{length}
 use Rattle.lists.proofs.Writing.{Copying, copy-begins, copy-turns, copy-ends}
@@ -5,8 +6,6 @@ use borrow.Author.Needs.{needs}
 use native.Mathlib.Omega.{arith}
 use Rattle.lists.proofs.put.Statement.{statement}
 use Rattle.lists.proofs.put.Tie as tie
-use Rattle.lists.proofs.put.Reads as reads
-use Rattle.lists.proofs.put.Lts as lts
 
 abbrev Inv-loop : tie.InvT-loop
 Inv-loop part out₀ at i₀ out i = Copying part out₀ out at i
@@ -14,47 +13,36 @@ Inv-loop part out₀ at i₀ out i = Copying part out₀ out at i
 abbrev μ-loop : tie.MeasureT-loop
 μ-loop part out₀ at i₀ out i = length part - i
 
--- src/lib.rt:14:5
 loop-holds : tie.Need-loop-holds Inv-loop μ-loop
 loop-holds c = copy-begins 0 _ _ _
 
--- src/lib.rt:15:23
 mul-out : tie.Need-mul-out Inv-loop μ-loop
 mul-out c = search needs
 
--- src/lib.rt:15:23
 shared-slice-read-out : tie.Need-shared-slice-read-out Inv-loop μ-loop
 shared-slice-read-out c = search needs
 
--- src/lib.rt:15:13
 add-out : tie.Need-add-out Inv-loop μ-loop
 add-out c = search needs
 
--- src/lib.rt:15:9
 mul-out-2 : tie.Need-mul-out-2 Inv-loop μ-loop
 mul-out-2 c = search needs
 
--- src/lib.rt:15:9
 slice-write-out : tie.Need-slice-write-out Inv-loop μ-loop
 slice-write-out c = search needs
 
--- src/lib.rt:16:9
 add-i : tie.Need-add-i Inv-loop μ-loop
 add-i c = search needs
 
--- src/lib.rt:14:5
 loop-less : tie.Need-loop-less Inv-loop μ-loop
 loop-less c = search needs
 
--- src/lib.rt:14:5
 loop-again : tie.Need-loop-again Inv-loop μ-loop
 loop-again c = copy-turns 0 _ _ _ _ _ (omega arith) (c .before .before .loop .inv)
 
--- src/lib.rt:9:1
 same-length : tie.Need-same-length Inv-loop μ-loop
 same-length c = search needs
 
--- src/lib.rt:9:1
 returns : tie.Need-returns Inv-loop μ-loop
 returns c = copy-ends 0 _ _ _ _ _ (omega arith) (c .before .loop .inv)
 

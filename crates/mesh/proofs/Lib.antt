@@ -1,0 +1,5 @@
+pub mod Corners
+pub mod Faces
+pub mod Rows
+pub mod Numbers
+pub mod Accepted
