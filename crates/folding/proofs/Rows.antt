@@ -21,32 +21,21 @@ use Rattle.lists.proofs.Parts.{joined-append, every-at}
 use Rattle.lists.proofs.Writing.{Copying, copy-ends, sets-append}
 use Rattle.lists.proofs.Rows.{front-turns, sets-whole, every-take, take-written, length-part, drop-take}
 use Rattle.mesh.specs.Mesh.{Corner, Ring, position}
+use Rattle.mesh.proofs.Corners.{isCorner, length-corners}
 use Rattle.folding.specs.Folding.{between, around}
 use Rattle.folding.specs.Written.{Cut}
 
--- whether a corner is three numbers
-abbrev pub three : Corner → Bool
-three c = eqb (length c) 3
-
 -- the corners of a row that is owned are three numbers each
-pub row-threes : (xs : Ring) (us : List Val) → shadow (each (List ℕ) (Array (UInt w32) 3 .own) xs us) → every three xs ≡ true
+pub row-threes : (xs : Ring) (us : List Val) → shadow (each (List ℕ) (Array (UInt w32) 3 .own) xs us) → every isCorner xs ≡ true
 row-threes [] us s = refl
 row-threes (x ∷ xs) [] s = absurd s
 row-threes (x ∷ xs) (u ∷ us) s =
-    and-both (three x) (every three xs) (eq-eqb (length x) 3 (s .0 .1 .0 .1)) (row-threes xs us (s .1))
+    and-both (isCorner x) (every isCorner xs) (eq-eqb (length x) 3 (s .0 .1 .0 .1)) (row-threes xs us (s .1))
 
--- corners of three numbers each, one after the other
-pub length-corners : (r : Ring) → every three r ≡ true → length (joined r) ≡ 3 * length r
-length-corners [] e = refl
-length-corners (c ∷ r) e =
-    let a : length (c ++ joined r) ≡ length c + length (joined r) = length-append c (joined r) in
-    let b : length c ≡ 3 = eqb-true (length c) 3 (and-left (three c) (every three r) e) in
-    let d : length (joined r) ≡ 3 * length r = length-corners r (and-right (three c) (every three r) e) in
-    omega arith
-
-pub length-front-corners : (r : Ring) (n : ℕ) → every three r ≡ true → n ≤ length r → length (joined (take n r)) ≡ 3 * n
+-- the first n corners, one after the other
+pub length-front-corners : (r : Ring) (n : ℕ) → every isCorner r ≡ true → n ≤ length r → length (joined (take n r)) ≡ 3 * n
 length-front-corners r n e h =
-    length-corners (take n r) (every-take three n r e) ∙ ap (λ (k : ℕ). 3 * k) (length-take-le n r h)
+    length-corners (take n r) (every-take isCorner n r e) ∙ ap (λ (k : ℕ). 3 * k) (length-take-le n r h)
 
 -- three numbers are written one by one
 pub corner-written : (l c : List ℕ) (b : ℕ) → length c ≡ 3
@@ -80,7 +69,7 @@ pub record Writing (row : Ring) (n : ℕ) (l l' : List ℕ) (b k : ℕ) : Type 0
 pub write-begins : (row : Ring) (n : ℕ) (l : List ℕ) (b : ℕ) → Writing row n l l b 0
 write-begins row n l b = record { within = omega arith; written = refl; long = refl }
 
-pub write-turns : (row : Ring) (n : ℕ) (l l' l'' : List ℕ) (b k : ℕ) → every three row ≡ true → n ≤ length row → k < n
+pub write-turns : (row : Ring) (n : ℕ) (l l' l'' : List ℕ) (b k : ℕ) → every isCorner row ≡ true → n ≤ length row → k < n
     → l'' ≡ sets l' (b + 3 * k) (getD row k []) → Writing row n l l' b k → Writing row n l l'' b (k + 1)
 write-turns row n l l' l'' b k w m h e c =
     let c' = getD row k [] in

@@ -6,10 +6,11 @@ ghost use mathlib.Core.List.{List, [], _∷_, _++_};
 ghost use lib.ListN.{length, getD, take, drop};
 ghost use lib.Seq.{sets};
 ghost use mathlib.Core.List.{map};
+ghost use mathlib.Core.Bool.{false};
 ghost use Rattle.lists.specs.Lists.{joined};
 ghost use Rattle.mesh.specs.Mesh.{position};
-ghost use Rattle.folding.specs.Written.{Cut};
-ghost use Rattle.folding.specs.Folding.{foldOf, withoutQ1, withoutQ3, mateOf, firstOf, between, around};
+ghost use Rattle.folding.specs.Written.{Written, Room, Cut, FirstPair};
+ghost use Rattle.folding.specs.Folding.{foldOf, withoutQ1, withoutQ3, mateOf, firstOf, folded, between, around, ringPieces};
 
 // What becomes of a quadrangle q0..q3.
 pub enum Fold {
@@ -23,6 +24,12 @@ pub enum Fold {
 pub struct At {
     pub numbers: usize,
     pub faces: usize,
+}
+
+// Two corners of a ring.
+struct Pair {
+    i: usize,
+    j: usize,
 }
 
 // The decision on a quadrangle.
@@ -123,6 +130,20 @@ fn places_of(poly: [[u32; 3]; 32]) -> [u32; 32]
     places
 }
 
+// The first i, and for it the first j after i, with equal positions; i is n where there is none.
+fn pair_of(poly: [[u32; 3]; 32], n: usize) -> Pair
+    requires { ⌜ n ≤ 32 ⌝ }
+    ensures { λ r. ⌜ FirstPair (take n poly) (r .i) (r .j) ⌝ }
+{
+    let places = places_of(poly);
+    let i = first(&places[..n]);
+    if i < n {
+        let j = mate(&places[..n], i);
+        return Pair { i, j };
+    }
+    Pair { i, j: n }
+}
+
 // Corners a, a + 1, .. of a row, m of them, go to another, from place b on.
 fn copied(poly: [[u32; 3]; 32], a: usize, m: usize, to: [[u32; 3]; 32], b: usize) -> [[u32; 3]; 32]
     requires { ⌜ (a + m ≤ 32) × (b + m ≤ 32) ⌝ }
@@ -174,4 +195,45 @@ fn put_row(poly: [[u32; 3]; 32], n: usize, out: &mut [u32], at: usize)
         put_corner(poly[k], out, at + 3 * k);
         k += 1;
     }
+}
+
+// A ring that is not folded goes to the lists where it has three corners or more.
+fn put_ring(poly: [[u32; 3]; 32], n: usize, out: &mut [u32], lens: &mut [u32], at: At) -> At
+    requires { ⌜ Room n (now out) (now lens) at ⌝ }
+    requires { ⌜ folded (take n poly) ≡ false ⌝ }
+    ensures { λ r. ⌜ Written (ringPieces (take n poly)) (now (out .entry)) (now (out .exit)) (now (lens .entry)) (now (lens .exit)) at r ⌝ }
+{
+    if n < 3 {
+        return at;
+    }
+    let numbers = at.numbers;
+    let faces = at.faces;
+    put_row(poly, n, out, numbers);
+    lens[faces] = n as u32;
+    At {
+        numbers: numbers + 3 * n,
+        faces: faces + 1,
+    }
+}
+
+// The pieces of a larger face go to the lists: each of the two rings is split again by the same rule, the first ring's pieces first.
+pub fn split_into_nondegenerate(
+    poly: [[u32; 3]; 32],
+    n: usize,
+    out: &mut [u32],
+    lens: &mut [u32],
+    at: At,
+) -> At
+    requires { ⌜ Room n (now out) (now lens) at ⌝ }
+    ensures { λ r. ⌜ Written (ringPieces (take n poly)) (now (out .entry)) (now (out .exit)) (now (lens .entry)) (now (lens .exit)) at r ⌝ }
+{
+    let pair = pair_of(poly, n);
+    let i = pair.i;
+    let j = pair.j;
+    if i < n {
+        let m = j - i;
+        let mid = split_into_nondegenerate(ring_one(poly, n, i, j), m, out, lens, at);
+        return split_into_nondegenerate(ring_two(poly, n, i, j), n - m, out, lens, mid);
+    }
+    put_ring(poly, n, out, lens, at)
 }

@@ -1,7 +1,7 @@
 -- Copies of a part of a list, and what `every` says of parts. Assumes nothing.
 use mathlib.Core.Path.{_≡_, refl, sym, ap, _∙_}
 use mathlib.Core.Bool.{Bool, true, false, _&&_}
-use mathlib.Core.List.{List, [], _∷_, _++_, append-nil}
+use mathlib.Core.List.{List, [], _∷_, _++_, map, append-nil}
 use Prim.Native.Nat.{ℕ, zero, suc, _+_, _-_, _≤_, _<_}
 use native.Mathlib.Nat.{zero-add, sub-zero}
 use native.Mathlib.Omega.{arith}
@@ -59,3 +59,9 @@ module _ {A : Type 0} (p : A → Bool) where
 
   pub every-both : (a b : List A) → every p a ≡ true → every p b ≡ true → every p (a ++ b) ≡ true
   every-both a b e f = every-append p a b ∙ and-both (every p a) (every p b) e f
+
+module _ {A B : Type 0} (f : A → B) where
+  pub map-take : (n : ℕ) (l : List A) → map f (take n l) ≡ take n (map f l)
+  map-take zero l = refl
+  map-take (suc n) [] = refl
+  map-take (suc n) (x ∷ l) = ap (λ (t : List B). f x ∷ t) (map-take n l)
