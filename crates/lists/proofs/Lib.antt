@@ -1,7 +1,11 @@
+pub mod Alike
 pub mod Bools
+pub mod Cases
+pub mod Copies
+pub mod Counting
+pub mod Members
 pub mod Numbers
 pub mod Only
 pub mod Parts
-pub mod Rows
 pub mod Seeking
 pub mod Writing

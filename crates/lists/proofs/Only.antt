@@ -1,42 +1,54 @@
--- What is kept by a test: of two lists one after the other, in number, and in what every element of it passes. Assumes nothing.
-use mathlib.Core.Path.{_≡_, refl}
-use mathlib.Core.Bool.{Bool, true}
-use mathlib.Core.List.{List, [], _∷_, _++_, map}
-use Prim.Native.Nat.{ℕ, _≤_}
+-- Laws of `only`: of two lists, of a first part, of a test that every element passes. Assumes nothing.
+use mathlib.Core.Path.{_≡_, refl, sym, ap, _∙_}
+use mathlib.Core.Bool.{Bool, true, false}
+use mathlib.Core.List.{List, [], _∷_, _++_}
+use Prim.Native.Nat.{ℕ, suc, _+_, _≤_, _<_}
+use native.Mathlib.Numerals.{add-one}
 use native.Mathlib.Omega.{arith}
-use lib.ListN.{length, length-append}
-use Rattle.lists.specs.Lists.{only, every, each, sum}
-use Rattle.lists.proofs.Bools.{by-cases, and-both, and-left, and-right}
+use lib.ListN.{length, getD, take, drop, take-append-drop}
+use lib.Seq.{take-suc}
+use Rattle.lists.specs.Lists.{only, keepIf, every}
+use Rattle.lists.proofs.Bools.{and-left, and-right, and-both, by-cases}
 
 module _ {A : Type 0} (p : A → Bool) where
-  pub only-append : (a b : List A) → only p (a ++ b) ≡ only p a ++ only p b
-  only-append [] b = refl
-  only-append (x ∷ a) b = by-cases (p x) (λ e. rw (e, only-append a b)) (λ e. rw (e, only-append a b))
+  keep-append : (b : Bool) (x : A) (s t : List A) → keepIf b x (s ++ t) ≡ keepIf b x s ++ t
+  keep-append true x s t = refl
+  keep-append false x s t = refl
 
-  -- what is kept passes
-  pub only-passes : (l : List A) → every p (only p l) ≡ true
-  only-passes [] = refl
-  only-passes (x ∷ l) =
-      by-cases (p x) (λ e. rw e (and-both (p x) (every p (only p l)) e (only-passes l))) (λ e. rw e (only-passes l))
+  pub only-append : (s t : List A) → only p (s ++ t) ≡ only p s ++ only p t
+  only-append [] t = refl
+  only-append (x ∷ s) t = ap (keepIf (p x) x) (only-append s t) ∙ keep-append (p x) x (only p s) (only p t)
 
-  -- what every element passes, every one that is kept passes
+  -- of what comes first and what is left
+  pub only-split : (k : ℕ) (l : List A) → only p l ≡ only p (take k l) ++ only p (drop k l)
+  only-split k l = ap (only p) (sym (take-append-drop k l)) ∙ only-append (take k l) (drop k l)
+
+  -- one element more is looked at
+  pub only-step : (d : A) (l : List A) (k : ℕ) → k < length l → only p (take (k + 1) l) ≡ only p (take k l) ++ only p (getD l k d ∷ [])
+  only-step d l k h = rw (add-one k, take-suc l k d h) (only-append (take k l) (getD l k d ∷ []))
+
+  pub only-length : (l : List A) → length (only p l) ≤ length l
+  only-length [] = omega arith
+  only-length (x ∷ l) = go (p x) (only-length l)
+    where
+      go : (b : Bool) → length (only p l) ≤ length l → length (keepIf b x (only p l)) ≤ suc (length l)
+      go true h = omega arith
+      go false h = omega arith
+
+  -- what every element passes, every one that is left passes
   pub every-only : (q : A → Bool) (l : List A) → every q l ≡ true → every q (only p l) ≡ true
-  every-only q [] e = refl
-  every-only q (x ∷ l) e =
-      let h : every q (only p l) ≡ true = every-only q l (and-right (q x) (every q l) e) in
-      by-cases (p x) (λ t. rw t (and-both (q x) (every q (only p l)) (and-left (q x) (every q l) e) h)) (λ t. rw t h)
+  every-only q [] h = refl
+  every-only q (x ∷ l) h = go (p x) (every-only q l (and-right (q x) (every q l) h))
+    where
+      go : (b : Bool) → every q (only p l) ≡ true → every q (keepIf b x (only p l)) ≡ true
+      go true i = and-both (q x) (every q (only p l)) (and-left (q x) (every q l) h) i
+      go false i = i
 
-  -- a sum over what is kept is no larger
-  pub sum-only : (f : A → ℕ) (l : List A) → sum (map f (only p l)) ≤ sum (map f l)
-  sum-only f [] = omega arith
-  sum-only f (x ∷ l) =
-      let h : sum (map f (only p l)) ≤ sum (map f l) = sum-only f l in
-      by-cases (p x) (λ e. rw e (omega arith)) (λ e. rw e (omega arith))
+  -- where every element passes the test, all are left; every one that is left passes it
+  pub only-all : (l : List A) → every p l ≡ true → only p l ≡ l
+  only-all [] h = refl
+  only-all (x ∷ l) h = rw (and-left (p x) (every p l) h) (ap (λ (r : List A). x ∷ r) (only-all l (and-right (p x) (every p l) h)))
 
-module _ {A B : Type 0} (f : A → List B) where
-  -- what f gives, one after the other, is as long as all together
-  pub length-each : (l : List A) → length (each f l) ≡ sum (map (λ (a : A). length (f a)) l)
-  length-each [] = refl
-  length-each (a ∷ l) =
-      let e : length (each f l) ≡ sum (map (λ (x : A). length (f x)) l) = length-each l in
-      omega (arith, length-append (f a) (each f l))
+  pub every-self : (l : List A) → every p (only p l) ≡ true
+  every-self [] = refl
+  every-self (x ∷ l) = by-cases (p x) (λ e. rw e (and-both (p x) (every p (only p l)) e (every-self l))) (λ e. rw e (every-self l))

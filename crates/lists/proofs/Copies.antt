@@ -1,15 +1,11 @@
--- Copies of a part of a list, and what `every` says of parts. Assumes nothing.
+-- Copies of a part of a list, one element further at a time, and what stands there in the end. Assumes nothing.
 use mathlib.Core.Path.{_≡_, refl, sym, ap, _∙_}
-use mathlib.Core.Bool.{Bool, true, false, _&&_}
 use mathlib.Core.List.{List, [], _∷_, _++_, map, append-nil}
 use Prim.Native.Nat.{ℕ, zero, suc, _+_, _-_, _≤_, _<_}
 use native.Mathlib.Nat.{zero-add, sub-zero}
 use native.Mathlib.Omega.{arith}
-use lib.ListN.{length, getD, take, drop, set, length-drop, take-append-drop}
+use lib.ListN.{length, getD, take, drop, set, length-drop}
 use lib.Seq.{sets, length-take-le, getD-take, getD-drop, drop-length, take-nil, take-append-seam}
-use Rattle.lists.specs.Lists.{every}
-use Rattle.lists.proofs.Bools.{and-both, and-left, and-right}
-use Rattle.lists.proofs.Parts.{every-append}
 use Rattle.lists.proofs.Writing.{Copying, copy-turns, sets-front}
 
 module _ {A : Type 0} where
@@ -46,19 +42,6 @@ module _ {A : Type 0} where
   drop-take l (suc j) zero = rw (let z : 0 - suc j ≡ 0 = omega arith in z)
   drop-take [] (suc j) (suc n) = sym (take-nil (suc n - suc j))
   drop-take (x ∷ l) (suc j) (suc n) = rw (let z : suc n - suc j ≡ n - j = omega arith in z) (drop-take l j n)
-
-module _ {A : Type 0} (p : A → Bool) where
-  -- what every element passes, those of a part pass
-  pub every-take : (n : ℕ) (l : List A) → every p l ≡ true → every p (take n l) ≡ true
-  every-take n l e =
-      and-left (every p (take n l)) (every p (drop n l)) (sym (every-append p (take n l) (drop n l)) ∙ ap (every p) (take-append-drop n l) ∙ e)
-
-  pub every-drop : (n : ℕ) (l : List A) → every p l ≡ true → every p (drop n l) ≡ true
-  every-drop n l e =
-      and-right (every p (take n l)) (every p (drop n l)) (sym (every-append p (take n l) (drop n l)) ∙ ap (every p) (take-append-drop n l) ∙ e)
-
-  pub every-both : (a b : List A) → every p a ≡ true → every p b ≡ true → every p (a ++ b) ≡ true
-  every-both a b e f = every-append p a b ∙ and-both (every p a) (every p b) e f
 
 module _ {A B : Type 0} (f : A → B) where
   pub map-take : (n : ℕ) (l : List A) → map f (take n l) ≡ take n (map f l)
