@@ -8,15 +8,17 @@ use native.Mathlib.Omega.{arith}
 use lib.ListN.{length, take, drop, length-map}
 use lib.Seq.{length-take-le}
 use Rattle.lists.specs.Lists.{every}
-use Rattle.lists.proofs.Rows.{every-take, map-take}
+use Rattle.lists.proofs.Parts.{every-take}
+use Rattle.lists.proofs.Copies.{map-take}
 use Rattle.mesh.specs.Mesh.{Ring, position}
 use Rattle.mesh.proofs.Corners.{isCorner}
-use Rattle.folding.specs.declared.At.{At}
+use Rattle.grouping.specs.Push.{Placed}
+use Rattle.grouping.proofs.Placing.{placed-both}
 use Rattle.folding.specs.Folding.{folded, firstOf, mateOf, firstIn, secondIn, between, around, ringPieces}
-use Rattle.folding.specs.Written.{Written, Room, Cut, FirstPair}
+use Rattle.folding.specs.Rows.{Room, Cut, FirstPair}
 use Rattle.folding.proofs.Search.{folded-found, folded-missing, folded-pair}
 use Rattle.folding.proofs.Pieces.{ring-cut, ring-sane}
-use Rattle.folding.proofs.Written.{took}
+use Rattle.folding.proofs.Placing.{took}
 
 -- the search goes over the first n positions of the row
 pub pair-found : (row : Ring) (ps : List ℕ) (n i j : ℕ) → ps ≡ map position row → i ≡ firstOf (take n ps) → j ≡ mateOf (take n ps) i → FirstPair (take n row) i j
@@ -57,15 +59,23 @@ module _ (row : Ring) (n i j : ℕ) (long : length row ≡ 32) (small : n ≤ 32
         (ap₂ (between (take n row)) (sym (p .first)) (sym second) ∙ sym x)
         (ap₂ (around (take n row)) (sym (p .first)) (sym second) ∙ sym y)
 
--- room for the first ring, and behind its pieces for the second
-pub room-one : (n i j : ℕ) (out lens : List ℕ) (a : At) → Cut n i j → Room n out lens a → Room (j - i) out lens a
-room-one n i j out lens a c r = record { small = omega arith; corners = omega arith; sizes = omega arith }
+    pub cut-placed :
+        (one two : Ring) (o o1 o2 l l1 l2 : List ℕ) (c f c1 f1 c2 f2 : ℕ)
+        → take (j - i) one ≡ between (take n row) i j → take (n - (j - i)) two ≡ around (take n row) i j → every isCorner one ≡ true
+        → Placed (ringPieces (take (j - i) one)) o o1 l l1 c f c1 f1 → Placed (ringPieces (take (n - (j - i)) two)) o1 o2 l1 l2 c1 f1 c2 f2
+        → Placed (ringPieces (take n row)) o o2 l l2 c f c2 f2
+    cut-placed one two o o1 o2 l l1 l2 c f c1 f1 c2 f2 x y w a b =
+        rw (cut-pieces one two x y)
+        (placed-both _ _ o o1 o2 l l1 l2 c f c1 f1 c2 f2 (ring-sane (take (j - i) one) .corners isCorner (every-take isCorner (j - i) one w)) a b)
 
-pub room-two : (n i j : ℕ) (one : Ring) (out out' lens lens' : List ℕ) (a b : At) → Cut n i j → Room n out lens a
-    → length one ≡ 32 → every isCorner one ≡ true → Written (ringPieces (take (j - i) one)) out out' lens lens' a b
-    → length out' ≡ length out → length lens' ≡ length lens → Room (n - (j - i)) out' lens' b
-room-two n i j one out out' lens lens' a b c r l w h x y =
+-- room for the first ring, and behind its pieces for the second
+pub room-one : (n i j : ℕ) (out lens : List ℕ) (c f : ℕ) → Cut n i j → Room n out lens c f → Room (j - i) out lens c f
+room-one n i j out lens c f k r = record { small = omega arith; corners = omega arith; sizes = omega arith }
+
+pub room-two : (n i j : ℕ) (one : Ring) (out out' lens lens' : List ℕ) (c f c' f' : ℕ) → Cut n i j → Room n out lens c f → length one ≡ 32
+    → Placed (ringPieces (take (j - i) one)) out out' lens lens' c f c' f' → length out' ≡ length out → length lens' ≡ length lens → Room (n - (j - i)) out' lens' c' f'
+room-two n i j one out out' lens lens' c f c' f' k r l h x y =
     let m = take (j - i) one in
-    let f : length m ≡ j - i = length-take-le (j - i) one (omega arith) in
-    let t = took m (ringPieces m) out out' lens lens' a b (every-take isCorner (j - i) one w) (ring-sane m) h in
-    record { small = omega arith; corners = omega (arith, t .numbers); sizes = omega (arith, t .faces) }
+    let e : length m ≡ j - i = length-take-le (j - i) one (omega arith) in
+    let t = took m (ringPieces m) out out' lens lens' c f c' f' (ring-sane m) h in
+    record { small = omega arith; corners = omega (arith, t .corners); sizes = omega (arith, t .faces) }

@@ -2,5 +2,5 @@ pub mod Rows
 pub mod Search
 pub mod Splitting
 pub mod Pieces
-pub mod Written
+pub mod Placing
 pub mod Cutting

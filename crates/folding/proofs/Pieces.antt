@@ -11,9 +11,8 @@ use lib.Dec.{leb, eqb}
 use borrow.Author.Tests.{leb-true, le-leb, lt-leb, eqb-true, eqb-false, ne-eqb, eq-eqb}
 use Rattle.lists.specs.Lists.{every, only, joined, each, sum}
 use Rattle.lists.proofs.Bools.{by-cases, and-both, and-left, and-right, or-false-left, or-false-right, true-false}
-use Rattle.lists.proofs.Parts.{every-append, sum-append}
-use Rattle.lists.proofs.Rows.{every-take, every-drop, every-both}
-use Rattle.lists.proofs.Only.{only-append, only-passes, every-only, sum-only}
+use Rattle.lists.proofs.Parts.{every-append, every-take, every-drop, sum-append}
+use Rattle.lists.proofs.Only.{only-append, every-self, every-only}
 use Rattle.mesh.specs.Mesh.{Corner, Ring, position}
 use Rattle.folding.specs.Folding.{folded, firstIn, secondIn, between, around, split, trianglePieces, foldOf, withoutQ1, withoutQ3, left, quadranglePieces, ringPieces, pieces}
 use Rattle.folding.specs.declared.Fold.{Fold}
@@ -33,6 +32,16 @@ pub record Sane (r : Ring) (ps : List Ring) : Type 0 where
   pub faces : every isFace ps ≡ true
   pub fewer : sum (map length ps) ≤ length r
   pub corners : (p : Corner → Bool) → every p r ≡ true → every (every p) ps ≡ true
+
+-- what every one of two lists passes, every one of both passes; a sum over what is left is no larger
+every-both : {A : Type 0} (p : A → Bool) (a b : List A) → every p a ≡ true → every p b ≡ true → every p (a ++ b) ≡ true
+every-both p a b e f = every-append p a b ∙ and-both (every p a) (every p b) e f
+
+sum-only : (p : Ring → Bool) (ps : List Ring) → sum (map length (only p ps)) ≤ sum (map length ps)
+sum-only p [] = omega arith
+sum-only p (r ∷ ps) =
+    let h : sum (map length (only p ps)) ≤ sum (map length ps) = sum-only p ps in
+    by-cases (p r) (λ e. rw e (omega arith)) (λ e. rw e (omega arith))
 
 -- nothing, and a face that is not folded
 pub sane-none : (r : Ring) → Sane r []
@@ -98,8 +107,8 @@ pub ring-sane : (r : Ring) → Sane r (ringPieces r)
 unfolding ringPieces
 ring-sane r = record {
   unfolded = every-only isFace isUnfolded (split r) (split-unfolded r);
-  faces = only-passes isFace (split r);
-  fewer = omega (arith, sum-only isFace length (split r), split-length r);
+  faces = every-self isFace (split r);
+  fewer = omega (arith, sum-only isFace (split r), split-length r);
   corners = λ p c. every-only isFace (every p) (split r) (split-corners p r c);
 }
 

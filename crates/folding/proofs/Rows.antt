@@ -17,13 +17,13 @@ use denote.Plain.{UInt}
 use denote.Shadow.{shadow}
 use Rattle.lists.specs.Lists.{every, joined}
 use Rattle.lists.proofs.Bools.{and-both, and-left, and-right}
-use Rattle.lists.proofs.Parts.{joined-append, every-at}
+use Rattle.lists.proofs.Parts.{joined-append, every-take}
 use Rattle.lists.proofs.Writing.{Copying, copy-ends, sets-append}
-use Rattle.lists.proofs.Rows.{front-turns, sets-whole, every-take, take-written, length-part, drop-take}
+use Rattle.lists.proofs.Copies.{front-turns, sets-whole, take-written, length-part, drop-take}
 use Rattle.mesh.specs.Mesh.{Corner, Ring, position}
 use Rattle.mesh.proofs.Corners.{isCorner, length-corners}
 use Rattle.folding.specs.Folding.{between, around}
-use Rattle.folding.specs.Written.{Cut}
+use Rattle.folding.specs.Rows.{Cut}
 
 -- the corners of a row that is owned are three numbers each
 pub row-threes : (xs : Ring) (us : List Val) → shadow (each (List ℕ) (Array (UInt w32) 3 .own) xs us) → every isCorner xs ≡ true

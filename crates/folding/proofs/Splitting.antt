@@ -12,8 +12,7 @@ use borrow.Author.Tests.{leb-true}
 use Rattle.lists.specs.Lists.{every, only, joined, each, sum}
 use Rattle.lists.proofs.Bools.{by-cases, true-false, and-both, and-left, and-right}
 use Rattle.lists.proofs.Parts.{every-append, sum-append}
-use Rattle.lists.proofs.Rows.{length-part, every-take, every-drop, every-both}
-use Rattle.lists.proofs.Only.{only-append, only-passes, every-only, sum-only, length-each}
+use Rattle.lists.proofs.Copies.{length-part}
 use Rattle.mesh.specs.Mesh.{Corner, Ring}
 use Rattle.folding.specs.Folding.{folded, firstIn, secondIn, between, around, splitIn, split, ringPieces}
 use Rattle.folding.proofs.Search.{Pair, folded-pair}

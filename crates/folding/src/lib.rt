@@ -9,8 +9,11 @@ ghost use mathlib.Core.List.{map};
 ghost use mathlib.Core.Bool.{false};
 ghost use Rattle.lists.specs.Lists.{joined};
 ghost use Rattle.mesh.specs.Mesh.{position};
-ghost use Rattle.folding.specs.Written.{Written, Room, Cut, FirstPair};
+ghost use Rattle.grouping.specs.Push.{Placed};
+ghost use Rattle.folding.specs.Rows.{Room, Cut, FirstPair};
 ghost use Rattle.folding.specs.Folding.{foldOf, withoutQ1, withoutQ3, mateOf, firstOf, folded, between, around, ringPieces};
+
+use grouping::Filled;
 
 // What becomes of a quadrangle q0..q3.
 pub enum Fold {
@@ -18,12 +21,6 @@ pub enum Fold {
     WithoutQ1,
     WithoutQ3,
     Stays,
-}
-
-// How much is written: numbers of corners, three for each, and faces.
-pub struct At {
-    pub numbers: usize,
-    pub faces: usize,
 }
 
 // Two corners of a ring.
@@ -198,21 +195,21 @@ fn put_row(poly: [[u32; 3]; 32], n: usize, out: &mut [u32], at: usize)
 }
 
 // A ring that is not folded goes to the lists where it has three corners or more.
-fn put_ring(poly: [[u32; 3]; 32], n: usize, out: &mut [u32], lens: &mut [u32], at: At) -> At
-    requires { ⌜ Room n (now out) (now lens) at ⌝ }
+fn put_ring(poly: [[u32; 3]; 32], n: usize, out: &mut [u32], lens: &mut [u32], at: Filled) -> Filled
+    requires { ⌜ Room n (now out) (now lens) (at .corners) (at .faces) ⌝ }
     requires { ⌜ folded (take n poly) ≡ false ⌝ }
-    ensures { λ r. ⌜ Written (ringPieces (take n poly)) (now (out .entry)) (now (out .exit)) (now (lens .entry)) (now (lens .exit)) at r ⌝ }
+    ensures { λ r. ⌜ Placed (ringPieces (take n poly)) (now (out .entry)) (now (out .exit)) (now (lens .entry)) (now (lens .exit)) (at .corners) (at .faces) (r .corners) (r .faces) ⌝ }
 {
     if n < 3 {
         return at;
     }
-    let numbers = at.numbers;
-    let faces = at.faces;
-    put_row(poly, n, out, numbers);
-    lens[faces] = n as u32;
-    At {
-        numbers: numbers + 3 * n,
-        faces: faces + 1,
+    let c = at.corners;
+    let f = at.faces;
+    put_row(poly, n, out, 3 * c);
+    lens[f] = n as u32;
+    Filled {
+        corners: c + n,
+        faces: f + 1,
     }
 }
 
@@ -222,10 +219,10 @@ pub fn split_into_nondegenerate(
     n: usize,
     out: &mut [u32],
     lens: &mut [u32],
-    at: At,
-) -> At
-    requires { ⌜ Room n (now out) (now lens) at ⌝ }
-    ensures { λ r. ⌜ Written (ringPieces (take n poly)) (now (out .entry)) (now (out .exit)) (now (lens .entry)) (now (lens .exit)) at r ⌝ }
+    at: Filled,
+) -> Filled
+    requires { ⌜ Room n (now out) (now lens) (at .corners) (at .faces) ⌝ }
+    ensures { λ r. ⌜ Placed (ringPieces (take n poly)) (now (out .entry)) (now (out .exit)) (now (lens .entry)) (now (lens .exit)) (at .corners) (at .faces) (r .corners) (r .faces) ⌝ }
 {
     let pair = pair_of(poly, n);
     let i = pair.i;

@@ -8,10 +8,9 @@ use mathlib.Core.Path.{_≡_}
 use lib.ListN.{length}
 use borrow.Fn.Kinds.{In}
 use borrow.Fn.PlainCycle.{Measures, is, falls, and}
-use Rattle.folding.specs.Written.{Cut}
+use Rattle.folding.specs.Rows.{Cut}
 use Rattle.folding.proofs.Rows.{row-threes}
-use Rattle.folding.proofs.Written.{written-both}
-use Rattle.folding.proofs.Cutting.{not-folded, cut, cut-pieces, room-one, room-two}
+use Rattle.folding.proofs.Cutting.{not-folded, cut, cut-placed, room-one, room-two}
 use Rattle.folding.proofs.split_into_nondegenerate.Reads as reads
 use Rattle.folding.proofs.split_into_nondegenerate.Kinds as kinds
 use Rattle.folding.proofs.+split_into_nondegenerate.Lts-split_into_nondegenerate as lts
@@ -64,7 +63,7 @@ module _ (t : ℕ) where
   split-requires : lts.Need-split-into-nondegenerate-requires claims (at t) reads.Post
   split-requires c κs =
       let k = cut-here (c .before .before .before) in
-      (omega (arith, k .ordered, k .within, c .before .before .before .before .before .before .before .pre .0), room-one _ _ _ _ _ _ k (c .before .before .before .before .before .before .before .pre .1))
+      (omega (arith, k .ordered, k .within, c .before .before .before .before .before .before .before .pre .0), room-one _ _ _ _ _ _ _ k (c .before .before .before .before .before .before .before .pre .1))
 
   ring-two-requires : lts.Need-ring-two-requires claims (at t) reads.Post
   ring-two-requires c κs = cut-here (c .before .before .before .before .before .before .before .before)
@@ -78,7 +77,7 @@ module _ (t : ℕ) where
       let one = c .before .before .before .before .before .before .before .before .before .before .ring-one in
       let s = c .before .before .before .before .before .before .before .split-into-nondegenerate in (
         omega (arith, k .ordered, k .within, c .before .before .before .before .before .before .before .before .before .before .before .before .before .before .before .pre .0),
-        room-two _ _ _ (one .result) _ _ _ _ _ _ k (c .before .before .before .before .before .before .before .before .before .before .before .before .before .before .before .pre .1) (one .ok .1 .0 .1) (row-threes (one .result) _ (one .ok .1 .1)) (s .ensures) (s .kept .1 .1 .0) (s .kept .1 .1 .1 .0),
+        room-two _ _ _ (one .result) _ _ _ _ _ _ _ _ k (c .before .before .before .before .before .before .before .before .before .before .before .before .before .before .before .pre .1) (one .ok .1 .0 .1) (s .ensures) (s .kept .1 .1 .0) (s .kept .1 .1 .1 .0),
       )
 
   same-length : lts.Need-same-length claims (at t) reads.Post
@@ -91,9 +90,11 @@ module _ (t : ℕ) where
   returns c =
       let a = c .before .before .before .before .before .before .before .before .before .before .before .before .before .before .before .before .before .before .before .before .args in
       let p = c .before .before .before .before .before .before .before .before .before .before .before .before .before .before .before .before .before .pair-of in
-      let e = cut-pieces (a .poly) (a .n) (p .result .i) (p .result .j) (c .before .before .before .before .before .before .before .before .before .before .before .before .before .before .before .before .before .before .before .before .good .0 .1 .0 .1) (c .before .before .before .before .before .before .before .before .before .before .before .before .before .before .before .before .before .before .before .before .pre .1 .small) (p .ensures) (c .before .before .before .before .before .before .before .before .before .before .before .before .before .before .before .before .if1 .taken)
-      (c .before .before .before .before .before .before .before .before .before .before .before .before .before .before .before .ring-one .result) (c .before .before .before .before .before .before .before .ring-two .result) (c .before .before .before .before .before .before .before .before .before .before .before .before .before .before .before .ring-one .ensures) (c .before .before .before .before .before .before .before .ring-two .ensures) in
-      rw e (written-both _ _ _ _ _ _ _ _ _ _ _ (c .before .before .before .before .before .before .before .before .before .before .before .before .split-into-nondegenerate .ensures) (c .before .before .before .before .split-into-nondegenerate2 .ensures))
+      let one = c .before .before .before .before .before .before .before .before .before .before .before .before .before .before .before .ring-one in
+      let two = c .before .before .before .before .before .before .before .ring-two in
+      cut-placed (a .poly) (a .n) (p .result .i) (p .result .j) (c .before .before .before .before .before .before .before .before .before .before .before .before .before .before .before .before .before .before .before .before .good .0 .1 .0 .1) (c .before .before .before .before .before .before .before .before .before .before .before .before .before .before .before .before .before .before .before .before .pre .1 .small) (p .ensures) (c .before .before .before .before .before .before .before .before .before .before .before .before .before .before .before .before .if1 .taken)
+      (one .result) (two .result) _ _ _ _ _ _ _ _ _ _ _ _ (one .ensures) (two .ensures) (row-threes (one .result) _ (one .ok .1 .1))
+      (c .before .before .before .before .before .before .before .before .before .before .before .before .split-into-nondegenerate .ensures) (c .before .before .before .before .split-into-nondegenerate2 .ensures)
 
   put-ring-requires : lts.Need-put-ring-requires claims (at t) reads.Post
   put-ring-requires c κs =

@@ -2,7 +2,7 @@ use Prim.Native.Nat.{_-_}
 use mathlib.Core.List.{[]}
 use lib.ListN.{take, drop}
 use Rattle.lists.proofs.Writing.{Copying, copy-begins, copy-ends}
-use Rattle.lists.proofs.Rows.{part-turns, length-part}
+use Rattle.lists.proofs.Copies.{part-turns, length-part}
 use borrow.Author.Needs.{needs}
 use native.Mathlib.Omega.{arith}
 use Rattle.folding.proofs.copied.Statement.{statement}
