@@ -15,7 +15,7 @@ use Rattle.mesh.proofs.Corners.{isCorner}
 use Rattle.grouping.specs.Push.{Placed}
 use Rattle.grouping.proofs.Placing.{placed-both}
 use Rattle.folding.specs.Folding.{folded, firstOf, mateOf, firstIn, secondIn, between, around, ringPieces}
-use Rattle.folding.specs.Rows.{Room, Cut, FirstPair}
+use Rattle.folding.specs.Working.{Room, Cut, FirstPair}
 use Rattle.folding.proofs.Search.{folded-found, folded-missing, folded-pair}
 use Rattle.folding.proofs.Pieces.{ring-cut, ring-sane}
 use Rattle.folding.proofs.Placing.{took}

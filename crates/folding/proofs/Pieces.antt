@@ -57,12 +57,19 @@ sane-same r e h = record {
 
 -- ---- a triangle
 
-pub triangle-sane : (t : Ring) → 3 ≤ length t → Sane t (trianglePieces t)
+pub triangle-goes : (t : Ring) → folded t ≡ true → trianglePieces t ≡ []
 unfolding trianglePieces
+triangle-goes t e = rw (e, trianglePieces)
+
+pub triangle-stays : (t : Ring) → folded t ≡ false → trianglePieces t ≡ t ∷ []
+unfolding trianglePieces
+triangle-stays t e = rw (e, trianglePieces)
+
+pub triangle-sane : (t : Ring) → 3 ≤ length t → Sane t (trianglePieces t)
 triangle-sane t h =
     by-cases (folded t)
-    (λ e. rw (e, trianglePieces) (sane-none t))
-    (λ e. rw (e, trianglePieces) (sane-same t e h))
+    (λ e. rw (triangle-goes t e) (sane-none t))
+    (λ e. rw (triangle-stays t e) (sane-same t e h))
 
 -- ---- a larger face
 
@@ -126,6 +133,11 @@ unfolding ringPieces
 ring-cut r e = ap (only isFace) (split-cut r e) ∙ only-append isFace (split (one r)) (split (two r))
 
 -- ---- a quadrangle
+
+-- by the answer on it
+pub quadrangle-left : (q : Ring) (f : Fold) → f ≡ foldOf q → quadranglePieces q ≡ left f q
+unfolding quadranglePieces
+quadrangle-left q f e = rw e
 
 -- two corners have positions of their own
 abbrev Apart : Corner → Corner → Type 0

@@ -23,7 +23,7 @@ use Rattle.lists.proofs.Copies.{front-turns, sets-whole, take-written, length-p
 use Rattle.mesh.specs.Mesh.{Corner, Ring, position}
 use Rattle.mesh.proofs.Corners.{isCorner, length-corners}
 use Rattle.folding.specs.Folding.{between, around}
-use Rattle.folding.specs.Rows.{Cut}
+use Rattle.folding.specs.Working.{Cut}
 
 -- the corners of a row that is owned are three numbers each
 pub row-threes : (xs : Ring) (us : List Val) → shadow (each (List ℕ) (Array (UInt w32) 3 .own) xs us) → every isCorner xs ≡ true

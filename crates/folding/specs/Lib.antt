@@ -1,2 +1,2 @@
 pub mod Folding
-pub mod Rows
+pub mod Working

@@ -10,9 +10,8 @@ ghost use mathlib.Core.Bool.{false};
 ghost use Rattle.lists.specs.Lists.{joined};
 ghost use Rattle.mesh.specs.Mesh.{position};
 ghost use Rattle.grouping.specs.Push.{Placed};
-ghost use Rattle.folding.specs.Rows.{Room, Cut, FirstPair};
+ghost use Rattle.folding.specs.Working.{Room, Cut, FirstPair};
 ghost use Rattle.folding.specs.Folding.{foldOf, withoutQ1, withoutQ3, mateOf, firstOf, folded, between, around, ringPieces};
-
 use grouping::Filled;
 
 // What becomes of a quadrangle q0..q3.

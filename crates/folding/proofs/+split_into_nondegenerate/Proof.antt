@@ -8,7 +8,7 @@ use mathlib.Core.Path.{_≡_}
 use lib.ListN.{length}
 use borrow.Fn.Kinds.{In}
 use borrow.Fn.PlainCycle.{Measures, is, falls, and}
-use Rattle.folding.specs.Rows.{Cut}
+use Rattle.folding.specs.Working.{Cut}
 use Rattle.folding.proofs.Rows.{row-threes}
 use Rattle.folding.proofs.Cutting.{not-folded, cut, cut-placed, room-one, room-two}
 use Rattle.folding.proofs.split_into_nondegenerate.Reads as reads
