@@ -7,11 +7,12 @@ ghost use mathlib.Core.Path.{_≡_};
 ghost use mathlib.Core.List.{List, [], _∷_, _++_, map};
 ghost use Prim.Native.Nat.{ℕ, _+_, _*_, _-_, _<_, _≤_};
 ghost use lib.ListN.{length, getD, take, drop};
-ghost use Rattle.mesh.specs.Mesh.{position, threes};
+ghost use Rattle.lists.specs.Lists.{each};
+ghost use Rattle.mesh.specs.Mesh.{position, threes, rings};
 ghost use Rattle.grouping.specs.Push.{Placed};
 ghost use Rattle.folding.specs.Folding.{folded, trianglePieces, quadranglePieces, ringPieces, pieces};
 ghost use Rattle.folded.specs.Folded as want;
-ghost use Rattle.folded.specs.Working.{Face};
+ghost use Rattle.folded.specs.Working.{Face, Ready};
 use folding::Fold;
 use grouping::Filled;
 
@@ -150,4 +151,25 @@ fn face_pieces(face: &[u32], n: usize, out: &mut [u32], lens: &mut [u32], at: Fi
         return quadrangle_pieces(face, out, lens, at);
     }
     ring_pieces(face, n, out, lens, at)
+}
+
+// One pass over the faces: the pieces of each go to the lists, in the order they come.
+fn all_pieces(corners: &[u32], sizes: &[u32], out: &mut [u32], lens: &mut [u32]) -> Filled
+    requires { ⌜ Ready (now corners) (now sizes) (now out) (now lens) ⌝ }
+    ensures { λ r. ⌜ Placed (each pieces (rings (now (sizes .entry)) (now (corners .entry)))) (now (out .entry)) (now (out .exit)) (now (lens .entry)) (now (lens .exit)) 0 0 (r .corners) (r .faces) ⌝ }
+{
+    let mut to = Filled {
+        corners: 0,
+        faces: 0,
+    };
+    let mut from: usize = 0;
+    let mut k: usize = 0;
+    while k < sizes.len() {
+        let face = mesh::face_at(corners, sizes, k, from);
+        let n = sizes[k] as usize;
+        to = face_pieces(face, n, out, lens, to);
+        from += n;
+        k += 1;
+    }
+    to
 }
