@@ -1,3 +1,4 @@
 pub mod Flat
 pub mod OneFace
 pub mod Passing
+pub mod Result
