@@ -2,3 +2,4 @@ pub mod Flat
 pub mod OneFace
 pub mod Passing
 pub mod Result
+pub mod Accepted
