@@ -1,0 +1,4 @@
+pub mod Places
+pub mod Uses
+pub mod Entries
+pub mod Turn

@@ -1,0 +1,108 @@
+-- The indices of a column in the order of their first use. Assumes nothing.
+use mathlib.Core.Path.{_≡_, refl, sym, ap, _∙_}
+use mathlib.Core.Bool.{Bool, true, false, cond, not, _&&_, _||_}
+use mathlib.Core.List.{List, [], _∷_, _++_, map, append-nil}
+use Prim.Native.Nat.{ℕ, zero, suc, _+_, _≤_, _<_}
+use native.Mathlib.Omega.{arith}
+use lib.ListN.{length, getD}
+use lib.Dec.{ltb, eqb, leb}
+use borrow.Author.Tests.{eqb-true, eqb-false, eq-eqb, ne-eqb, not-true, lt-ltb, leb-false}
+use Rattle.lists.specs.Lists.{some, every, only, has}
+use Rattle.lists.specs.Distinct.{others, distinct}
+use Rattle.lists.proofs.Bools.{by-cases, true-false, and-both, and-left, and-right, and-false-right, or-false-left, or-false-right}
+use Rattle.lists.proofs.Distinct.{eqb-self, eqb-flip, only-append, only-only, only-same, only-all, every-only, has-every, has-only, distinct-only, distinct-few}
+use Rattle.mesh.specs.Mesh.{missing}
+use Rattle.mesh.specs.Table.{beyondUnlessMissing}
+use Rattle.compaction.specs.Compaction.{firstUse, firstUses, place, renumber}
+
+-- an index that is missing, and one that is not
+uses-missing : (i : ℕ) (l : List ℕ) → eqb i missing ≡ true → firstUses (i ∷ l) ≡ firstUses l
+unfolding firstUses
+uses-missing i l e = rw e
+
+uses-present : (i : ℕ) (l : List ℕ) → eqb i missing ≡ false → firstUses (i ∷ l) ≡ i ∷ others i (firstUses l)
+unfolding firstUses
+uses-present i l e = rw e
+
+-- what is used: what stands in the column and is not missing
+pub has-uses : (x : ℕ) (l : List ℕ) → has x (firstUses l) ≡ (not (eqb x missing) && has x l)
+unfolding firstUses
+has-uses x [] = sym (and-false-right (not (eqb x missing)) false refl)
+has-uses x (i ∷ l) =
+    let h : has x (firstUses l) ≡ (not (eqb x missing) && has x l) = has-uses x l in
+    by-cases (eqb i missing)
+    (λ m.
+    ap (has x) (uses-missing i l m) ∙ h
+    ∙ by-cases (eqb x i)
+    (λ e. let n : eqb x missing ≡ true = ap (λ (j : ℕ). eqb j missing) (eqb-true x i e) ∙ m in rw n)
+    (λ e. rw e))
+    (λ m.
+    ap (has x) (uses-present i l m)
+    ∙ by-cases (eqb x i)
+    (λ e. let n : eqb x missing ≡ false = ap (λ (j : ℕ). eqb j missing) (eqb-true x i e) ∙ m in rw (e, n))
+    (λ e. rw (e, has-only (λ (j : ℕ). not (eqb i j)) x (firstUses l), eqb-flip i x, e) h))
+
+-- none stands twice
+pub uses-distinct : (l : List ℕ) → distinct (firstUses l) ≡ true
+unfolding firstUses distinct
+uses-distinct [] = refl
+uses-distinct (i ∷ l) =
+    by-cases (eqb i missing)
+    (λ m. rw (uses-missing i l m) (uses-distinct l))
+    (λ m.
+    rw (uses-present i l m)
+    (and-both (not (has i (others i (firstUses l)))) (distinct (others i (firstUses l)))
+    (rw (has-only (λ (j : ℕ). not (eqb i j)) i (firstUses l), eqb-self i))
+    (distinct-only (λ (j : ℕ). not (eqb i j)) (firstUses l) (uses-distinct l))))
+
+-- the uses of one list and then another: behind the first's, those of the other that are new
+new-behind : (i : ℕ) (us : List ℕ) (j : ℕ) → (not (eqb i j) && not (has j us)) ≡ not (has j (i ∷ others i us))
+new-behind i us j =
+    by-cases (eqb j i)
+    (λ e. rw (eqb-flip i j, e))
+    (λ e. rw (eqb-flip i j, e, has-only (λ (y : ℕ). not (eqb i y)) j us, eqb-flip i j, e))
+
+pub uses-append : (a b : List ℕ) → firstUses (a ++ b) ≡ firstUses a ++ only (λ (j : ℕ). not (has j (firstUses a))) (firstUses b)
+unfolding firstUses
+uses-append [] b = sym (only-all (λ (j : ℕ). true) (firstUses b) (has-every (λ (j : ℕ). true) (firstUses b) (λ x h. refl)))
+uses-append (i ∷ a) b =
+    let h : firstUses (a ++ b) ≡ firstUses a ++ only (λ (j : ℕ). not (has j (firstUses a))) (firstUses b) = uses-append a b in
+    by-cases (eqb i missing)
+    (λ m. rw m h)
+    (λ m.
+    uses-present i (a ++ b) m ∙ ap (λ (l : List ℕ). i ∷ others i l) h
+    ∙ ap (λ (l : List ℕ). i ∷ l)
+    (only-append (λ (j : ℕ). not (eqb i j)) (firstUses a) (only (λ (j : ℕ). not (has j (firstUses a))) (firstUses b))
+    ∙ ap (λ (l : List ℕ). others i (firstUses a) ++ l)
+    (only-only (λ (j : ℕ). not (eqb i j)) (λ (j : ℕ). not (has j (firstUses a))) (firstUses b)
+    ∙ only-same (λ (j : ℕ). not (eqb i j) && not (has j (firstUses a))) (λ (j : ℕ). not (has j (i ∷ others i (firstUses a)))) (firstUses b) (new-behind i (firstUses a))))
+    ∙ sym (ap (λ (us : List ℕ). us ++ only (λ (j : ℕ). not (has j us)) (firstUses b)) (uses-present i a m)))
+
+-- one index more: a missing one changes nothing, nor does one that was used; any other comes to stand behind all
+module _ (l : List ℕ) (i : ℕ) where
+  pub uses-more-missing : eqb i missing ≡ true → firstUses (l ++ (i ∷ [])) ≡ firstUses l
+  unfolding firstUses
+  uses-more-missing m = uses-append l (i ∷ []) ∙ rw m (append-nil (firstUses l))
+
+  pub uses-more-old : eqb i missing ≡ false → has i (firstUses l) ≡ true → firstUses (l ++ (i ∷ [])) ≡ firstUses l
+  unfolding firstUses
+  uses-more-old m h = uses-append l (i ∷ []) ∙ rw (m, h) (append-nil (firstUses l))
+
+  pub uses-more-new : eqb i missing ≡ false → has i (firstUses l) ≡ false → firstUses (l ++ (i ∷ [])) ≡ firstUses l ++ (i ∷ [])
+  unfolding firstUses
+  uses-more-new m h = uses-append l (i ∷ []) ∙ rw (m, h)
+
+-- where each index is missing or below the count, the uses are below it, and no more than it
+pub uses-below : (n : ℕ) (l : List ℕ) → some (beyondUnlessMissing n) l ≡ false → every (λ (x : ℕ). ltb x n) (firstUses l) ≡ true
+unfolding firstUses
+uses-below n [] h = refl
+uses-below n (i ∷ l) h =
+    let g : every (λ (x : ℕ). ltb x n) (firstUses l) ≡ true = uses-below n l (or-false-right (beyondUnlessMissing n i) (some (beyondUnlessMissing n) l) h) in
+    by-cases (eqb i missing)
+    (λ m. rw m g)
+    (λ m.
+    let b : leb n i ≡ false = rw m at (or-false-left (beyondUnlessMissing n i) (some (beyondUnlessMissing n) l) h) in
+    rw m (and-both (ltb i n) (every (λ (x : ℕ). ltb x n) (others i (firstUses l))) (lt-ltb i n (leb-false n i b)) (every-only (λ (x : ℕ). ltb x n) (λ (j : ℕ). not (eqb i j)) (firstUses l) g)))
+
+pub uses-few : (n : ℕ) (l : List ℕ) → some (beyondUnlessMissing n) l ≡ false → length (firstUses l) ≤ n
+uses-few n l h = distinct-few n (firstUses l) (uses-distinct l) (uses-below n l h)

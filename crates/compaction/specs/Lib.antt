@@ -1,0 +1,2 @@
+pub mod Compaction
+pub mod Working
