@@ -64,36 +64,38 @@ some-take p l k h =
     or-false-left (some p (take k l)) (some p (drop k l))
     (sym (some-append p (take k l) (drop k l)) ∙ ap (some p) (take-append-drop k l) ∙ h)
 
--- ---- the index that corner k has in column q
+-- ---- the entries that the first corners use
 
-module _ (attrs : List Float) (w : ℕ) (cs : List ℕ) (k q : ℕ) (p : Pointed attrs w cs q) (h : 3 * k + 3 ≤ length cs) where
-  there : k < length cs / 3
-  there = omega arith
-
-  -- one that is not missing is below the count
-  index-below : eqb (getD cs (3 * k + q) 0) missing ≡ false → getD cs (3 * k + q) 0 < p .count
-  index-below m =
-      let i = getD cs (3 * k + q) 0 in
-      let l : k < length (column q cs) = rw (length-column q cs) there in
-      let e : beyondUnlessMissing (p .count) i ≡ false =
-      ap (beyondUnlessMissing (p .count)) (sym (getD-column q cs k (p .is-column) there))
-      ∙ some-false-at (beyondUnlessMissing (p .count)) 0 (column q cs) k (p .within) l in
-      leb-false (p .count) i (rw m at e)
+module _ (attrs : List Float) (w : ℕ) (cs : List ℕ) (q : ℕ) (p : Pointed attrs w cs q) where
+  early : (n : ℕ) → some (beyondUnlessMissing (p .count)) (take n (column q cs)) ≡ false
+  early n = some-take (beyondUnlessMissing (p .count)) (column q cs) n (p .within)
 
   -- no more are used than there are
-  uses-within : (n : ℕ) → length (usesTo q cs n) ≤ p .count
-  uses-within n = uses-few (p .count) (take n (column q cs)) (some-take (beyondUnlessMissing (p .count)) (column q cs) n (p .within))
+  pub uses-within : (n : ℕ) → length (usesTo q cs n) ≤ p .count
+  uses-within n = uses-few (p .count) (take n (column q cs)) (early n)
 
+  -- and each is w numbers
   length-used : (n : ℕ) → length (entries w attrs (usesTo q cs n)) ≡ length (usesTo q cs n) * w
-  length-used n =
-      length-entries attrs w (p .count) (usesTo q cs n) (p .whole)
-      (uses-below (p .count) (take n (column q cs)) (some-take (beyondUnlessMissing (p .count)) (column q cs) n (p .within)))
+  length-used n = length-entries attrs w (p .count) (usesTo q cs n) (p .whole) (uses-below (p .count) (take n (column q cs)) (early n))
+
+  -- an index that is not missing is below the count
+  index-below : (k : ℕ) → k < length cs / 3 → eqb (getD cs (3 * k + q) 0) missing ≡ false → getD cs (3 * k + q) 0 < p .count
+  index-below k h m =
+      let i = getD cs (3 * k + q) 0 in
+      let l : k < length (column q cs) = rw (length-column q cs) h in
+      let e : beyondUnlessMissing (p .count) i ≡ false =
+      ap (beyondUnlessMissing (p .count)) (sym (getD-column q cs k (p .is-column) h))
+      ∙ some-false-at (beyondUnlessMissing (p .count)) 0 (column q cs) k (p .within) l in
+      leb-false (p .count) i (rw m at e)
 
 -- ---- a turn
 
 module _ (attrs : List Float) (w : ℕ) (cs : List ℕ) (k q : ℕ) (old2new : List ℕ) (used : ℕ) (fresh : List Float) (out : List ℕ) (b : Before attrs w cs k q old2new used fresh out) where
+  there : k < length cs / 3
+  there = omega (arith, b .corner)
+
   uses-are : usesTo q cs (k + 1) ≡ firstUses (take k (column q cs) ++ (getD cs (3 * k + q) 0 ∷ []))
-  uses-are = ap firstUses (column-more q cs k (b .pointed .is-column) (there attrs w cs k q (b .pointed) (b .corner)))
+  uses-are = ap firstUses (column-more q cs k (b .pointed .is-column) there)
 
   -- nothing changes but the corner
   unchanged : (n : ℕ) → usesTo q cs (k + 1) ≡ usesTo q cs k → n ≡ renumber (firstUses (column q cs)) (getD cs (3 * k + q) 0) → Taken attrs w cs k q old2new used fresh fresh out (set out (3 * k + q) n)
@@ -117,7 +119,7 @@ module _ (attrs : List Float) (w : ℕ) (cs : List ℕ) (k q : ℕ) (old2new : L
     present = ne-eqb (getD cs (3 * k + q) 0) missing pr
 
     pub index-few : getD cs (3 * k + q) 0 < 2048
-    index-few = omega (arith, index-below attrs w cs k q (b .pointed) (b .corner) present, b .pointed .few)
+    index-few = omega (arith, index-below attrs w cs q (b .pointed) k there present, b .pointed .few)
 
     found : getD old2new (getD cs (3 * k + q) 0) 0 ≡ cond (has (getD cs (3 * k + q) 0) (usesTo q cs k)) (place (usesTo q cs k) (getD cs (3 * k + q) 0)) missing
     found = b .tables .mapped (getD cs (3 * k + q) 0) index-few
@@ -141,7 +143,7 @@ module _ (attrs : List Float) (w : ℕ) (cs : List ℕ) (k q : ℕ) (old2new : L
           (λ o.
           let e : missing ≡ place (usesTo q cs k) (getD cs (3 * k + q) 0) = sym f ∙ found ∙ rw o in
           let l : place (usesTo q cs k) (getD cs (3 * k + q) 0) < length (usesTo q cs k) = place-below (usesTo q cs k) (getD cs (3 * k + q) 0) o in
-          let n : length (usesTo q cs k) ≤ b .pointed .count = uses-within attrs w cs k q (b .pointed) (b .corner) k in
+          let n : length (usesTo q cs k) ≤ b .pointed .count = uses-within attrs w cs q (b .pointed) k in
           absurd (omega (arith, b .pointed .few)))
           (λ o. o)
 
@@ -153,10 +155,10 @@ module _ (attrs : List Float) (w : ℕ) (cs : List ℕ) (k q : ℕ) (old2new : L
 
       -- there is room for its entry, in the old list and in the new
       pub used-few : used < b .pointed .count
-      used-few = omega (arith, one-more, uses-within attrs w cs k q (b .pointed) (b .corner) (k + 1))
+      used-few = omega (arith, one-more, uses-within attrs w cs q (b .pointed) (k + 1))
 
       pub entry-old : getD cs (3 * k + q) 0 * w + w ≤ length attrs
-      entry-old = entry-within attrs w (b .pointed .count) (getD cs (3 * k + q) 0) (index-below attrs w cs k q (b .pointed) (b .corner) present) (b .pointed .whole)
+      entry-old = entry-within attrs w (b .pointed .count) (getD cs (3 * k + q) 0) (index-below attrs w cs q (b .pointed) k there present) (b .pointed .whole)
 
       pub entry-new : used * w + w ≤ length fresh
       entry-new = omega (arith, entry-within attrs w (b .pointed .count) used used-few (b .pointed .whole), b .room)
@@ -185,7 +187,7 @@ module _ (attrs : List Float) (w : ℕ) (cs : List ℕ) (k q : ℕ) (old2new : L
       turn-new =
           let us = usesTo q cs k in
           let i = getD cs (3 * k + q) 0 in
-          let n : length (entries w attrs us) ≡ used * w = length-used attrs w cs k q (b .pointed) (b .corner) k ∙ ap (λ (j : ℕ). j * w) (sym (b .tables .counted)) in
+          let n : length (entries w attrs us) ≡ used * w = length-used attrs w cs q (b .pointed) k ∙ ap (λ (j : ℕ). j * w) (sym (b .tables .counted)) in
           record {
             tables = record { counted = sym one-more; wide = length-set old2new i used ∙ b .tables .wide; mapped = remapped };
             grown = λ l e.
