@@ -48,7 +48,7 @@ module _ {attrs : List Float} {w : ℕ} {cs : List ℕ} {q k : ℕ} {fresh₀ fr
 
   -- few enough for the type of a count
   pub column-few : Pointed attrs w cs q → used ≤ 2048
-  column-few p = omega (arith, c .tables .counted, uses-within attrs w cs q p k, p .few)
+  column-few p = omega (arith, c .tables .counted, uses-within p k, p .few)
 
   -- where all are read
   all-read : length cs / 3 ≤ k → usesTo q cs k ≡ firstUses (column q cs)

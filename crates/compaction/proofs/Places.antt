@@ -9,9 +9,9 @@ use lib.ListN.{length, getD}
 use lib.Dec.{eqb}
 use borrow.Author.Tests.{eqb-true, eqb-false, eq-eqb, ne-eqb, not-true}
 use Rattle.lists.specs.Lists.{has, span}
-use Rattle.lists.specs.Distinct.{distinct}
 use Rattle.lists.proofs.Bools.{by-cases, true-false, and-left, and-right, or-right, or-false-left, or-false-right}
-use Rattle.lists.proofs.Distinct.{eqb-self, eqb-flip}
+use Rattle.lists.proofs.Members.{Once}
+use Rattle.lists.proofs.Others.{eqb-self, eqb-flip, once-head, once-tail}
 use Rattle.compaction.specs.Compaction.{place}
 
 module _ (u : ℕ) (us : List ℕ) (i : ℕ) where
@@ -65,14 +65,13 @@ has-getD [] k h = absurd (not-suc-le-zero h)
 has-getD (u ∷ us) zero h = rw (eqb-self u)
 has-getD (u ∷ us) (suc k) h = or-right (eqb (getD us k 0) u) (has (getD us k 0) us) (has-getD us k (le-of-suc-le-suc h))
 
--- where none stands twice, the place of what stands at k is k
-pub place-getD : (us : List ℕ) (k : ℕ) → distinct us ≡ true → k < length us → place us (getD us k 0) ≡ k
-unfolding distinct
-place-getD [] k d h = absurd (not-suc-le-zero h)
-place-getD (u ∷ us) zero d h = place-here u us u (eqb-self u)
-place-getD (u ∷ us) (suc k) d h =
+-- where each stands at most once, the place of what stands at k is k
+pub place-getD : (us : List ℕ) (k : ℕ) → Once us → k < length us → place us (getD us k 0) ≡ k
+place-getD [] k o h = absurd (not-suc-le-zero h)
+place-getD (u ∷ us) zero o h = place-here u us u (eqb-self u)
+place-getD (u ∷ us) (suc k) o h =
     let l : k < length us = le-of-suc-le-suc h in
-    let n : has u us ≡ false = not-true (has u us) (and-left (not (has u us)) (distinct us) d) in
-    by-cases (eqb (getD us k 0) u)
-    (λ e. true-false (sym (has-getD us k l) ∙ ap (λ (x : ℕ). has x us) (eqb-true (getD us k 0) u e) ∙ n))
-    (λ e. place-behind u us (getD us k 0) e ∙ ap suc (place-getD us k (and-right (not (has u us)) (distinct us) d) l))
+    by-cases
+    (eqb (getD us k 0) u)
+    (λ e. true-false (sym (has-getD us k l) ∙ ap (λ (x : ℕ). has x us) (eqb-true (getD us k 0) u e) ∙ once-head u us o))
+    (λ e. place-behind u us (getD us k 0) e ∙ ap suc (place-getD us k (once-tail u us o) l))

@@ -15,7 +15,8 @@ use Rattle.lists.specs.Lists.{some, has}
 use Rattle.lists.proofs.Bools.{by-cases, true-false, or-false-left, or-false-right}
 use Rattle.lists.proofs.Parts.{some-append, some-false-at}
 use Rattle.lists.proofs.Writing.{sets-append}
-use Rattle.lists.proofs.Distinct.{eqb-self, has-append}
+use Rattle.lists.proofs.Members.{has-snoc}
+use Rattle.lists.proofs.Others.{eqb-self}
 use Rattle.mesh.specs.Mesh.{Corner, missing, threes, cornerAt}
 use Rattle.mesh.specs.Table.{beyondUnlessMissing}
 use Rattle.mesh.proofs.Corners.{length-threes, getD-threes}
@@ -66,7 +67,7 @@ some-take p l k h =
 
 -- ---- the entries that the first corners use
 
-module _ (attrs : List Float) (w : ℕ) (cs : List ℕ) (q : ℕ) (p : Pointed attrs w cs q) where
+module _ {attrs : List Float} {w : ℕ} {cs : List ℕ} {q : ℕ} (p : Pointed attrs w cs q) where
   early : (n : ℕ) → some (beyondUnlessMissing (p .count)) (take n (column q cs)) ≡ false
   early n = some-take (beyondUnlessMissing (p .count)) (column q cs) n (p .within)
 
@@ -90,7 +91,7 @@ module _ (attrs : List Float) (w : ℕ) (cs : List ℕ) (q : ℕ) (p : Pointed a
 
 -- ---- a turn
 
-module _ (attrs : List Float) (w : ℕ) (cs : List ℕ) (k q : ℕ) (old2new : List ℕ) (used : ℕ) (fresh : List Float) (out : List ℕ) (b : Before attrs w cs k q old2new used fresh out) where
+module _ {attrs : List Float} {w : ℕ} {cs : List ℕ} {k q : ℕ} {old2new : List ℕ} {used : ℕ} {fresh : List Float} {out : List ℕ} (b : Before attrs w cs k q old2new used fresh out) where
   there : k < length cs / 3
   there = omega (arith, b .corner)
 
@@ -119,7 +120,7 @@ module _ (attrs : List Float) (w : ℕ) (cs : List ℕ) (k q : ℕ) (old2new : L
     present = ne-eqb (getD cs (3 * k + q) 0) missing pr
 
     pub index-few : getD cs (3 * k + q) 0 < 2048
-    index-few = omega (arith, index-below attrs w cs q (b .pointed) k there present, b .pointed .few)
+    index-few = omega (arith, index-below (b .pointed) k there present, b .pointed .few)
 
     found : getD old2new (getD cs (3 * k + q) 0) 0 ≡ cond (has (getD cs (3 * k + q) 0) (usesTo q cs k)) (place (usesTo q cs k) (getD cs (3 * k + q) 0)) missing
     found = b .tables .mapped (getD cs (3 * k + q) 0) index-few
@@ -143,7 +144,7 @@ module _ (attrs : List Float) (w : ℕ) (cs : List ℕ) (k q : ℕ) (old2new : L
           (λ o.
           let e : missing ≡ place (usesTo q cs k) (getD cs (3 * k + q) 0) = sym f ∙ found ∙ rw o in
           let l : place (usesTo q cs k) (getD cs (3 * k + q) 0) < length (usesTo q cs k) = place-below (usesTo q cs k) (getD cs (3 * k + q) 0) o in
-          let n : length (usesTo q cs k) ≤ b .pointed .count = uses-within attrs w cs q (b .pointed) k in
+          let n : length (usesTo q cs k) ≤ b .pointed .count = uses-within (b .pointed) k in
           absurd (omega (arith, b .pointed .few)))
           (λ o. o)
 
@@ -155,10 +156,10 @@ module _ (attrs : List Float) (w : ℕ) (cs : List ℕ) (k q : ℕ) (old2new : L
 
       -- there is room for its entry, in the old list and in the new
       pub used-few : used < b .pointed .count
-      used-few = omega (arith, one-more, uses-within attrs w cs q (b .pointed) (k + 1))
+      used-few = omega (arith, one-more, uses-within (b .pointed) (k + 1))
 
       pub entry-old : getD cs (3 * k + q) 0 * w + w ≤ length attrs
-      entry-old = entry-within attrs w (b .pointed .count) (getD cs (3 * k + q) 0) (index-below attrs w cs q (b .pointed) k there present) (b .pointed .whole)
+      entry-old = entry-within attrs w (b .pointed .count) (getD cs (3 * k + q) 0) (index-below (b .pointed) k there present) (b .pointed .whole)
 
       pub entry-new : used * w + w ≤ length fresh
       entry-new = omega (arith, entry-within attrs w (b .pointed .count) used used-few (b .pointed .whole), b .room)
@@ -168,14 +169,14 @@ module _ (attrs : List Float) (w : ℕ) (cs : List ℕ) (k q : ℕ) (old2new : L
       remapped y l =
           let us = usesTo q cs k in
           let i = getD cs (3 * k + q) 0 in
-          let t : has y (us ++ (i ∷ [])) ≡ (has y us || (eqb y i || false)) = has-append y us (i ∷ []) in
+          let t : has y (us ++ (i ∷ [])) ≡ (eqb y i || has y us) = has-snoc y i us in
           let g : (i < length old2new) = omega (arith, index-few, b .tables .wide) in
           by-cases (eqb y i)
           (λ e.
           let j : y ≡ i = eqb-true y i e in
           ap (λ (n : ℕ). getD (set old2new i used) n 0) j ∙ getD-set-same old2new i used 0 g
           ∙ b .tables .counted ∙ sym (place-new us i is-new)
-          ∙ rw (grows, t, e, ap (λ (n : ℕ). has n us) j ∙ is-new) (ap (place (us ++ (i ∷ []))) (sym j)))
+          ∙ rw (grows, t, e) (ap (place (us ++ (i ∷ []))) (sym j)))
           (λ e.
           getD-set-other old2new i y used 0 (eqb-false y i e) ∙ b .tables .mapped y l
           ∙ by-cases (has y us)
@@ -187,7 +188,7 @@ module _ (attrs : List Float) (w : ℕ) (cs : List ℕ) (k q : ℕ) (old2new : L
       turn-new =
           let us = usesTo q cs k in
           let i = getD cs (3 * k + q) 0 in
-          let n : length (entries w attrs us) ≡ used * w = length-used attrs w cs q (b .pointed) k ∙ ap (λ (j : ℕ). j * w) (sym (b .tables .counted)) in
+          let n : length (entries w attrs us) ≡ used * w = length-used (b .pointed) k ∙ ap (λ (j : ℕ). j * w) (sym (b .tables .counted)) in
           record {
             tables = record { counted = sym one-more; wide = length-set old2new i used ∙ b .tables .wide; mapped = remapped };
             grown = λ l e.
@@ -197,7 +198,7 @@ module _ (attrs : List Float) (w : ℕ) (cs : List ℕ) (k q : ℕ) (old2new : L
                 ∙ ap (sets l 0) (sym (entries-more attrs w us i))
                 ∙ ap (λ (t : List ℕ). sets l 0 (entries w attrs t)) (sym grows);
             numbered =
-                let o : has i (usesTo q cs (k + 1)) ≡ true = ap (has i) grows ∙ has-append i us (i ∷ []) ∙ rw (is-new, eqb-self i) in
+                let o : has i (usesTo q cs (k + 1)) ≡ true = ap (has i) grows ∙ has-snoc i i us ∙ rw (eqb-self i) in
                 ap (set out (3 * k + q)) (b .tables .counted ∙ sym (place-new us i is-new) ∙ ap (λ (t : List ℕ). place t i) (sym grows) ∙ sym (number-early (column q cs) (k + 1) i o) ∙ rw present);
           }
 

@@ -1,16 +1,17 @@
 -- The indices of a column in the order of their first use. Assumes nothing.
 use mathlib.Core.Path.{_≡_, refl, sym, ap, _∙_}
-use mathlib.Core.Bool.{Bool, true, false, cond, not, _&&_, _||_}
+use mathlib.Core.Bool.{Bool, true, false, cond, not, _&&_, _||_, and-true}
 use mathlib.Core.List.{List, [], _∷_, _++_, map, append-nil}
 use Prim.Native.Nat.{ℕ, zero, suc, _+_, _≤_, _<_}
 use native.Mathlib.Omega.{arith}
 use lib.ListN.{length, getD}
 use lib.Dec.{ltb, eqb, leb}
 use borrow.Author.Tests.{eqb-true, eqb-false, eq-eqb, ne-eqb, not-true, lt-ltb, leb-false}
-use Rattle.lists.specs.Lists.{some, every, only, has}
-use Rattle.lists.specs.Distinct.{others, distinct}
+use Rattle.lists.specs.Lists.{some, every, only, has, others}
 use Rattle.lists.proofs.Bools.{by-cases, true-false, and-both, and-left, and-right, and-false-right, or-false-left, or-false-right}
-use Rattle.lists.proofs.Distinct.{eqb-self, eqb-flip, only-append, only-only, only-same, only-all, every-only, has-every, has-only, distinct-only, distinct-few}
+use Rattle.lists.proofs.Only.{only-append, only-all, every-only}
+use Rattle.lists.proofs.Members.{Once}
+use Rattle.lists.proofs.Others.{eqb-self, eqb-flip, only-cong, only-only, has-only, has-every, once-others, once-few}
 use Rattle.mesh.specs.Mesh.{missing}
 use Rattle.mesh.specs.Table.{beyondUnlessMissing}
 use Rattle.compaction.specs.Compaction.{firstUse, firstUses, place, renumber}
@@ -42,41 +43,51 @@ has-uses x (i ∷ l) =
     (λ e. let n : eqb x missing ≡ false = ap (λ (j : ℕ). eqb j missing) (eqb-true x i e) ∙ m in rw (e, n))
     (λ e. rw (e, has-only (λ (j : ℕ). not (eqb i j)) x (firstUses l), eqb-flip i x, e) h))
 
--- none stands twice
-pub uses-distinct : (l : List ℕ) → distinct (firstUses l) ≡ true
-unfolding firstUses distinct
-uses-distinct [] = refl
-uses-distinct (i ∷ l) =
-    by-cases (eqb i missing)
-    (λ m. rw (uses-missing i l m) (uses-distinct l))
-    (λ m.
-    rw (uses-present i l m)
-    (and-both (not (has i (others i (firstUses l)))) (distinct (others i (firstUses l)))
-    (rw (has-only (λ (j : ℕ). not (eqb i j)) i (firstUses l), eqb-self i))
-    (distinct-only (λ (j : ℕ). not (eqb i j)) (firstUses l) (uses-distinct l))))
+-- each is used once
+pub uses-once : (l : List ℕ) → Once (firstUses l)
+unfolding firstUses
+uses-once [] = λ x. omega arith
+uses-once (i ∷ l) =
+    by-cases
+    (eqb i missing)
+    (λ m. rw (uses-missing i l m) (uses-once l))
+    (λ m. rw (uses-present i l m) (once-others i (firstUses l) (uses-once l)))
+
+-- ---- more of the column
+
+-- those of l that are new to us
+abbrev pub newTo : List ℕ → List ℕ → List ℕ
+newTo us l = only (λ (j : ℕ). not (has j us)) l
+
+new-behind : (i : ℕ) (us : List ℕ) (j : ℕ) → (not (has j us) && not (eqb i j)) ≡ not (has j (i ∷ others i us))
+new-behind i us j =
+    by-cases
+    (eqb j i)
+    (λ e. rw (eqb-flip i j, e) (and-false-right (not (has j us)) false refl))
+    (λ e. rw (e, has-only (λ (y : ℕ). not (eqb i y)) j us, eqb-flip i j, e) (and-true (not (has j us))))
+
+others-new : (i : ℕ) (us l : List ℕ) → others i (us ++ newTo us l) ≡ others i us ++ newTo (i ∷ others i us) l
+others-new i us l =
+    only-append (λ (j : ℕ). not (eqb i j)) us (newTo us l)
+    ∙ ap
+    (λ (k : List ℕ). others i us ++ k)
+    (only-only (λ (j : ℕ). not (eqb i j)) (λ (j : ℕ). not (has j us)) l
+    ∙ only-cong (λ (j : ℕ). not (has j us) && not (eqb i j)) (λ (j : ℕ). not (has j (i ∷ others i us))) (new-behind i us) l)
 
 -- the uses of one list and then another: behind the first's, those of the other that are new
-new-behind : (i : ℕ) (us : List ℕ) (j : ℕ) → (not (eqb i j) && not (has j us)) ≡ not (has j (i ∷ others i us))
-new-behind i us j =
-    by-cases (eqb j i)
-    (λ e. rw (eqb-flip i j, e))
-    (λ e. rw (eqb-flip i j, e, has-only (λ (y : ℕ). not (eqb i y)) j us, eqb-flip i j, e))
-
-pub uses-append : (a b : List ℕ) → firstUses (a ++ b) ≡ firstUses a ++ only (λ (j : ℕ). not (has j (firstUses a))) (firstUses b)
+pub uses-append : (a b : List ℕ) → firstUses (a ++ b) ≡ firstUses a ++ newTo (firstUses a) (firstUses b)
 unfolding firstUses
 uses-append [] b = sym (only-all (λ (j : ℕ). true) (firstUses b) (has-every (λ (j : ℕ). true) (firstUses b) (λ x h. refl)))
 uses-append (i ∷ a) b =
-    let h : firstUses (a ++ b) ≡ firstUses a ++ only (λ (j : ℕ). not (has j (firstUses a))) (firstUses b) = uses-append a b in
-    by-cases (eqb i missing)
+    let h : firstUses (a ++ b) ≡ firstUses a ++ newTo (firstUses a) (firstUses b) = uses-append a b in
+    by-cases
+    (eqb i missing)
     (λ m. rw m h)
     (λ m.
-    uses-present i (a ++ b) m ∙ ap (λ (l : List ℕ). i ∷ others i l) h
-    ∙ ap (λ (l : List ℕ). i ∷ l)
-    (only-append (λ (j : ℕ). not (eqb i j)) (firstUses a) (only (λ (j : ℕ). not (has j (firstUses a))) (firstUses b))
-    ∙ ap (λ (l : List ℕ). others i (firstUses a) ++ l)
-    (only-only (λ (j : ℕ). not (eqb i j)) (λ (j : ℕ). not (has j (firstUses a))) (firstUses b)
-    ∙ only-same (λ (j : ℕ). not (eqb i j) && not (has j (firstUses a))) (λ (j : ℕ). not (has j (i ∷ others i (firstUses a)))) (firstUses b) (new-behind i (firstUses a))))
-    ∙ sym (ap (λ (us : List ℕ). us ++ only (λ (j : ℕ). not (has j us)) (firstUses b)) (uses-present i a m)))
+    uses-present i (a ++ b) m
+    ∙ ap (λ (l : List ℕ). i ∷ others i l) h
+    ∙ ap (λ (l : List ℕ). i ∷ l) (others-new i (firstUses a) (firstUses b))
+    ∙ sym (ap (λ (us : List ℕ). us ++ newTo us (firstUses b)) (uses-present i a m)))
 
 -- one index more: a missing one changes nothing, nor does one that was used; any other comes to stand behind all
 module _ (l : List ℕ) (i : ℕ) where
@@ -102,7 +113,7 @@ uses-below n (i ∷ l) h =
     (λ m. rw m g)
     (λ m.
     let b : leb n i ≡ false = rw m at (or-false-left (beyondUnlessMissing n i) (some (beyondUnlessMissing n) l) h) in
-    rw m (and-both (ltb i n) (every (λ (x : ℕ). ltb x n) (others i (firstUses l))) (lt-ltb i n (leb-false n i b)) (every-only (λ (x : ℕ). ltb x n) (λ (j : ℕ). not (eqb i j)) (firstUses l) g)))
+    rw m (and-both (ltb i n) (every (λ (x : ℕ). ltb x n) (others i (firstUses l))) (lt-ltb i n (leb-false n i b)) (every-only (λ (j : ℕ). not (eqb i j)) (λ (x : ℕ). ltb x n) (firstUses l) g)))
 
 pub uses-few : (n : ℕ) (l : List ℕ) → some (beyondUnlessMissing n) l ≡ false → length (firstUses l) ≤ n
-uses-few n l h = distinct-few n (firstUses l) (uses-distinct l) (uses-below n l h)
+uses-few n l h = once-few n (firstUses l) (uses-once l) (uses-below n l h)

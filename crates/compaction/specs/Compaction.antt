@@ -7,8 +7,7 @@ use lib.ListN.{length, take, drop}
 use lib.Seq.{sets}
 use lib.Dec.{eqb}
 use lib.Ieee.{Float}
-use Rattle.lists.specs.Lists.{joined, each}
-use Rattle.lists.specs.Distinct.{others}
+use Rattle.lists.specs.Lists.{others, joined, each}
 use Rattle.mesh.specs.Mesh.{Mesh, meshOf, Corner, position, texture, normal, missing, threes, positionCount, textureCount, normalCount}
 use Rattle.mesh.specs.Table.{meshNumber, firstOf, when, lent, short, after}
 use Rattle.compaction.specs.declared.Compacted.{Compacted}

@@ -75,19 +75,20 @@ fn refused(number: u32) -> Compacted
     }
 }
 
-// One pass over the corners. Each column has its own map from old to new numbers and its own count of entries used.
+// One pass over the corners; `cs`, `ps`, `ts` and `ns` are lent for the new corners, positions, texture points and normals. Each
+// column has its own map from old to new numbers, and its own count of entries used.
 fn compact(
     positions: &[f64],
     textures: &[f64],
     normals: &[f64],
     corners: &[u32],
-    newcorners: &mut [u32],
-    newpositions: &mut [f64],
-    newtextures: &mut [f64],
-    newnormals: &mut [f64],
+    cs: &mut [u32],
+    ps: &mut [f64],
+    ts: &mut [f64],
+    ns: &mut [f64],
 ) -> Compacted
-    requires { ⌜ Ready (now positions) (now textures) (now normals) (now corners) (want.resultOf (now newcorners) (now newpositions) (now newtextures) (now newnormals)) ⌝ }
-    ensures { λ r. ⌜ Done (now (positions .entry)) (now (textures .entry)) (now (normals .entry)) (now (corners .entry)) (want.resultOf (now (newcorners .entry)) (now (newpositions .entry)) (now (newtextures .entry)) (now (newnormals .entry))) (want.resultOf (now (newcorners .exit)) (now (newpositions .exit)) (now (newtextures .exit)) (now (newnormals .exit))) r ⌝ }
+    requires { ⌜ Ready (now positions) (now textures) (now normals) (now corners) (want.resultOf (now cs) (now ps) (now ts) (now ns)) ⌝ }
+    ensures { λ r. ⌜ Done (now (positions .entry)) (now (textures .entry)) (now (normals .entry)) (now (corners .entry)) (want.resultOf (now (cs .entry)) (now (ps .entry)) (now (ts .entry)) (now (ns .entry))) (want.resultOf (now (cs .exit)) (now (ps .exit)) (now (ts .exit)) (now (ns .exit))) r ⌝ }
 {
     let count = corners.len() / 3;
     let mut pmap = [MISSING; 2048];
@@ -98,39 +99,9 @@ fn compact(
     let mut n: u32 = 0;
     let mut k: usize = 0;
     while k < count {
-        p = take_in(
-            positions,
-            3,
-            corners,
-            k,
-            0,
-            &mut pmap,
-            p,
-            newpositions,
-            newcorners,
-        );
-        t = take_in(
-            textures,
-            2,
-            corners,
-            k,
-            1,
-            &mut tmap,
-            t,
-            newtextures,
-            newcorners,
-        );
-        n = take_in(
-            normals,
-            3,
-            corners,
-            k,
-            2,
-            &mut nmap,
-            n,
-            newnormals,
-            newcorners,
-        );
+        p = take_in(positions, 3, corners, k, 0, &mut pmap, p, ps, cs);
+        t = take_in(textures, 2, corners, k, 1, &mut tmap, t, ts, cs);
+        n = take_in(normals, 3, corners, k, 2, &mut nmap, n, ns, cs);
         k += 1;
     }
     Compacted {

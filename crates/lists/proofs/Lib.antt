@@ -7,4 +7,4 @@ pub mod Numbers
 pub mod Parts
 pub mod Only
 pub mod Writing
-pub mod Distinct
+pub mod Others

@@ -1,8 +1,8 @@
 -- `compaction::compact` meets its contract: a turn takes each column of one corner in, and the loop keeps `Going` of proofs/Loop.antt. The
 -- measure is the number of corners left.
 use Prim.Native.Nat.{_/_, _-_}
-use mathlib.Core.Path.{_≡_, refl, sym, ap, _∙_}
-use lib.ListN.{length, length-set}
+use mathlib.Core.Path.{refl, _∙_}
+use lib.ListN.{length}
 use Rattle.compaction.specs.Compaction.{resultOf}
 use Rattle.compaction.proofs.Loop.{Going, going-begins, going-turns, going-ends, going-long, column-before, column-few, column-long}
 use borrow.Author.Needs.{needs}
@@ -11,10 +11,10 @@ use Rattle.compaction.proofs.compact.Statement.{statement}
 use Rattle.compaction.proofs.compact.Tie as tie
 
 abbrev Inv-loop : tie.InvT-loop
-Inv-loop positions textures normals corners newcorners₀ newpositions₀ newtextures₀ newnormals₀ count pmap₀ tmap₀ nmap₀ p₀ t₀ n₀ k₀ newcorners newpositions newtextures newnormals pmap tmap nmap p t n k = Going positions textures normals corners (resultOf newcorners₀ newpositions₀ newtextures₀ newnormals₀) (resultOf newcorners newpositions newtextures newnormals) pmap tmap nmap p t n k
+Inv-loop positions textures normals corners cs₀ ps₀ ts₀ ns₀ count pmap₀ tmap₀ nmap₀ p₀ t₀ n₀ k₀ cs ps ts ns pmap tmap nmap p t n k = Going positions textures normals corners (resultOf cs₀ ps₀ ts₀ ns₀) (resultOf cs ps ts ns) pmap tmap nmap p t n k
 
 abbrev μ-loop : tie.MeasureT-loop
-μ-loop positions textures normals corners newcorners₀ newpositions₀ newtextures₀ newnormals₀ count pmap₀ tmap₀ nmap₀ p₀ t₀ n₀ k₀ newcorners newpositions newtextures newnormals pmap tmap nmap p t n k = length corners / 3 - k
+μ-loop positions textures normals corners cs₀ ps₀ ts₀ ns₀ count pmap₀ tmap₀ nmap₀ p₀ t₀ n₀ k₀ cs ps ts ns pmap tmap nmap p t n k = length corners / 3 - k
 
 loop-holds : tie.Need-loop-holds Inv-loop μ-loop
 loop-holds c = going-begins _ _ _ _ _
@@ -23,37 +23,70 @@ slice-aggregate-take-in : tie.Need-slice-aggregate-take-in Inv-loop μ-loop
 slice-aggregate-take-in c = search needs
 
 take-in-requires : tie.Need-take-in-requires Inv-loop μ-loop
-take-in-requires c κs = column-before (c .before .before .before .before .loop .inv .positions) (c .before .before .before .before .before .before .before .before .before .before .before .before .before .args .newcorners .now) _ (c .before .before .before .before .before .before .before .before .before .before .before .before .before .pre .positions) (c .before .before .before .loop-test .taken) (c .before .before .before .before .before .before .before .before .before .before .before .before .before .pre .position-room) (c .before .before .before .before .before .before .before .before .before .before .before .before .before .pre .corner-room) (going-long (c .before .before .before .before .loop .inv))
+take-in-requires c κs =
+    let turn = c .before .before .before in
+    let start = turn .before .before .before .before .before .before .before .before .before .before in
+    column-before (turn .before .loop .inv .positions) (start .args .cs .now) _
+    (start .pre .positions) (turn .loop-test .taken) (start .pre .position-room) (start .pre .corner-room)
+    (going-long (turn .before .loop .inv))
 
 slice-aggregate-take-in-2 : tie.Need-slice-aggregate-take-in-2 Inv-loop μ-loop
 slice-aggregate-take-in-2 c = search needs
 
 take-in-requires-2 : tie.Need-take-in-requires-2 Inv-loop μ-loop
-take-in-requires-2 c κs = column-before (c .before .before .before .before .before .before .before .before .before .before .before .before .before .loop .inv .textures) (c .before .before .before .before .before .before .before .before .before .before .before .before .before .before .before .before .before .before .before .before .before .before .args .newcorners .now) _ (c .before .before .before .before .before .before .before .before .before .before .before .before .before .before .before .before .before .before .before .before .before .before .pre .textures) (c .before .before .before .before .before .before .before .before .before .before .before .before .loop-test .taken) (c .before .before .before .before .before .before .before .before .before .before .before .before .before .before .before .before .before .before .before .before .before .before .pre .texture-room) (c .before .before .before .before .before .before .before .before .before .before .before .before .before .before .before .before .before .before .before .before .before .before .pre .corner-room) (c .before .before .before .before .before .before .before .before .take-in .kept .1 .1 .1 .1 .1 .1 .1 .1 .0 ∙ going-long (c .before .before .before .before .before .before .before .before .before .before .before .before .before .loop .inv))
+take-in-requires-2 c κs =
+    let first = c .before .before .before .before .before .before .before .before in
+    let turn = first .before .before .before .before in
+    let start = turn .before .before .before .before .before .before .before .before .before .before in
+    column-before (turn .before .loop .inv .textures) (start .args .cs .now) _
+    (start .pre .textures) (turn .loop-test .taken) (start .pre .texture-room) (start .pre .corner-room)
+    (first .take-in .kept .1 .1 .1 .1 .1 .1 .1 .1 .0 ∙ going-long (turn .before .loop .inv))
 
 slice-aggregate-take-in-3 : tie.Need-slice-aggregate-take-in-3 Inv-loop μ-loop
 slice-aggregate-take-in-3 c = search needs
 
 take-in-requires-3 : tie.Need-take-in-requires-3 Inv-loop μ-loop
-take-in-requires-3 c κs = column-before (c .before .before .before .before .before .before .before .before .before .before .before .before .before .before .before .before .before .before .before .before .before .before .loop .inv .normals) (c .before .before .before .before .before .before .before .before .before .before .before .before .before .before .before .before .before .before .before .before .before .before .before .before .before .before .before .before .before .before .before .args .newcorners .now) _ (c .before .before .before .before .before .before .before .before .before .before .before .before .before .before .before .before .before .before .before .before .before .before .before .before .before .before .before .before .before .before .before .pre .normals) (c .before .before .before .before .before .before .before .before .before .before .before .before .before .before .before .before .before .before .before .before .before .loop-test .taken) (c .before .before .before .before .before .before .before .before .before .before .before .before .before .before .before .before .before .before .before .before .before .before .before .before .before .before .before .before .before .before .before .pre .normal-room) (c .before .before .before .before .before .before .before .before .before .before .before .before .before .before .before .before .before .before .before .before .before .before .before .before .before .before .before .before .before .before .before .pre .corner-room) (c .before .before .before .before .before .before .before .before .take-in2 .kept .1 .1 .1 .1 .1 .1 .1 .1 .0 ∙ c .before .before .before .before .before .before .before .before .before .before .before .before .before .before .before .before .before .take-in .kept .1 .1 .1 .1 .1 .1 .1 .1 .0 ∙ going-long (c .before .before .before .before .before .before .before .before .before .before .before .before .before .before .before .before .before .before .before .before .before .before .loop .inv))
+take-in-requires-3 c κs =
+    let second = c .before .before .before .before .before .before .before .before in
+    let first = second .before .before .before .before .before .before .before .before .before in
+    let turn = first .before .before .before .before in
+    let start = turn .before .before .before .before .before .before .before .before .before .before in
+    column-before (turn .before .loop .inv .normals) (start .args .cs .now) _
+    (start .pre .normals) (turn .loop-test .taken) (start .pre .normal-room) (start .pre .corner-room)
+    (second .take-in2 .kept .1 .1 .1 .1 .1 .1 .1 .1 .0 ∙ first .take-in .kept .1 .1 .1 .1 .1 .1 .1 .1 .0 ∙ going-long (turn .before .loop .inv))
 
 add-k : tie.Need-add-k Inv-loop μ-loop
-add-k c = omega (arith, c .before .before .before .before .before .before .before .before .before .before .before .before .before .before .before .before .before .before .before .before .before .before .before .before .before .before .before .loop-test .taken, c .before .before .before .before .before .before .before .before .before .before .before .before .before .before .before .before .before .before .before .before .before .before .before .before .before .before .before .before .before .before .before .before .before .before .before .before .before .good .1 .1 .1 .0 .0)
+add-k c =
+    let turn = c .before .before .before .before .before .before .before .before .before .before .before .before .before .before .before .before .before .before .before .before .before .before .before .before .before .before .before in
+    let start = turn .before .before .before .before .before .before .before .before .before .before in
+    omega (arith, turn .loop-test .taken, start .good .1 .1 .1 .0 .0)
 
 loop-less : tie.Need-loop-less Inv-loop μ-loop
 loop-less c = search needs
 
 loop-again : tie.Need-loop-again Inv-loop μ-loop
-loop-again c = going-turns (c .before .before .before .before .before .before .before .before .before .before .before .before .before .before .before .before .before .before .before .before .before .before .before .before .before .before .before .before .loop .inv) _ _ _ _ _ _ _ _ _ (c .before .before .before .before .before .before .before .before .before .before .before .before .before .before .before .before .before .before .before .before .before .before .before .before .before .before .before .loop-test .taken) (c .before .before .before .before .before .before .before .before .before .before .before .before .before .before .before .before .before .before .before .before .before .before .before .take-in .ensures) (c .before .before .before .before .before .before .before .before .before .before .before .before .before .before .take-in2 .ensures) (c .before .before .before .before .before .take-in3 .ensures)
+loop-again c =
+    let third = c .before .before .before .before .before in
+    let second = third .before .before .before .before .before .before .before .before .before in
+    let first = second .before .before .before .before .before .before .before .before .before in
+    let turn = first .before .before .before .before in
+    going-turns (turn .before .loop .inv) _ _ _ _ _ _ _ _ _ (turn .loop-test .taken)
+    (first .take-in .ensures) (second .take-in2 .ensures) (third .take-in3 .ensures)
 
 cast-t17 : tie.Need-cast-t17 Inv-loop μ-loop
-cast-t17 c = omega (arith, column-few (c .before .loop .inv .positions) (c .before .before .before .before .before .before .before .before .before .before .pre .positions))
+cast-t17 c =
+    let start = c .before .before .before .before .before .before .before .before .before .before in
+    omega (arith, column-few (c .before .loop .inv .positions) (start .pre .positions))
 
 cast-t37 : tie.Need-cast-t37 Inv-loop μ-loop
-cast-t37 c = omega (arith, column-few (c .before .loop .inv .textures) (c .before .before .before .before .before .before .before .before .before .before .pre .textures))
+cast-t37 c =
+    let start = c .before .before .before .before .before .before .before .before .before .before in
+    omega (arith, column-few (c .before .loop .inv .textures) (start .pre .textures))
 
 cast-t38 : tie.Need-cast-t38 Inv-loop μ-loop
-cast-t38 c = omega (arith, column-few (c .before .loop .inv .normals) (c .before .before .before .before .before .before .before .before .before .before .pre .normals))
+cast-t38 c =
+    let start = c .before .before .before .before .before .before .before .before .before .before in
+    omega (arith, column-few (c .before .loop .inv .normals) (start .pre .normals))
 
 same-length : tie.Need-same-length Inv-loop μ-loop
 same-length c = going-long (c .before .loop .inv)
