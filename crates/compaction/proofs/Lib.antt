@@ -1,7 +1,9 @@
 pub mod Places
 pub mod Uses
 pub mod Entries
+pub mod Renumbering
 pub mod Turn
 pub mod Loop
 pub mod Accepting
 pub mod Answer
+pub mod Laws

@@ -17,11 +17,11 @@ use Rattle.mesh.specs.Table.{beyondUnlessMissing}
 use Rattle.compaction.specs.Compaction.{firstUse, firstUses, place, renumber}
 
 -- an index that is missing, and one that is not
-uses-missing : (i : ℕ) (l : List ℕ) → eqb i missing ≡ true → firstUses (i ∷ l) ≡ firstUses l
+pub uses-missing : (i : ℕ) (l : List ℕ) → eqb i missing ≡ true → firstUses (i ∷ l) ≡ firstUses l
 unfolding firstUses
 uses-missing i l e = rw e
 
-uses-present : (i : ℕ) (l : List ℕ) → eqb i missing ≡ false → firstUses (i ∷ l) ≡ i ∷ others i (firstUses l)
+pub uses-present : (i : ℕ) (l : List ℕ) → eqb i missing ≡ false → firstUses (i ∷ l) ≡ i ∷ others i (firstUses l)
 unfolding firstUses
 uses-present i l e = rw e
 
