@@ -7,3 +7,4 @@ pub mod Loop
 pub mod Accepting
 pub mod Answer
 pub mod Laws
+pub mod Examples
