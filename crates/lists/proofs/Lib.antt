@@ -10,3 +10,4 @@ pub mod Only
 pub mod Parts
 pub mod Seeking
 pub mod Writing
+pub mod Others
