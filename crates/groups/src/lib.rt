@@ -15,7 +15,7 @@ ghost use Rattle.lists.specs.Numbers.{countBelow};
 ghost use Rattle.floating.specs.Limits.{distant};
 ghost use Rattle.floating.specs.Cells.{beside};
 ghost use Rattle.groups.specs.Pairs.{pairs};
-ghost use Rattle.groups.specs.Engine.{cellsOf, besideAt, nearBy, Small, Points};
+ghost use Rattle.groups.specs.Engine.{cellsOf, besideAt, nearBy, fresh, Small, Points, Listed, Next, Starts, Walked};
 
 // ---- cells
 
@@ -93,4 +93,100 @@ pub fn count_pairs(cells: &[u64], w: usize, n: usize) -> usize
         j += 1;
     }
     found
+}
+
+// ---- the walk of a group
+
+// Point j is near point i, and not taken.
+fn is_fresh(
+    s: &[f64],
+    w: usize,
+    t: f64,
+    cells: &[u64],
+    n: usize,
+    seen: &[bool],
+    i: usize,
+    j: usize,
+) -> bool
+    requires { ⌜ (Listed w n (now s) (now cells)) × (i < n) × (j < n) × (n ≤ length (now seen)) ⌝ }
+    ensures { λ r. ⌜ r ≡ fresh t w (now (s .entry)) (now (cells .entry)) (now (seen .entry)) i j ⌝ }
+{
+    if !is_beside_at(cells, w, n, i, j) {
+        return false;
+    }
+    if seen[j] {
+        return false;
+    }
+    floating::distance2(w, floating::attr_at(s, w, i), floating::attr_at(s, w, j)) < t * t
+}
+
+// The highest point below `from` that is near i and not taken, as one more than its number; 0 where none from `low` on is.
+fn next_near(
+    s: &[f64],
+    w: usize,
+    t: f64,
+    cells: &[u64],
+    n: usize,
+    seen: &[bool],
+    i: usize,
+    low: usize,
+    from: usize,
+) -> usize
+    requires { ⌜ (Listed w n (now s) (now cells)) × (i < n) × (from ≤ n) × (n ≤ length (now seen)) ⌝ }
+    ensures { λ r. ⌜ Next (fresh t w (now (s .entry)) (now (cells .entry)) (now (seen .entry)) i) low from r ⌝ }
+{
+    let mut k = from;
+    while low < k {
+        if is_fresh(s, w, t, cells, n, seen, i, k - 1) {
+            return k;
+        }
+        k -= 1;
+    }
+    0
+}
+
+// The group of `start`, the lowest point left, is walked: its points go to `order` behind the `done` that are there, in walk order,
+// each with a flag in `seen`. Answers how many are taken then.
+//
+// The document's stack can hold far more entries than there are points. Here it is kept as frames: a point, and how many of its
+// near points, from the highest down, are still to be popped. Each frame's point is taken once, so there is room for all.
+pub fn create_component(
+    s: &[f64],
+    w: usize,
+    t: f64,
+    cells: &[u64],
+    n: usize,
+    start: usize,
+    done: usize,
+    order: &mut [usize],
+    seen: &mut [bool],
+    node: &mut [usize],
+    left: &mut [usize],
+) -> usize
+    requires { ⌜ Starts w n (now s) (now cells) (now order) (now seen) (now node) (now left) start done ⌝ }
+    ensures { λ r. ⌜ Walked (nearBy t w (now (s .entry)) (now (cells .entry))) n (now (order .entry)) start done (now (order .exit)) (now (seen .exit)) r ⌝ }
+{
+    order[done] = start;
+    seen[start] = true;
+    node[0] = start;
+    left[0] = n;
+    let mut taken = done + 1;
+    let mut depth: usize = 1;
+    while 0 < depth {
+        let top = depth - 1;
+        let next = next_near(s, w, t, cells, n, seen, node[top], start, left[top]);
+        if next == 0 {
+            depth = top;
+        } else {
+            let j = next - 1;
+            left[top] = j;
+            order[taken] = j;
+            seen[j] = true;
+            node[depth] = j;
+            left[depth] = n;
+            taken += 1;
+            depth += 1;
+        }
+    }
+    taken
 }
