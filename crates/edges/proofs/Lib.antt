@@ -1,0 +1,6 @@
+pub mod SameEdge
+pub mod Ascending
+pub mod HemUses
+pub mod OnlyHems
+pub mod Reordered
+pub mod Rings
