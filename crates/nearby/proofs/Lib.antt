@@ -5,3 +5,4 @@ pub mod Fresh
 pub mod Flags
 pub mod Frames
 pub mod Walking
+pub mod Laws

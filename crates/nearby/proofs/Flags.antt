@@ -15,8 +15,8 @@ use Rattle.lists.specs.Lists.{bump, some, has}
 use Rattle.lists.specs.Numbers.{countBelow}
 use Rattle.lists.proofs.Bools.{by-cases}
 use Rattle.lists.proofs.Parts.{some-append}
-use Rattle.groups.specs.Engine.{Taken}
-use Rattle.groups.proofs.Counting.{count-le}
+use Rattle.nearby.specs.Engine.{Taken}
+use Rattle.nearby.proofs.Counting.{count-le}
 
 -- ---- counting
 

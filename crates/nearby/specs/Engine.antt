@@ -11,7 +11,7 @@ use Rattle.lists.specs.Numbers.{countBelow}
 use Rattle.floating.specs.Points.{row}
 use Rattle.floating.specs.Cells.{cell, place, besides}
 use Rattle.floating.specs.Near.{below}
-use Rattle.groups.specs.Walk.{groupFrom}
+use Rattle.nearby.specs.Walk.{groupFrom}
 
 -- the cells of all coordinates
 unfoldable pub cellsOf : Float → List Float → List ℕ
@@ -70,7 +70,8 @@ pub record Starts (w n : ℕ) (s : List Float) (cells order : List ℕ) (seen : 
   pub new : getD seen start false ≡ false
   pub lowest : (k : ℕ) → k < start → getD seen k false ≡ true
 
--- what it leaves: r points are taken, those of the group behind those that were
+-- what it leaves: `end` points are taken, those of the group behind those that were, and all up to `start`
 pub record Walked (r : ℕ → ℕ → Bool) (n : ℕ) (order : List ℕ) (start done : ℕ) (order' : List ℕ) (seen' : List Bool) (end : ℕ) : Type 0 where
   pub taken : Taken n order' seen' end
+  pub lowest : (k : ℕ) → k ≤ start → getD seen' k false ≡ true
   pub list : take end order' ≡ take done order ++ groupFrom r n (take done order) start

@@ -4,10 +4,10 @@ use lib.ListN.{length}
 use denote.Ref.{now}
 use borrow.Author.Needs.{needs}
 use Rattle.lists.proofs.Writing.{Copying, copy-begins}
-use Rattle.groups.specs.Engine.{cellsOf}
-use Rattle.groups.proofs.Agree.{cells-turn, cells-end, cells-near}
-use Rattle.groups.proofs.fill_cells.Statement.{statement}
-use Rattle.groups.proofs.fill_cells.Tie as tie
+use Rattle.nearby.specs.Engine.{cellsOf}
+use Rattle.nearby.proofs.Agree.{cells-turn, cells-end, cells-near}
+use Rattle.nearby.proofs.fill_cells.Statement.{statement}
+use Rattle.nearby.proofs.fill_cells.Tie as tie
 
 abbrev Inv-loop : tie.InvT-loop
 Inv-loop s t cells₀ k₀ cells k = Copying (cellsOf t s) cells₀ cells 0 k

@@ -1,10 +1,10 @@
 use Prim.Native.Nat.{_-_}
 use native.Mathlib.Omega.{arith}
 use borrow.Author.Needs.{needs}
-use Rattle.groups.specs.Engine.{besideAt}
-use Rattle.groups.proofs.Counting.{Paired, paired-none, paired-more, paired-all}
-use Rattle.groups.proofs.count_pairs.Statement.{statement}
-use Rattle.groups.proofs.count_pairs.Tie as tie
+use Rattle.nearby.specs.Engine.{besideAt}
+use Rattle.nearby.proofs.Counting.{Paired, paired-none, paired-more, paired-all}
+use Rattle.nearby.proofs.count_pairs.Statement.{statement}
+use Rattle.nearby.proofs.count_pairs.Tie as tie
 
 abbrev Inv-loop : tie.InvT-loop
 Inv-loop cells w n found₀ j₀ found j = Paired (besideAt w cells) n found j

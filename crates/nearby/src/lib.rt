@@ -14,8 +14,8 @@ ghost use Rattle.lists.specs.Lists.{some};
 ghost use Rattle.lists.specs.Numbers.{countBelow};
 ghost use Rattle.floating.specs.Limits.{distant};
 ghost use Rattle.floating.specs.Cells.{beside};
-ghost use Rattle.groups.specs.Pairs.{pairs};
-ghost use Rattle.groups.specs.Engine.{cellsOf, besideAt, nearBy, fresh, Small, Points, Listed, Next, Starts, Walked};
+ghost use Rattle.nearby.specs.Pairs.{pairs};
+ghost use Rattle.nearby.specs.Engine.{cellsOf, besideAt, nearBy, fresh, Small, Points, Listed, Next, Starts, Walked};
 
 // ---- cells
 

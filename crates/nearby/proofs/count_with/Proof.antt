@@ -4,10 +4,10 @@ use Prim.Native.Nat.{ℕ, _-_, _+_}
 use native.Mathlib.Omega.{arith}
 use denote.Ref.{now}
 use borrow.Author.Needs.{needs}
-use Rattle.groups.specs.Engine.{besideAt}
-use Rattle.groups.proofs.Counting.{Counted, counted-none, counted-one, counted-not, counted-all}
-use Rattle.groups.proofs.count_with.Statement.{statement}
-use Rattle.groups.proofs.count_with.Tie as tie
+use Rattle.nearby.specs.Engine.{besideAt}
+use Rattle.nearby.proofs.Counting.{Counted, counted-none, counted-one, counted-not, counted-all}
+use Rattle.nearby.proofs.count_with.Statement.{statement}
+use Rattle.nearby.proofs.count_with.Tie as tie
 
 abbrev Inv-loop : tie.InvT-loop
 Inv-loop cells w n j found₀ i₀ found i = Counted (λ k. besideAt w cells k j) j found i

@@ -15,10 +15,10 @@ use lib.Seq.{getD-set-same, getD-set-other}
 use borrow.Author.Tests.{eqb-true, eqb-false, ltb-true, ltb-false}
 use Rattle.lists.specs.Lists.{keepIf, has}
 use Rattle.lists.proofs.Bools.{by-cases}
-use Rattle.groups.specs.Walk.{descending, Walk, at, popped, walk, often, groupFrom}
-use Rattle.groups.specs.Engine.{Taken, Next}
-use Rattle.groups.proofs.Counting.{count-le}
-use Rattle.groups.proofs.Flags.{room, list-more, taken-more, still}
+use Rattle.nearby.specs.Walk.{descending, Walk, at, popped, walk, often, groupFrom}
+use Rattle.nearby.specs.Engine.{Taken, Next}
+use Rattle.nearby.proofs.Counting.{count-le}
+use Rattle.nearby.proofs.Flags.{room, list-more, taken-more, still}
 
 -- ---- the walk, a turn at a time
 
@@ -131,7 +131,7 @@ pub record Good (r : ℕ → ℕ → Bool) (n : ℕ) (before : List ℕ) (start 
   pub depth-le : depth ≤ taken
   pub nodes : (d : ℕ) → d < depth → getD node d 0 < n
   pub lefts : (d : ℕ) → d < depth → getD left d 0 ≤ n
-  pub lowest : (k : ℕ) → k < start → getD seen k false ≡ true
+  pub lowest : (k : ℕ) → k ≤ start → getD seen k false ≡ true
   pub group : List ℕ
   pub list : take taken order ≡ before ++ group
   pub fuel : ℕ
@@ -352,6 +352,13 @@ module _ (r : ℕ → ℕ → Bool) (n : ℕ) (order : List ℕ) (seen : List Bo
   only : (xs : List ℕ) (m d : ℕ) → d < 1 → getD xs 0 0 ≤ m → getD xs d 0 ≤ m
   only xs m d e h = let z : 0 ≡ d = omega arith in subst (λ (k : ℕ). getD xs k 0 ≤ m) z h
 
+  -- the points up to it are all taken then
+  lowest-more : (k : ℕ) → k ≤ start → getD (set seen start true) k false ≡ true
+  lowest-more k h =
+      by-cases (eqb k start)
+      (λ t. ap (λ (x : ℕ). getD (set seen start true) x false) (eqb-true k start t) ∙ getD-set-same seen start true false (omega (arith, held .seen-room)))
+      (λ t. still n order seen done start held inside new k (lowest k (let ne : k ≡ start → ⊥ = eqb-false k start t in let z : k ≤ start = h in omega arith)))
+
   pub started : Good r n (take done order) start (set order done start) (set seen start true) (set node 0 start) (set left 0 n) (done + 1) 1
   started = record {
     held = taken-more n order seen done start held inside new;
@@ -360,7 +367,7 @@ module _ (r : ℕ → ℕ → Bool) (n : ℕ) (order : List ℕ) (seen : List Bo
     depth-le = omega arith;
     nodes = λ d e. omega (arith, only (set node 0 start) start d e (omega (arith, first-node)));
     lefts = λ d e. only (set left 0 n) n d e (omega (arith, first-left));
-    lowest = λ k h. still n order seen done start held inside new k (lowest k h);
+    lowest = lowest-more;
     group = start ∷ [];
     list = list-more n order seen done start held inside new;
     fuel = n * (n + 1);
@@ -392,7 +399,7 @@ module _ {r : ℕ → ℕ → Bool} {n : ℕ} {before : List ℕ} {start : ℕ} 
   passed : (p : ℕ → Bool) (next m : ℕ) → Next p start (getD left (depth - 1) 0) next → next ≤ m → ((k : ℕ) → p k ≡ false → r (getD node (depth - 1) 0) k ≡ true → getD seen k false ≡ true) → Passed good' m
   passed p next m q h f k a b e =
       by-cases (ltb k start)
-      (λ t. g .lowest k (ltb-true k start t))
+      (λ t. g .lowest k (let z : k < start = ltb-true k start t in omega arith))
       (λ t. f k (q .after k (ltb-false k start t) (let z : m ≤ k = a in omega arith) b) e)
 
   module _ (p : ℕ → Bool) (next : ℕ) (q : Next p start (getD left (depth - 1) 0) next) (f : (k : ℕ) → p k ≡ false → r (getD node (depth - 1) 0) k ≡ true → getD seen k false ≡ true) where

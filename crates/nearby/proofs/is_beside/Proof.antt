@@ -2,9 +2,9 @@ use native.Mathlib.Omega.{arith}
 use lib.ListN.{getD}
 use denote.Ref.{now}
 use borrow.Author.Needs.{needs}
-use Rattle.groups.proofs.Beside.{not-below, is-below}
-use Rattle.groups.proofs.is_beside.Statement.{statement}
-use Rattle.groups.proofs.is_beside.Tie as tie
+use Rattle.nearby.proofs.Beside.{not-below, is-below}
+use Rattle.nearby.proofs.is_beside.Statement.{statement}
+use Rattle.nearby.proofs.is_beside.Tie as tie
 
 mul-x : tie.Need-mul-x
 mul-x c = search needs

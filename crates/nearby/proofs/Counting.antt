@@ -7,7 +7,7 @@ use native.Mathlib.Numerals.{add-one}
 use Rattle.lists.specs.Lists.{bump}
 use Rattle.lists.specs.Numbers.{countBelow}
 use Rattle.lists.proofs.Numbers.{count-below-step}
-use Rattle.groups.specs.Pairs.{pairs}
+use Rattle.nearby.specs.Pairs.{pairs}
 
 bump-le : (b : Bool) (n : ℕ) → bump b n ≤ suc n
 bump-le true n = omega arith

@@ -11,7 +11,7 @@ use Rattle.lists.proofs.Bools.{by-cases}
 use Rattle.floating.specs.Cells.{beside, besides}
 use Rattle.floating.specs.Points.{row}
 use Rattle.floating.proofs.Rows.{row-fits, row-two, row-three, three}
-use Rattle.groups.specs.Engine.{besideAt, Points}
+use Rattle.nearby.specs.Engine.{besideAt, Points}
 
 -- a comparison in two steps
 pub not-below : (a b : ℕ) → b + 2 < a → false ≡ beside a b

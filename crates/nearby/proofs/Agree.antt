@@ -17,8 +17,8 @@ use Rattle.floating.specs.Cells.{cell, cut, place, besides, compared}
 use Rattle.floating.specs.Near.{below, near}
 use Rattle.floating.proofs.Places.{cut-small, compared-is}
 use Rattle.floating.proofs.Rows.{row-map, some-row}
-use Rattle.groups.specs.Pairs.{comparedAt, nearAt}
-use Rattle.groups.specs.Engine.{cellsOf, besideAt, nearBy, Small}
+use Rattle.nearby.specs.Pairs.{comparedAt, nearAt}
+use Rattle.nearby.specs.Engine.{cellsOf, besideAt, nearBy, Small}
 
 abbrev placed : Float → Float → ℕ
 placed t x = place (cell t x)

@@ -1,9 +1,9 @@
 use mathlib.Core.Path.{sym, _∙_}
 use native.Mathlib.Omega.{arith}
 use borrow.Author.Tests.{not-true, not-false}
-use Rattle.groups.proofs.Beside.{spot, apart-first, apart-second, both-two, by-third}
-use Rattle.groups.proofs.is_beside_at.Statement.{statement}
-use Rattle.groups.proofs.is_beside_at.Tie as tie
+use Rattle.nearby.proofs.Beside.{spot, apart-first, apart-second, both-two, by-third}
+use Rattle.nearby.proofs.is_beside_at.Statement.{statement}
+use Rattle.nearby.proofs.is_beside_at.Tie as tie
 
 mul-a : tie.Need-mul-a
 mul-a c = omega (arith, spot _ _ _ (c .before .pre .0) _ (c .before .pre .1), spot _ _ _ (c .before .pre .0) _ (c .before .pre .2), c .before .pre .0 .least, c .before .pre .0 .most)

@@ -12,8 +12,8 @@ use Rattle.lists.proofs.Bools.{by-cases, and-left, and-right, and-false-right}
 use Rattle.floating.specs.Points.{leading, row}
 use Rattle.floating.specs.Near.{squared, below}
 use Rattle.floating.specs.declared.Point.{Point}
-use Rattle.groups.specs.Engine.{besideAt, nearBy, fresh, Next, Listed}
-use Rattle.groups.proofs.Beside.{spot}
+use Rattle.nearby.specs.Engine.{besideAt, nearBy, fresh, Next, Listed}
+use Rattle.nearby.proofs.Beside.{spot}
 
 -- point i of n lies in the list of coordinates
 pub spot-in : (w n : ℕ) (s : List Float) (cells : List ℕ) → Listed w n s cells → (i : ℕ) → i < n → w * i + w ≤ length s

@@ -6,9 +6,9 @@ use Prim.Native.Nat.{ℕ, _+_, _-_, _≤_, _<_}
 use native.Mathlib.Omega.{arith}
 use lib.ListN.{length, getD, set, length-set}
 use lib.Ieee.{Float}
-use Rattle.groups.specs.Engine.{nearBy, fresh, Next}
-use Rattle.groups.proofs.Fresh.{fresh-near, fresh-new, fresh-not}
-use Rattle.groups.proofs.Frames.{Good, work, frame-goes, frame-goes-less, next-small, room-left, depth-under, frame-comes, frame-comes-less}
+use Rattle.nearby.specs.Engine.{nearBy, fresh, Next}
+use Rattle.nearby.proofs.Fresh.{fresh-near, fresh-new, fresh-not}
+use Rattle.nearby.proofs.Frames.{Good, work, frame-goes, frame-goes-less, next-small, room-left, depth-under, frame-comes, frame-comes-less}
 
 module _ (t : Float) (w : ℕ) (s : List Float) (cells : List ℕ) {n : ℕ} {before : List ℕ} {start : ℕ} {order : List ℕ} {seen : List Bool} {node left : List ℕ} {taken depth next : ℕ} (g : Good (nearBy t w s cells) n before start order seen node left taken depth) (some : 0 < depth) (q : Next (fresh t w s cells seen (getD node (depth - 1) 0)) start (getD left (depth - 1) 0) next) where
   abbrev i : ℕ

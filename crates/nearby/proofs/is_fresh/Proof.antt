@@ -2,9 +2,9 @@ use mathlib.Core.Path.{sym, _∙_}
 use denote.Ref.{now}
 use borrow.Author.Tests.{not-true, not-false}
 use borrow.Author.Needs.{needs}
-use Rattle.groups.proofs.Fresh.{spot-in, not-beside, not-new, by-distance}
-use Rattle.groups.proofs.is_fresh.Statement.{statement}
-use Rattle.groups.proofs.is_fresh.Tie as tie
+use Rattle.nearby.proofs.Fresh.{spot-in, not-beside, not-new, by-distance}
+use Rattle.nearby.proofs.is_fresh.Statement.{statement}
+use Rattle.nearby.proofs.is_fresh.Tie as tie
 
 is-beside-at-requires : tie.Need-is-beside-at-requires
 is-beside-at-requires c κs = search needs

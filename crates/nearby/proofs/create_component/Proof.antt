@@ -8,13 +8,13 @@ use lib.ListN.{set, take, length-set}
 use lib.Seq.{take-set-le}
 use denote.Ref.{now}
 use borrow.Author.Needs.{needs}
-use Rattle.groups.specs.Walk.{groupFrom}
-use Rattle.groups.specs.Engine.{nearBy}
-use Rattle.groups.proofs.Flags.{room}
-use Rattle.groups.proofs.Frames.{Good, work, started, ended, depth-in, node-in, left-in}
-use Rattle.groups.proofs.Walking.{goes, goes-less, next-in, taken-in, deeper-in, comes, comes-less, Long, long-begins, long-turns}
-use Rattle.groups.proofs.create_component.Statement.{statement}
-use Rattle.groups.proofs.create_component.Tie as tie
+use Rattle.nearby.specs.Walk.{groupFrom}
+use Rattle.nearby.specs.Engine.{nearBy}
+use Rattle.nearby.proofs.Flags.{room}
+use Rattle.nearby.proofs.Frames.{Good, work, started, ended, depth-in, node-in, left-in}
+use Rattle.nearby.proofs.Walking.{goes, goes-less, next-in, taken-in, deeper-in, comes, comes-less, Long, long-begins, long-turns}
+use Rattle.nearby.proofs.create_component.Statement.{statement}
+use Rattle.nearby.proofs.create_component.Tie as tie
 
 abbrev Inv-loop : tie.InvT-loop
 Inv-loop s w t cells n start done order₀ seen₀ node₀ left₀ taken₀ depth₀ order seen node left taken depth = Good (nearBy t w s cells) n (take done order₀) start order seen node left taken depth × Long order₀ seen₀ node₀ left₀ order seen node left
@@ -123,7 +123,7 @@ same-length-4 c = c .before .loop .inv .1 .left-long ∙ simp length-set
 
 returns : tie.Need-returns Inv-loop μ-loop
 returns c = record {
-  taken = c .before .loop .inv .0 .held;
+  taken = c .before .loop .inv .0 .held; lowest = c .before .loop .inv .0 .lowest;
   list = ended (c .before .loop .inv .0) (omega (arith, c .loop-test .left)) ∙ ap (λ (b : List ℕ). b ++ groupFrom (nearBy (c .before .before .before .before .before .before .before .before .args .t) (c .before .before .before .before .before .before .before .before .args .w) (now (c .before .before .before .before .before .before .before .before .args .s)) (now (c .before .before .before .before .before .before .before .before .args .cells))) (c .before .before .before .before .before .before .before .before .args .n) b (c .before .before .before .before .before .before .before .before .args .start)) (take-set-le (c .before .before .before .before .before .before .before .before .args .done) (now (c .before .before .before .before .before .before .before .before .args .order)) (c .before .before .before .before .before .before .before .before .args .done) (c .before .before .before .before .before .before .before .before .args .start) (le-refl (c .before .before .before .before .before .before .before .before .args .done)));
 }
 
