@@ -1,6 +1,6 @@
 -- One record: the length of a body by its kind, a body by its kind, and answers that are of other variants. Assumes nothing.
-use mathlib.Core.Path.{_≡_, refl, sym, ap, _∙_}
-use mathlib.Core.Bool.{Bool, true, false, not, _&&_}
+use mathlib.Core.Path.{_≡_, refl, sym, _∙_}
+use mathlib.Core.Bool.{true, false, not}
 use mathlib.Core.List.{List, [], _∷_}
 use Prim.Native.Nat.{ℕ, zero, suc, _+_, _*_, _-_, _%_, _≤_, _<_}
 use native.Mathlib.Omega.{arith}
@@ -8,8 +8,8 @@ use types.Run.{OneOf, miss}
 use denote.Enum.Declared.{tagOf}
 use lib.Dec.{eqb, leb}
 use lib.ListN.{length}
-use borrow.Author.Tests.{eqb-true, leb-true, eq-eqb, ne-eqb, lt-ltb, le-ltb}
-use Rattle.lists.proofs.Bools.{and-left, and-right}
+use borrow.Author.Tests.{eqb-true, eq-eqb, ne-eqb, lt-ltb, le-ltb}
+use Rattle.lists.proofs.Bools.{and-right}
 use Rattle.panelfile.specs.declared.Record.{Record}
 use Rattle.panelfile.specs.declared.Record.the-variants.{Position, Texture, Normal, Face, End, Refused}
 use Rattle.panelfile.specs.Records.{byte, half, lengthFits, faceFrom, bodyFrom, recordFrom, numberOf}

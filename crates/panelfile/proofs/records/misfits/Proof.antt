@@ -1,36 +1,27 @@
-use mathlib.Core.Path.{sym, ap, _∙_}
+use mathlib.Core.Path.{sym, ap}
 use mathlib.Core.Bool.{not}
 use borrow.Author.Tests.{le-leb, lt-leb}
 use Rattle.panelfile.specs.Records.{lengthFits}
 use Rattle.panelfile.proofs.Recorded.{fits-24}
-use borrow.Author.Needs.{needs}
-use native.Mathlib.Omega.{arith}
 use Rattle.panelfile.proofs.records.misfits.Statement.{statement}
 use Rattle.panelfile.proofs.records.misfits.Tie as tie
-use Rattle.panelfile.proofs.records.misfits.Reads as reads
-use Rattle.panelfile.proofs.records.misfits.Lts as lts
 
--- src/records.rt:39:9
 returns : tie.Need-returns
 unfolding lengthFits
 returns c = rw (c .if1 .taken)
 
--- src/records.rt:42:9
 returns-2 : tie.Need-returns-2
 unfolding lengthFits
 returns-2 c = rw (c .if2 .taken)
 
--- src/records.rt:46:13
 returns-3 : tie.Need-returns-3
 unfolding lengthFits
 returns-3 c = rw (c .before .if3 .taken, le-leb _ _ (c .if4 .taken))
 
--- src/records.rt:48:9
 returns-4 : tie.Need-returns-4
 unfolding lengthFits
 returns-4 c = rw (c .before .if3 .taken, lt-leb _ _ (c .if4 .left))
 
--- src/records.rt:34:1
 returns-5 : tie.Need-returns-5
 returns-5 c = ap not (sym (fits-24 _ _ (c .before .before .before .pre) (c .before .before .if1 .left) (c .before .if2 .left) (c .if3 .left)))
 

@@ -1,20 +1,14 @@
 use Rattle.panelfile.proofs.Recorded.{not-refused}
-use native.Mathlib.Omega.{arith}
 use borrow.Author.Needs.{needs}
 use Rattle.panelfile.proofs.records.number_of.Statement.{statement}
 use Rattle.panelfile.proofs.records.number_of.Tie as tie
-use Rattle.panelfile.proofs.records.number_of.Reads as reads
-use Rattle.panelfile.proofs.records.number_of.Lts as lts
 
--- src/records.rt:94:25
 enum-known-r : tie.Need-enum-known-r
 enum-known-r c = search needs
 
--- src/records.rt:90:1
 returns : tie.Need-returns
 returns c = search needs
 
--- src/records.rt:90:1
 returns-2 : tie.Need-returns-2
 returns-2 c = not-refused (c .before .args .r) (c .match .keys2)
 

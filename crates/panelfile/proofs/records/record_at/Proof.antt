@@ -1,70 +1,50 @@
-use mathlib.Core.Path.{_≡_, sym, ap, _∙_}
+use mathlib.Core.Path.{sym, _∙_}
 use borrow.Author.Tests.{not-false}
-use Rattle.panelfile.specs.Records.{lengthFits}
 use Rattle.panelfile.proofs.Recorded.{header-cut, kind-unknown, length-wrong, body-cut, body-whole}
 use native.Mathlib.Omega.{arith}
 use borrow.Author.Needs.{needs}
 use Rattle.panelfile.proofs.records.record_at.Statement.{statement}
 use Rattle.panelfile.proofs.records.record_at.Tie as tie
-use Rattle.panelfile.proofs.records.record_at.Reads as reads
-use Rattle.panelfile.proofs.records.record_at.Lts as lts
-use Rattle.panelfile.proofs.bytes.half.Reads as half-reads
-use Rattle.panelfile.proofs.records.body.Reads as body-reads
-use Rattle.panelfile.proofs.records.misfits.Reads as misfits-reads
 
--- src/records.rt:15:8
 sub-if1 : tie.Need-sub-if1
 sub-if1 c = search needs
 
--- src/records.rt:16:9
 returns : tie.Need-returns
 returns c = header-cut _ _ (c .if1 .taken)
 
--- src/records.rt:18:13
 half-requires : tie.Need-half-requires
 half-requires c κs = search needs
 
--- src/records.rt:18:13
 cast-n : tie.Need-cast-n
 cast-n c = search needs
 
--- src/records.rt:19:38
 add-half : tie.Need-add-half
 add-half c = search needs
 
--- src/records.rt:19:9
 half-requires-2 : tie.Need-half-requires-2
 half-requires-2 c κs = search needs
 
--- src/records.rt:21:9
 returns-2 : tie.Need-returns-2
 returns-2 c = kind-unknown _ _ _ _ (c .before .before .before .if1 .left) (c .before .before .half .ensures .0) (c .before .half2 .ensures .0) (c .if2 .taken)
 
--- src/records.rt:23:8
 misfits-requires : tie.Need-misfits-requires
 misfits-requires c κs = search needs
 
--- src/records.rt:24:9
 returns-3 : tie.Need-returns-3
 returns-3 c = length-wrong _ _ _ _ (c .before .before .before .before .before .if1 .left) (c .before .before .before .before .half .ensures .0) (c .before .before .before .half2 .ensures .0) (c .before .before .if2 .left) (sym (c .before .misfits .ensures) ∙ c .if3 .taken)
 
--- src/records.rt:26:13
 add-b : tie.Need-add-b
 add-b c = search needs
 
--- src/records.rt:27:8
 sub-if4 : tie.Need-sub-if4
 sub-if4 c = search needs
 
--- src/records.rt:28:9
 returns-4 : tie.Need-returns-4
 returns-4 c = body-cut _ _ _ _ (c .before .before .before .before .before .before .if1 .left) (c .before .before .before .before .before .half .ensures .0) (c .before .before .before .before .half2 .ensures .0) (c .before .before .before .if2 .left) (sym (c .before .before .misfits .ensures) ∙ c .before .if3 .left) (c .if4 .taken)
 
--- src/records.rt:30:5
 body-requires : tie.Need-body-requires
 body-requires c κs = (c .before .before .before .if2 .left, (omega arith, not-false _ (sym (c .before .before .misfits .ensures) ∙ c .before .if3 .left)))
 
--- src/records.rt:11:1
 returns-5 : tie.Need-returns-5
 returns-5 c = c .body .ensures ∙ body-whole _ _ _ _ (c .before .before .before .before .before .before .before .if1 .left) (c .before .before .before .before .before .before .half .ensures .0) (c .before .before .before .before .before .half2 .ensures .0) (c .before .before .before .before .if2 .left) (sym (c .before .before .before .misfits .ensures) ∙ c .before .before .if3 .left) (c .before .if4 .left)
 
