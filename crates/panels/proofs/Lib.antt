@@ -7,3 +7,4 @@ pub mod Using
 pub mod Sorted
 pub mod Marking
 pub mod Recording
+pub mod Valid
