@@ -8,3 +8,4 @@ pub mod Sorted
 pub mod Marking
 pub mod Recording
 pub mod Valid
+pub mod Walking
