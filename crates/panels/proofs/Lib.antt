@@ -9,3 +9,4 @@ pub mod Marking
 pub mod Recording
 pub mod Valid
 pub mod Walking
+pub mod Nearby
