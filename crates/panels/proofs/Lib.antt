@@ -10,3 +10,4 @@ pub mod Recording
 pub mod Valid
 pub mod Walking
 pub mod Nearby
+pub mod Popping

@@ -149,7 +149,7 @@ module _ (f x : ℕ) (seen stack flat : List ℕ) (top n : ℕ) (l : Listing f s
 
 -- ---- one step after another
 
-drop-further : (a b : List ℕ) (n m : ℕ) → n ≤ m → drop n a ≡ drop n b → drop m a ≡ drop m b
+pub drop-further : (a b : List ℕ) (n m : ℕ) → n ≤ m → drop n a ≡ drop n b → drop m a ≡ drop m b
 drop-further a b n m h e =
     let q : n + (m - n) ≡ m = omega arith in
     ap (λ (k : ℕ). drop k a) (sym q)

@@ -15,6 +15,52 @@ pub struct Marks {
     pub n: usize,
 }
 
+// The panel of `face`, listed behind the `n` faces of the panels before: how many are listed then.
+fn search(
+    joins: &[u32],
+    order: &[u32],
+    ends: &[u32],
+    face: u32,
+    seen: &mut [u32],
+    stack: &mut [u32],
+    flat: &mut [u32],
+    n: usize,
+) -> usize
+    requires { ⌜ walk.Searchable (now joins) (now order) (now ends) face (now seen) (now stack) (now flat) n ⌝ }
+    ensures { λ r. ⌜ walk.Searched (length (now (ends .entry))) (search′ (length (now (ends .entry))) (joinsOf (now (joins .entry))) (take n (now (flat .entry))) (face ∷ []) (face ∷ [])) (now (flat .entry)) n (now (seen .exit)) (now (stack .exit)) (now (flat .exit)) r ⌝ }
+{
+    let first = visit(face, seen, stack, flat, 0, n);
+    let mut top = first.top;
+    let mut listed = first.n;
+    while 0 < top {
+        let marks = pop(joins, order, ends, seen, stack, flat, top, listed);
+        top = marks.top;
+        listed = marks.n;
+    }
+    listed
+}
+
+// The face on top of the stack goes, and its neighbours are looked through.
+fn pop(
+    joins: &[u32],
+    order: &[u32],
+    ends: &[u32],
+    seen: &mut [u32],
+    stack: &mut [u32],
+    flat: &mut [u32],
+    top: usize,
+    n: usize,
+) -> Marks
+    requires { ⌜ walk.Poppable (now joins) (now order) (now ends) (now seen) (now stack) (now flat) top n ⌝ }
+    ensures { λ r. ⌜ walk.Stepped (length (now (ends .entry))) (look [] (neighbours (getD (now (stack .entry)) (top - 1) 0) (joinsOf (now (joins .entry)))) (walk.stateOf (now (stack .entry)) (top - 1) (now (flat .entry)) n)) (now (flat .entry)) n (now (seen .exit)) (now (stack .exit)) (now (flat .exit)) (r .top) (r .n) ⌝ }
+{
+    let left = top - 1;
+    let x = crate::wide(stack[left]);
+    let from = begin_of(ends, x);
+    let to = crate::wide(ends[x]);
+    look(joins, order, from, to, seen, stack, flat, left, n)
+}
+
 // A look through the neighbours that the entries from `from` on, up to `to`, stand for.
 fn look(
     joins: &[u32],
