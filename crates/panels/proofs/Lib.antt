@@ -7,3 +7,7 @@ pub mod Using
 pub mod Sorted
 pub mod Marking
 pub mod Recording
+pub mod Valid
+pub mod Walking
+pub mod Nearby
+pub mod Popping

@@ -12,14 +12,17 @@ use lib.Dec.{eqb}
 use lib.ListN.{length, getD, take, set, length-append, length-map, List·getD-map}
 use lib.Seq.{sets, length-sets, take-suc, take-length, getD-take, length-take-le}
 use borrow.Author.Tests.{eq-eqb, ne-eqb, eqb-true, eqb-false}
-use Rattle.lists.specs.Lists.{each, span}
+use Rattle.lists.specs.Lists.{every, each, span}
 use Rattle.lists.proofs.Bools.{by-cases}
 use Rattle.lists.proofs.Cases.{iff}
 use Rattle.lists.proofs.Parts.{each-append}
 use Rattle.lists.proofs.Writing.{sets-append}
 use Rattle.lists.proofs.Buckets.{each-span-snoc, each-span-suc}
 use Rattle.panels.specs.Panels.{Key, sameKey, Use, firstFace, Join, joinOf, joinsFrom}
+use Rattle.panels.specs.Columns.{entryOf}
+use Rattle.panels.specs.Firsts.{Marked}
 use Rattle.panels.specs.Joins.{flatJoin, flatJoins, joinAt, joinsBy, Wrote}
+use Rattle.panels.proofs.Valid.{goodKey, noUse, face-at, same-key}
 
 -- ---- one use more
 
@@ -95,3 +98,78 @@ module _ (faces firsts : List ℕ) where
   pub record-ends : (out₀ out : List ℕ) (m u : ℕ) → length firsts ≤ u → Recording out₀ out m u → Wrote (joinsBy faces firsts (length firsts)) out₀ 0 out m
   record-ends out₀ out m u h r =
       subst (λ (k : ℕ). Wrote (joinsBy faces firsts k) out₀ 0 out m) (let e : u ≡ length firsts = omega (arith, r .within) in e) (r .wrote)
+
+-- ---- the marks of first uses give the joins of the rules
+
+-- one more use of the rules' joins
+join-append : (i : ℕ) (o : Option ℕ) (l t : List Join) → joinOf i o (l ++ t) ≡ joinOf i o l ++ t
+join-append i none l t = refl
+join-append i (some j) l t = refl
+
+joins-snoc : (seen us : List Use) (u : Use) → joinsFrom seen (us ++ (u ∷ [])) ≡ joinsFrom seen us ++ joinOf (u .0) (firstFace (u .1) (seen ++ us)) []
+joins-snoc seen [] u = ap (λ (l : List Use). joinOf (u .0) (firstFace (u .1) l) []) (sym (append-nil seen))
+joins-snoc seen (v ∷ us) u =
+    ap (joinOf (v .0) (firstFace (v .1) seen)) (joins-snoc (seen ++ (v ∷ [])) us u)
+    ∙ join-append (v .0) (firstFace (v .1) seen) (joinsFrom (seen ++ (v ∷ [])) us) (joinOf (u .0) (firstFace (u .1) ((seen ++ (v ∷ [])) ++ us)) [])
+    ∙ ap (λ (l : List Use). joinOf (v .0) (firstFace (v .1) seen) (joinsFrom (seen ++ (v ∷ [])) us) ++ joinOf (u .0) (firstFace (u .1) l) []) (append-assoc seen (v ∷ []) us)
+
+-- the first face that had a key, by where it is
+first-none : (k : Key) (us : List Use) → ((y : ℕ) → y < length us → sameKey k (getD us y noUse .1) ≡ false) → firstFace k us ≡ none
+first-none k [] f = refl
+first-none k (u ∷ us) f = rw (f 0 (omega arith)) (first-none k us (λ y h. f (suc y) (omega arith)))
+
+first-some :
+    (k : Key) (us : List Use) (j : ℕ) → j < length us → sameKey k (getD us j noUse .1) ≡ true
+    → ((y : ℕ) → y < j → sameKey k (getD us y noUse .1) ≡ false)
+    → firstFace k us ≡ some (getD us j noUse .0)
+first-some k [] j l s f = absurd (not-suc-le-zero l)
+first-some k (u ∷ us) zero l s f = rw s
+first-some k (u ∷ us) (suc j) l s f = rw (f 0 (omega arith)) (first-some k us j (le-of-suc-le-suc l) s (λ y h. f (suc y) (omega arith)))
+
+module _ (us : List Use) (good : every (λ (u : Use). goodKey (u .1)) us ≡ true) (firsts : List ℕ)
+    (mk : Marked (map (entryOf 0) us) (map (entryOf 1) us) (map (entryOf 2) us) (map (entryOf 3) us) (length us) firsts) where
+  abbrev faces : List ℕ
+  faces = map (entryOf 4) us
+
+  none-before : (u y : ℕ) → u < length us → y < getD firsts u 0 → sameKey (getD us u noUse .1) (getD us y noUse .1) ≡ false
+  none-before u y h l =
+      let f : getD firsts u 0 ≤ u = mk .first u h .upto in
+      sym (same-key us good u y h (omega arith)) ∙ mk .first u h .none y l
+
+  front-at : (u y : ℕ) → y < u → getD (take u us) y noUse ≡ getD us y noUse
+  front-at u y h = getD-take u us y noUse h
+
+  -- one use: its join, by the mark and by the rule
+  join-is : (u : ℕ) → u < length us → joinAt faces firsts u ≡ flatJoins (joinOf (getD us u noUse .0) (firstFace (getD us u noUse .1) (take u us)) [])
+  unfolding flatJoins
+  join-is u h =
+      let l : length (take u us) ≡ u = length-take-le u us (omega arith) in
+      let f : getD firsts u 0 ≤ u = mk .first u h .upto in
+      ⊎-elim
+      (λ e.
+      join-none faces firsts u e
+      ∙ sym (ap (λ (o : Option ℕ). each flatJoin (joinOf (getD us u noUse .0) o []))
+      (first-none (getD us u noUse .1) (take u us)
+      (λ y i. ap (λ (v : Use). sameKey (getD us u noUse .1) (v .1)) (front-at u y (omega arith)) ∙ none-before u y h (omega arith)))))
+      (λ i.
+      join-one faces firsts u (omega arith)
+      ∙ ap₂ (λ (a b : ℕ). a ∷ b ∷ []) (face-at us u) (face-at us (getD firsts u 0))
+      ∙ ap (λ (v : Use). getD us u noUse .0 ∷ v .0 ∷ []) (sym (front-at u (getD firsts u 0) i))
+      ∙ sym (ap (λ (o : Option ℕ). each flatJoin (joinOf (getD us u noUse .0) o []))
+      (first-some (getD us u noUse .1) (take u us) (getD firsts u 0) (omega arith)
+      (ap (λ (v : Use). sameKey (getD us u noUse .1) (v .1)) (front-at u (getD firsts u 0) i) ∙ sym (same-key us good u (getD firsts u 0) h (omega arith)) ∙ mk .first u h .same)
+      (λ y k. ap (λ (v : Use). sameKey (getD us u noUse .1) (v .1)) (front-at u y (omega arith)) ∙ none-before u y h k))))
+      (eq-or-lt-of-le f)
+
+  joins-upto : (u : ℕ) → u ≤ length us → joinsBy faces firsts u ≡ flatJoins (joinsFrom [] (take u us))
+  unfolding joinsBy flatJoins
+  joins-upto zero h = refl
+  joins-upto (suc u) h =
+      each-span-suc (joinAt faces firsts) u
+      ∙ ap₂ _++_ (joins-upto u (omega arith)) (join-is u h)
+      ∙ sym (each-append flatJoin (joinsFrom [] (take u us)) (joinOf (getD us u noUse .0) (firstFace (getD us u noUse .1) (take u us)) []))
+      ∙ ap (each flatJoin) (sym (joins-snoc [] (take u us) (getD us u noUse)))
+      ∙ ap (λ (l : List Use). each flatJoin (joinsFrom [] l)) (sym (take-suc us u noUse h))
+
+  pub joins-are : joinsBy faces firsts (length us) ≡ flatJoins (joinsFrom [] us)
+  joins-are = joins-upto (length us) (omega arith) ∙ ap (λ (l : List Use). flatJoins (joinsFrom [] l)) (take-length us)

@@ -2,3 +2,4 @@ pub mod Panels
 pub mod Columns
 pub mod Firsts
 pub mod Joins
+pub mod Walk

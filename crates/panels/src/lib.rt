@@ -7,6 +7,7 @@ ghost use Rattle.lists.specs.Lists.{span};
 mod firsts;
 mod joins;
 mod keys;
+mod search;
 
 fn wide(x: u32) -> usize
     ensures { λ r. ⌜ r ≡ x ⌝ }

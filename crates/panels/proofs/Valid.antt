@@ -1,0 +1,255 @@
+-- The keys of an accepted mesh: positions below 2,048, normals missing or below 2,048. So digits tell them apart. Assumes nothing.
+use mathlib.Core.Path.{_≡_, refl, sym, ap, ap₂, _∙_, subst}
+use mathlib.Core.Bool.{Bool, true, false, cond, _&&_, _||_}
+use mathlib.Core.List.{List, [], _∷_, _++_, map}
+use Prim.Native.Nat.{ℕ, zero, suc, _+_, _*_, _/_, _≤_, _<_}
+use native.Mathlib.Nat.{not-suc-le-zero}
+use native.Mathlib.Omega.{arith}
+use lib.Dec.{ltb, eqb}
+use lib.ListN.{length, getD, take, drop, length-append, length-map, List·getD-map}
+use lib.Seq.{take-nil, drop-nil}
+use borrow.Author.Tests.{lt-ltb, ltb-true, eq-eqb, ne-eqb, eqb-true, eqb-false}
+use Rattle.lists.specs.Lists.{every, sum}
+use Rattle.lists.proofs.Bools.{by-cases, and-both, and-left, and-right, or-left, or-right}
+use Rattle.lists.proofs.Cases.{iff}
+use Rattle.lists.proofs.Parts.{every-append, every-at}
+use Rattle.mesh.specs.Mesh.{Mesh, Corner, Ring, position, normal, missing, threes, rings, cornerAt, positionCount, normalCount}
+use Rattle.mesh.proofs.Corners.{length-threes, getD-threes}
+use Rattle.mesh.proofs.Faces.{sizes-back}
+use Rattle.mesh.proofs.Accepted.{Accepted, Found}
+use Rattle.edges.specs.Edges.{runEdges, ringEdges}
+use Rattle.panels.specs.Panels.{Key, pairKey, keyOf, sameKey, faceKeys, Use, usesFrom}
+use Rattle.panels.specs.Columns.{normalDigit, chosen, entryOf, faceUses}
+use Rattle.panels.specs.Firsts.{sameUse, KeyColumns}
+use Rattle.panels.proofs.Using.{ring-length}
+
+-- a position, and a normal, as an accepted mesh has them
+abbrev pub isNormal : ℕ → Bool
+isNormal n = eqb n missing || ltb n 2048
+
+abbrev pub goodCorner : Corner → Bool
+goodCorner c = ltb (position c) 2048 && isNormal (normal c)
+
+abbrev pub goodKey : Key → Bool
+goodKey k = (ltb (k .0) 2048 && ltb (k .1) 2048) && (isNormal (k .2) && isNormal (k .3))
+
+-- ---- from the corners to the keys
+
+normal-of : (normals : Bool) (n : ℕ) → isNormal n ≡ true → isNormal (cond normals n 0) ≡ true
+normal-of true n h = h
+normal-of false n h = refl
+
+pair-good : (normals : Bool) (a b : Corner) → goodCorner a ≡ true → goodCorner b ≡ true → goodKey (pairKey normals a b) ≡ true
+pair-good normals a b p q =
+    and-both (ltb (position a) 2048 && ltb (position b) 2048) (isNormal (cond normals (normal a) 0) && isNormal (cond normals (normal b) 0))
+    (and-both (ltb (position a) 2048) (ltb (position b) 2048) (and-left (ltb (position a) 2048) (isNormal (normal a)) p) (and-left (ltb (position b) 2048) (isNormal (normal b)) q))
+    (and-both (isNormal (cond normals (normal a) 0)) (isNormal (cond normals (normal b) 0))
+    (normal-of normals (normal a) (and-right (ltb (position a) 2048) (isNormal (normal a)) p))
+    (normal-of normals (normal b) (and-right (ltb (position b) 2048) (isNormal (normal b)) q)))
+
+key-good : (normals : Bool) (a b : Corner) → goodCorner a ≡ true → goodCorner b ≡ true → goodKey (keyOf normals (a, b)) ≡ true
+unfolding keyOf
+key-good normals a b p q = go (ltb (position a) (position b))
+  where
+    go : (t : Bool) → goodKey (cond t (pairKey normals a b) (pairKey normals b a)) ≡ true
+    go true = pair-good normals a b p q
+    go false = pair-good normals b a q p
+
+run-good : (normals : Bool) (a : Corner) (r : Ring) (z : Corner) → goodCorner a ≡ true → every goodCorner r ≡ true → goodCorner z ≡ true
+    → every goodKey (map (keyOf normals) (runEdges a r z)) ≡ true
+run-good normals a [] z p h q = and-both (goodKey (keyOf normals (a, z))) true (key-good normals a z p q) refl
+run-good normals a (b ∷ r) z p h q =
+    and-both (goodKey (keyOf normals (a, b))) (every goodKey (map (keyOf normals) (runEdges b r z)))
+    (key-good normals a b p (and-left (goodCorner b) (every goodCorner r) h))
+    (run-good normals b r z (and-left (goodCorner b) (every goodCorner r) h) (and-right (goodCorner b) (every goodCorner r) h) q)
+
+face-good : (normals : Bool) (f : Ring) → every goodCorner f ≡ true → every goodKey (faceKeys normals f) ≡ true
+face-good normals [] h = refl
+face-good normals (a ∷ r) h =
+    run-good normals a r a (and-left (goodCorner a) (every goodCorner r) h) (and-right (goodCorner a) (every goodCorner r) h) (and-left (goodCorner a) (every goodCorner r) h)
+
+every-map : {A B : Type 0} (p : B → Bool) (f : A → B) (l : List A) → every p (map f l) ≡ every (λ a. p (f a)) l
+every-map p f [] = refl
+every-map p f (x ∷ l) = ap (λ (b : Bool). p (f x) && b) (every-map p f l)
+
+pub uses-good : (normals : Bool) (i : ℕ) (fs : List Ring) → every (every goodCorner) fs ≡ true → every (λ (u : Use). goodKey (u .1)) (usesFrom normals i fs) ≡ true
+uses-good normals i [] h = refl
+uses-good normals i (f ∷ fs) h =
+    every-append (λ (u : Use). goodKey (u .1)) (faceUses normals i f) (usesFrom normals (suc i) fs)
+    ∙ and-both (every (λ (u : Use). goodKey (u .1)) (faceUses normals i f)) (every (λ (u : Use). goodKey (u .1)) (usesFrom normals (suc i) fs))
+    (every-map (λ (u : Use). goodKey (u .1)) (λ k. (i, k)) (faceKeys normals f) ∙ face-good normals f (and-left (every goodCorner f) (every (every goodCorner) fs) h))
+    (uses-good normals (suc i) fs (and-right (every goodCorner f) (every (every goodCorner) fs) h))
+
+-- ---- from the flat list to the faces
+
+threes-split : (n : ℕ) (cs : List ℕ) → threes cs ≡ threes (take (3 * n) cs) ++ threes (drop (3 * n) cs)
+threes-split zero cs = refl
+threes-split (suc n) cs = subst (λ (k : ℕ). threes cs ≡ threes (take k cs) ++ threes (drop k cs)) (let e : suc (suc (suc (3 * n))) ≡ 3 * suc n = omega arith in e) (go cs (threes-split n))
+  where
+    go : (cs : List ℕ) → ((ds : List ℕ) → threes ds ≡ threes (take (3 * n) ds) ++ threes (drop (3 * n) ds))
+        → threes cs ≡ threes (take (suc (suc (suc (3 * n)))) cs) ++ threes (drop (suc (suc (suc (3 * n)))) cs)
+    go [] r = refl
+    go (p ∷ []) r = rw (take-nil (suc (3 * n)), drop-nil (suc (3 * n)))
+    go (p ∷ t ∷ []) r = refl
+    go (p ∷ t ∷ c ∷ cs) r = ap (λ (l : Ring). (p ∷ t ∷ c ∷ []) ∷ l) (r cs)
+
+rings-every : (q : Corner → Bool) (s cs : List ℕ) → every q (threes cs) ≡ true → every (every q) (rings s cs) ≡ true
+rings-every q [] cs h = refl
+rings-every q (n ∷ s) cs h =
+    let e : (every q (threes (take (3 * n) cs)) && every q (threes (drop (3 * n) cs))) ≡ true =
+    sym (every-append q (threes (take (3 * n) cs)) (threes (drop (3 * n) cs))) ∙ ap (every q) (sym (threes-split n cs)) ∙ h in
+    and-both (every q (threes (take (3 * n) cs))) (every (every q) (rings s (drop (3 * n) cs)))
+    (and-left (every q (threes (take (3 * n) cs))) (every q (threes (drop (3 * n) cs))) e)
+    (rings-every q s (drop (3 * n) cs) (and-right (every q (threes (take (3 * n) cs))) (every q (threes (drop (3 * n) cs))) e))
+
+every-all : {A : Type 0} (p : A → Bool) (d : A) (l : List A) → ((k : ℕ) → k < length l → p (getD l k d) ≡ true) → every p l ≡ true
+every-all p d [] f = refl
+every-all p d (x ∷ l) f =
+    and-both (p x) (every p l) (f 0 (omega arith)) (every-all p d l (λ k h. f (suc k) (omega arith)))
+
+pub faces-good : (m : Mesh) → Accepted m → every (every goodCorner) (rings (m .sizes) (m .corners)) ≡ true
+faces-good m a =
+    rings-every goodCorner (m .sizes) (m .corners)
+    (every-all goodCorner [] (threes (m .corners))
+    (λ k h.
+    let l : length (threes (m .corners)) ≡ length (m .corners) / 3 = length-threes (m .corners) in
+    let f : Found m k = a .corner k (omega arith) in
+    subst (λ (c : Corner). goodCorner c ≡ true) (sym (getD-threes (m .corners) k (omega arith)))
+    (and-both (ltb (getD (m .corners) (3 * k) 0) 2048) (isNormal (getD (m .corners) (3 * k + 2) 0))
+    (lt-ltb (getD (m .corners) (3 * k) 0) 2048 (let p : getD (m .corners) (3 * k) 0 < length (m .positions) / 3 = f .position in let q : length (m .positions) ≤ 6144 = a .limits .positions in omega arith))
+    (by-cases (eqb (getD (m .corners) (3 * k + 2) 0) missing)
+    (λ t. or-left (eqb (getD (m .corners) (3 * k + 2) 0) missing) (ltb (getD (m .corners) (3 * k + 2) 0) 2048) t)
+    (λ t.
+    or-right (eqb (getD (m .corners) (3 * k + 2) 0) missing) (ltb (getD (m .corners) (3 * k + 2) 0) 2048)
+    (lt-ltb (getD (m .corners) (3 * k + 2) 0) 2048
+    (let p : getD (m .corners) (3 * k + 2) 0 < length (m .normals) / 3 = f .normal (eqb-false (getD (m .corners) (3 * k + 2) 0) missing t) in
+    let q : length (m .normals) ≤ 6144 = a .limits .normals in
+    omega arith)))))))
+
+-- ---- digits tell normals apart
+
+below-2048 : (n : ℕ) → isNormal n ≡ true → eqb n missing ≡ false → n < 2048
+below-2048 n h t = ltb-true n 2048 (rw t at h)
+
+digit-missing : (n : ℕ) → eqb n missing ≡ true → normalDigit n ≡ 2048
+unfolding normalDigit
+digit-missing n t = rw t
+
+digit-there : (n : ℕ) → eqb n missing ≡ false → normalDigit n ≡ n
+unfolding normalDigit
+digit-there n t = rw t
+
+digit-injective : (a b : ℕ) → isNormal a ≡ true → isNormal b ≡ true → normalDigit a ≡ normalDigit b → a ≡ b
+digit-injective a b p q e =
+    by-cases (eqb a missing)
+    (λ s.
+    by-cases (eqb b missing)
+    (λ t. eqb-true a missing s ∙ sym (eqb-true b missing t))
+    (λ t.
+    let x : 2048 ≡ b = sym (digit-missing a s) ∙ e ∙ digit-there b t in
+    let y : b < 2048 = below-2048 b q t in
+    absurd (omega arith)))
+    (λ s.
+    by-cases (eqb b missing)
+    (λ t.
+    let x : a ≡ 2048 = sym (digit-there a s) ∙ e ∙ digit-missing b t in
+    let y : a < 2048 = below-2048 a p s in
+    absurd (omega arith))
+    (λ t. sym (digit-there a s) ∙ e ∙ digit-there b t))
+
+normal-same : (a b : ℕ) → isNormal a ≡ true → isNormal b ≡ true → eqb (normalDigit a) (normalDigit b) ≡ eqb a b
+normal-same a b p q =
+    iff (eqb (normalDigit a) (normalDigit b)) (eqb a b)
+    (λ t. eq-eqb a b (digit-injective a b p q (eqb-true (normalDigit a) (normalDigit b) t)))
+    (λ t. eq-eqb (normalDigit a) (normalDigit b) (ap normalDigit (eqb-true a b t)))
+
+digit-below : (n : ℕ) → isNormal n ≡ true → normalDigit n < 2049
+digit-below n h =
+    by-cases (eqb n missing)
+    (λ t. rw (digit-missing n t) (omega arith))
+    (λ t. rw (digit-there n t) (let l : n < 2048 = below-2048 n h t in omega arith))
+
+-- ---- the columns at a use
+
+abbrev pub noUse : Use
+noUse = (0, (0, 0, 0, 0))
+
+module _ (us : List Use) where
+  pub lower-at : (x : ℕ) → getD (map (entryOf 0) us) x 0 ≡ getD us x noUse .1 .0
+  unfolding chosen
+  lower-at x = List·getD-map (entryOf 0) us x noUse
+
+  pub higher-at : (x : ℕ) → getD (map (entryOf 1) us) x 0 ≡ getD us x noUse .1 .1
+  unfolding chosen
+  higher-at x = List·getD-map (entryOf 1) us x noUse
+
+  pub n-at : (x : ℕ) → getD (map (entryOf 2) us) x 0 ≡ normalDigit (getD us x noUse .1 .2)
+  unfolding chosen normalDigit
+  n-at x = List·getD-map (entryOf 2) us x noUse
+
+  pub m-at : (x : ℕ) → getD (map (entryOf 3) us) x 0 ≡ normalDigit (getD us x noUse .1 .3)
+  unfolding chosen normalDigit
+  m-at x = List·getD-map (entryOf 3) us x noUse
+
+  pub face-at : (x : ℕ) → getD (map (entryOf 4) us) x 0 ≡ getD us x noUse .0
+  unfolding chosen
+  face-at x = List·getD-map (entryOf 4) us x noUse
+
+  module _ (good : every (λ (u : Use). goodKey (u .1)) us ≡ true) where
+    -- the parts of a good key
+    key-at : (x : ℕ) → x < length us → goodKey (getD us x noUse .1) ≡ true
+    key-at x h = every-at (λ (u : Use). goodKey (u .1)) noUse us x good h
+
+    lower-good : (x : ℕ) → x < length us → getD us x noUse .1 .0 < 2048
+    lower-good x h = let k : Key = getD us x noUse .1 in
+        ltb-true (k .0) 2048 (and-left (ltb (k .0) 2048) (ltb (k .1) 2048) (and-left (ltb (k .0) 2048 && ltb (k .1) 2048) (isNormal (k .2) && isNormal (k .3)) (key-at x h)))
+
+    higher-good : (x : ℕ) → x < length us → getD us x noUse .1 .1 < 2048
+    higher-good x h = let k : Key = getD us x noUse .1 in
+        ltb-true (k .1) 2048 (and-right (ltb (k .0) 2048) (ltb (k .1) 2048) (and-left (ltb (k .0) 2048 && ltb (k .1) 2048) (isNormal (k .2) && isNormal (k .3)) (key-at x h)))
+
+    n-good : (x : ℕ) → x < length us → isNormal (getD us x noUse .1 .2) ≡ true
+    n-good x h = let k : Key = getD us x noUse .1 in
+        and-left (isNormal (k .2)) (isNormal (k .3)) (and-right (ltb (k .0) 2048 && ltb (k .1) 2048) (isNormal (k .2) && isNormal (k .3)) (key-at x h))
+
+    m-good : (x : ℕ) → x < length us → isNormal (getD us x noUse .1 .3) ≡ true
+    m-good x h = let k : Key = getD us x noUse .1 in
+        and-right (isNormal (k .2)) (isNormal (k .3)) (and-right (ltb (k .0) 2048 && ltb (k .1) 2048) (isNormal (k .2) && isNormal (k .3)) (key-at x h))
+
+    pub key-columns : length us ≤ 4096 → KeyColumns (map (entryOf 0) us) (map (entryOf 1) us) (map (entryOf 2) us) (map (entryOf 3) us) (length us)
+    key-columns few = record {
+      few = few;
+      lower-long = length-map us (entryOf 0);
+      higher-long = length-map us (entryOf 1);
+      n-long = length-map us (entryOf 2);
+      m-long = length-map us (entryOf 3);
+      lower-below = λ x h. subst (λ (d : ℕ). d < 2048) (sym (lower-at x)) (lower-good x h);
+      higher-below = λ x h. subst (λ (d : ℕ). d < 2048) (sym (higher-at x)) (higher-good x h);
+      n-below = λ x h. subst (λ (d : ℕ). d < 2049) (sym (n-at x)) (digit-below (getD us x noUse .1 .2) (n-good x h));
+      m-below = λ x h. subst (λ (d : ℕ). d < 2049) (sym (m-at x)) (digit-below (getD us x noUse .1 .3) (m-good x h));
+    }
+
+    -- two uses have one key exactly where their digits are equal
+    pub same-key :
+        (x y : ℕ) → x < length us → y < length us
+        → sameUse (map (entryOf 0) us) (map (entryOf 1) us) (map (entryOf 2) us) (map (entryOf 3) us) x y ≡ sameKey (getD us x noUse .1) (getD us y noUse .1)
+    same-key x y h i =
+        ap₂ _&&_
+        (ap₂ _&&_
+        (ap₂ _&&_ (ap₂ eqb (lower-at x) (lower-at y)) (ap₂ eqb (higher-at x) (higher-at y)))
+        (ap₂ eqb (n-at x) (n-at y) ∙ normal-same (getD us x noUse .1 .2) (getD us y noUse .1 .2) (n-good x h) (n-good y i)))
+        (ap₂ eqb (m-at x) (m-at y) ∙ normal-same (getD us x noUse .1 .3) (getD us y noUse .1 .3) (m-good x h) (m-good y i))
+
+-- ---- as many uses as corners
+
+uses-length : (normals : Bool) (i : ℕ) (fs : List Ring) → length (usesFrom normals i fs) ≡ sum (map length fs)
+uses-length normals i [] = refl
+uses-length normals i (f ∷ fs) =
+    length-append (faceUses normals i f) (usesFrom normals (suc i) fs)
+    ∙ ap₂ _+_ (length-map (faceKeys normals f) (λ k. (i, k)) ∙ length-map (ringEdges f) (keyOf normals) ∙ ring-length f) (uses-length normals (suc i) fs)
+
+pub uses-corners : (normals : Bool) (s cs : List ℕ) → 3 * sum s ≡ length cs → length (usesFrom normals 0 (rings s cs)) ≡ length cs / 3
+uses-corners normals s cs h =
+    let a : length (usesFrom normals 0 (rings s cs)) ≡ sum (map length (rings s cs)) = uses-length normals 0 (rings s cs) in
+    let b : sum (map length (rings s cs)) ≡ sum s = ap sum (sizes-back s cs (omega arith)) in
+    omega arith

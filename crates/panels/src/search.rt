@@ -1,0 +1,141 @@
+// The search: start at the lowest face left, pop from a stack, go through neighbours in the order they were recorded; a face is
+// listed and pushed when first seen. A face is pushed once, so a stack of one place for each face is enough; which faces are
+// listed is kept in a row of marks beside.
+ghost use mathlib.Core.Path.{_≡_};
+ghost use mathlib.Core.List.{List, [], _∷_};
+ghost use Prim.Native.Nat.{ℕ, _+_, _-_, _<_, _≤_};
+ghost use lib.ListN.{length, getD, take};
+ghost use Rattle.panels.specs.Panels.{neighbours, look, search′};
+ghost use Rattle.panels.specs.Joins.{joinsOf};
+ghost use Rattle.panels.specs.Walk as walk;
+
+// How many faces are on the stack, and how many are listed.
+pub struct Marks {
+    pub top: usize,
+    pub n: usize,
+}
+
+// The panel of `face`, listed behind the `n` faces of the panels before: how many are listed then.
+fn search(
+    joins: &[u32],
+    order: &[u32],
+    ends: &[u32],
+    face: u32,
+    seen: &mut [u32],
+    stack: &mut [u32],
+    flat: &mut [u32],
+    n: usize,
+) -> usize
+    requires { ⌜ walk.Searchable (now joins) (now order) (now ends) face (now seen) (now stack) (now flat) n ⌝ }
+    ensures { λ r. ⌜ walk.Searched (length (now (ends .entry))) (search′ (length (now (ends .entry))) (joinsOf (now (joins .entry))) (take n (now (flat .entry))) (face ∷ []) (face ∷ [])) (now (flat .entry)) n (now (seen .exit)) (now (stack .exit)) (now (flat .exit)) r ⌝ }
+{
+    let first = visit(face, seen, stack, flat, 0, n);
+    let mut top = first.top;
+    let mut listed = first.n;
+    while 0 < top {
+        let marks = pop(joins, order, ends, seen, stack, flat, top, listed);
+        top = marks.top;
+        listed = marks.n;
+    }
+    listed
+}
+
+// The face on top of the stack goes, and its neighbours are looked through.
+fn pop(
+    joins: &[u32],
+    order: &[u32],
+    ends: &[u32],
+    seen: &mut [u32],
+    stack: &mut [u32],
+    flat: &mut [u32],
+    top: usize,
+    n: usize,
+) -> Marks
+    requires { ⌜ walk.Poppable (now joins) (now order) (now ends) (now seen) (now stack) (now flat) top n ⌝ }
+    ensures { λ r. ⌜ walk.Stepped (length (now (ends .entry))) (look [] (neighbours (getD (now (stack .entry)) (top - 1) 0) (joinsOf (now (joins .entry)))) (walk.stateOf (now (stack .entry)) (top - 1) (now (flat .entry)) n)) (now (flat .entry)) n (now (seen .exit)) (now (stack .exit)) (now (flat .exit)) (r .top) (r .n) ⌝ }
+{
+    let left = top - 1;
+    let x = crate::wide(stack[left]);
+    let from = begin_of(ends, x);
+    let to = crate::wide(ends[x]);
+    look(joins, order, from, to, seen, stack, flat, left, n)
+}
+
+// A look through the neighbours that the entries from `from` on, up to `to`, stand for.
+fn look(
+    joins: &[u32],
+    order: &[u32],
+    from: usize,
+    to: usize,
+    seen: &mut [u32],
+    stack: &mut [u32],
+    flat: &mut [u32],
+    top: usize,
+    n: usize,
+) -> Marks
+    requires { ⌜ walk.Lookable (length (now seen)) (now joins) (now order) to (now seen) (now stack) (now flat) top n ⌝ }
+    ensures { λ r. ⌜ walk.Stepped (length (now (seen .entry))) (look [] (walk.nearBetween (now (joins .entry)) (now (order .entry)) from to) (walk.stateOf (now (stack .entry)) top (now (flat .entry)) n)) (now (flat .entry)) n (now (seen .exit)) (now (stack .exit)) (now (flat .exit)) (r .top) (r .n) ⌝ }
+{
+    let mut height = top;
+    let mut listed = n;
+    let mut p = from;
+    while p < to {
+        let x = other_end(joins, crate::wide(order[p]));
+        let marks = visit(x, seen, stack, flat, height, listed);
+        height = marks.top;
+        listed = marks.n;
+        p += 1;
+    }
+    Marks {
+        top: height,
+        n: listed,
+    }
+}
+
+// Face `x` is listed and pushed, if it is not listed yet.
+fn visit(
+    x: u32,
+    seen: &mut [u32],
+    stack: &mut [u32],
+    flat: &mut [u32],
+    top: usize,
+    n: usize,
+) -> Marks
+    requires { ⌜ walk.Visitable (length (now seen)) x (now seen) (now stack) (now flat) top n ⌝ }
+    ensures { λ r. ⌜ walk.Stepped (length (now (seen .entry))) (look [] (x ∷ []) (walk.stateOf (now (stack .entry)) top (now (flat .entry)) n)) (now (flat .entry)) n (now (seen .exit)) (now (stack .exit)) (now (flat .exit)) (r .top) (r .n) ⌝ }
+{
+    let i = crate::wide(x);
+    if seen[i] != 0 {
+        return Marks { top: top, n: n };
+    }
+    seen[i] = 1;
+    stack[top] = x;
+    flat[n] = x;
+    Marks {
+        top: top + 1,
+        n: n + 1,
+    }
+}
+
+// The other face of the join at entry `e`: joins are flat, two faces each.
+fn other_end(joins: &[u32], e: usize) -> u32
+    requires { ⌜ walk.AtEntry (now joins) e ⌝ }
+    ensures { λ r. ⌜ r ≡ walk.otherEnd (now (joins .entry)) e ⌝ }
+{
+    if e % 2 == 0 {
+        joins[e + 1]
+    } else {
+        joins[e - 1]
+    }
+}
+
+// Where the entries of face `x` begin.
+fn begin_of(ends: &[u32], x: usize) -> usize
+    requires { ⌜ x < length (now ends) ⌝ }
+    ensures { λ r. ⌜ r ≡ walk.beginOf (now (ends .entry)) x ⌝ }
+{
+    if x == 0 {
+        return 0;
+    }
+    crate::wide(ends[x - 1])
+}
