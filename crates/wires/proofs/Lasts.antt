@@ -3,7 +3,7 @@
 use mathlib.Core.Path.{_≡_, refl, sym, ap, ap₂, _∙_, subst}
 use mathlib.Core.Bool.{Bool, true, false, cond}
 use mathlib.Core.Logic.{⊎-elim}
-use mathlib.Core.List.{List, [], _∷_, _++_, append-assoc, append-nil, map}
+use mathlib.Core.List.{List, [], _∷_, _++_, append-assoc, append-nil}
 use Prim.Native.Nat.{ℕ, zero, suc, _+_, _≤_, _<_}
 use native.Mathlib.Nat.{zero-add, add-zero, add-suc, suc-add, le-of-suc-le-suc, eq-or-lt-of-le}
 use native.Mathlib.Numerals.{add-one}
@@ -20,7 +20,7 @@ use Rattle.wires.specs.Hems.{EdgeLists, pairs}
 use Rattle.wires.specs.Ported.{put, fill, portedWires}
 use Rattle.wires.specs.Tracing.{leftFrom, left, Next, Linked, Stands, numbered, traces, nobody}
 use Rattle.wires.proofs.Entries.{traces-enough}
-use Rattle.wires.proofs.Tables.{edgeAt, length-pairs, pairs-at}
+use Rattle.wires.proofs.Tables.{edgeAt, length-pairs, pairs-at, startsOf, starts-of}
 use Rattle.wires.proofs.AllWires.{left-few}
 use Rattle.wires.proofs.Twins.{from, Twin, twin-traces}
 
@@ -264,9 +264,6 @@ module _ (n : ℕ) (d : List Edge) (firsts : List ℕ) (r : Lasts n d firsts) (e
   lasts-more : Lasts n (d ++ (e ∷ [])) (set firsts (e .0) (length d))
   lasts-more = record { long = length-set firsts (e .0) (length d) ∙ r .long; highest = higher; named = naming; twin = record { at = twins } }
 
-abbrev startsOf : List Edge → List ℕ
-startsOf h = map (λ (e : Edge). e .0) h
-
 lasts-all :
     (n : ℕ) (d h : List Edge) (firsts : List ℕ) → Lasts n d firsts → ((j : ℕ) → j < length h → edgeAt h j .0 < n)
     → Lasts n (d ++ h) (numbered (length d) firsts (startsOf h))
@@ -277,11 +274,6 @@ lasts-all n d (e ∷ h) firsts r f =
     let l : length (d ++ (e ∷ [])) ≡ suc (length d) = length-append d (e ∷ []) ∙ add-one (length d) in
     subst (λ (g : List Edge). Lasts n g (numbered (suc (length d)) (set firsts (e .0) (length d)) (startsOf h))) (append-assoc d (e ∷ []) h)
     (subst (λ (i : ℕ). Lasts n ((d ++ (e ∷ [])) ++ h) (numbered i (set firsts (e .0) (length d)) (startsOf h))) l k)
-
-starts-of : (ss es : List ℕ) → length ss ≡ length es → startsOf (pairs ss es) ≡ ss
-starts-of [] es l = refl
-starts-of (s ∷ ss) [] l = absurd (omega arith)
-starts-of (s ∷ ss) (e ∷ es) l = ap (λ (t : List ℕ). s ∷ t) (starts-of ss es (omega arith))
 
 -- ---- ported wires are the wires of what the table stands for
 

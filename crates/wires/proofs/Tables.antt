@@ -3,7 +3,7 @@
 use mathlib.Core.Path.{_≡_, refl, sym, ap, ap₂, _∙_, subst}
 use mathlib.Core.Bool.{Bool, true, false, cond, _&&_}
 use mathlib.Core.Option.{Option, none, some}
-use mathlib.Core.List.{List, [], _∷_}
+use mathlib.Core.List.{List, [], _∷_, map}
 use Prim.Native.Nat.{ℕ, zero, suc, _+_, _≤_, _<_, min}
 use native.Mathlib.Nat.{add-suc, suc-add, add-zero, zero-add}
 use native.Mathlib.Omega.{arith}
@@ -38,6 +38,22 @@ pairs-at [] es k l h = absurd (omega arith)
 pairs-at (s ∷ ss) [] k l h = absurd (omega arith)
 pairs-at (s ∷ ss) (e ∷ es) zero l h = refl
 pairs-at (s ∷ ss) (e ∷ es) (suc k) l h = pairs-at ss es k (omega arith) (omega arith)
+
+-- where each edge starts and where each ends
+abbrev pub startsOf : List Edge → List ℕ
+startsOf h = map (λ (e : Edge). e .0) h
+
+abbrev pub endsOf : List Edge → List ℕ
+endsOf h = map (λ (e : Edge). e .1) h
+
+pub pairs-of : (h : List Edge) → pairs (startsOf h) (endsOf h) ≡ h
+pairs-of [] = refl
+pairs-of (e ∷ h) = ap (λ (g : List Edge). e ∷ g) (pairs-of h)
+
+pub starts-of : (ss es : List ℕ) → length ss ≡ length es → startsOf (pairs ss es) ≡ ss
+starts-of [] es l = refl
+starts-of (s ∷ ss) [] l = absurd (omega arith)
+starts-of (s ∷ ss) (e ∷ es) l = ap (λ (t : List ℕ). s ∷ t) (starts-of ss es (omega arith))
 
 -- ---- what a new first at c changes
 
@@ -193,7 +209,6 @@ module _ (starts ends nexts firsts : List ℕ) (edges : EdgeLists starts ends (l
       -- and the tables fit on
       pub linked-on : Linked starts nexts (set firsts c (getD nexts (getD firsts c 0) 0))
       linked-on =
-          let x : ℕ = getD nexts (getD firsts c 0) 0 in
           let here : (s : ℕ) → s ≡ c → getD (set firsts c (getD nexts (getD firsts c 0) 0)) s 0 ≡ getD nexts (getD firsts c 0) 0 =
           λ s e. ap (λ (t : ℕ). getD (set firsts c (getD nexts (getD firsts c 0) 0)) t 0) e ∙ getD-set-same firsts c (getD nexts (getD firsts c 0) 0) 0 inside in
           let there : (s : ℕ) → (s ≡ c → ⊥) → getD (set firsts c (getD nexts (getD firsts c 0) 0)) s 0 ≡ getD firsts s 0 =

@@ -2,3 +2,4 @@ pub mod Ported
 pub mod House
 pub mod Hems
 pub mod Tracing
+pub mod Answers
