@@ -35,13 +35,25 @@ same-length-2 : tie.Need-same-length-2 Inv-loop μ-loop
 same-length-2 c = search needs
 
 returns : tie.Need-returns Inv-loop μ-loop
-returns c = follow-ends (c .before .before .before .before .before .loop .inv) (c .before .before .before .onward-from .ensures) (c .before .before .before .onward-from .kept .1 .1 .1 .0) (c .if1 .taken)
+returns c =
+    let loop = c .before .before .before .before .before .loop in
+    let onward-from = c .before .before .before .onward-from in
+    let if1 = c .if1 in
+    follow-ends (loop .inv) (onward-from .ensures) (onward-from .kept .1 .1 .1 .0) (if1 .taken)
 
 loop-less : tie.Need-loop-less Inv-loop μ-loop
-loop-less c = follow-less (c .before .before .before .before .before .loop .inv) (c .before .before .before .onward-from .ensures) (c .before .before .before .onward-from .kept .1 .1 .1 .0) (c .if1 .left)
+loop-less c =
+    let loop = c .before .before .before .before .before .loop in
+    let onward-from = c .before .before .before .onward-from in
+    let if1 = c .if1 in
+    follow-less (loop .inv) (onward-from .ensures) (onward-from .kept .1 .1 .1 .0) (if1 .left)
 
 loop-again : tie.Need-loop-again Inv-loop μ-loop
-loop-again c = follow-turns (c .before .before .before .before .before .loop .inv) (c .before .before .before .onward-from .ensures) (c .before .before .before .onward-from .kept .1 .1 .1 .0) (c .if1 .left)
+loop-again c =
+    let loop = c .before .before .before .before .before .loop in
+    let onward-from = c .before .before .before .onward-from in
+    let if1 = c .if1 in
+    follow-turns (loop .inv) (onward-from .ensures) (onward-from .kept .1 .1 .1 .0) (if1 .left)
 
 pub trace-wire-spec : {M : Type 1} → statement M
 trace-wire-spec =
