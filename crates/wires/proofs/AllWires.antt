@@ -21,7 +21,8 @@ use Rattle.edges.specs.Edges.{Edge}
 use Rattle.wires.specs.Hems.{Written, outs, pairs}
 use Rattle.wires.specs.House.{leastStart, Walk}
 use Rattle.wires.specs.Ported.{entry}
-use Rattle.wires.specs.Tracing.{leftFrom, left, Stands, trace, traces, Begun, Ended, Unwritten, OneMore, Room, AllLeft}
+use Rattle.wires.specs.Tables.{leftFrom, left, Stands}
+use Rattle.wires.specs.Tracing.{trace, traces, Begun, Ended, Unwritten, OneMore, Room, AllLeft}
 use Rattle.wires.proofs.Entries.{entry-none, entry-outs, trace-kept, trace-outs, start-traced, traces-step, traces-end}
 use Rattle.wires.proofs.Tables.{length-pairs, none-left, entry-left, least-left, left-none}
 

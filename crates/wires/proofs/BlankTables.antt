@@ -10,7 +10,8 @@ use Rattle.edges.specs.Edges.{Edge}
 use Rattle.wires.specs.Hems.{pairs, EdgeLists, Portable, Houseable, Written}
 use Rattle.wires.specs.House.{houseWires}
 use Rattle.wires.specs.Ported.{portedWires}
-use Rattle.wires.specs.Tracing.{left, Stands, numbered, chained, nextsFrom, Startable, Linkable, Chained, traces, Room, AllLeft, nobody, blank, PortedIn, HouseIn}
+use Rattle.wires.specs.Tables.{left, Stands, numbered, chained, nextsFrom, Startable, Linkable, LinkedAll, nobody, blank}
+use Rattle.wires.specs.Tracing.{traces, Room, AllLeft, PortedIn, HouseIn}
 use Rattle.wires.proofs.Closing.{Used, house-used}
 use Rattle.wires.proofs.Entries.{Roomy, traces-roomy}
 use Rattle.wires.proofs.Tables.{length-pairs}
@@ -109,7 +110,7 @@ module _ {starts ends nexts firsts flat lengths : List ℕ} (p : HouseIn starts 
         room = rw (p .tables .nexts-is) (room 2048 4096 positions-few edges-many starts ends (p .given .edges));
       }
 
-  module _ {nexts′ firsts′ : List ℕ} (c : Chained starts nexts firsts nexts′ firsts′) where
+  module _ {nexts′ firsts′ : List ℕ} (c : LinkedAll starts nexts firsts nexts′ firsts′) where
     as-chained : firsts′ ≡ chained 0 (blank 2048) starts
     as-chained = c .firsts-is ∙ ap (λ (l : List ℕ). chained 0 l starts) (p .tables .firsts-is)
 

@@ -15,7 +15,7 @@ use Rattle.lists.proofs.Bools.{by-cases}
 use Rattle.lists.proofs.Writing.{sets-front}
 use Rattle.edges.specs.Edges.{Edge}
 use Rattle.wires.specs.Hems.{EdgeLists, pairs}
-use Rattle.wires.specs.Tracing.{leftFrom, left, Next, Linked, Stands, chained, nextsFrom, nobody}
+use Rattle.wires.specs.Tables.{leftFrom, left, Next, Linked, Stands, chained, nextsFrom, nobody}
 use Rattle.wires.proofs.Tables.{edgeAt, length-pairs, pairs-at}
 
 -- ---- the first table, of edges that are numbered from k on

@@ -10,7 +10,8 @@ use Rattle.lists.proofs.Writing.{sets-snoc}
 use Rattle.edges.specs.Edges.{Edge}
 use Rattle.wires.specs.House.{Walk, longer}
 use Rattle.wires.specs.Ported.{entry}
-use Rattle.wires.specs.Tracing.{left, Stands, onward, taken, trace, traceOn, Underway, Onward, Begun, Ended}
+use Rattle.wires.specs.Tables.{left, Stands}
+use Rattle.wires.specs.Tracing.{onward, taken, trace, traceOn, Underway, StepTaken, Begun, Ended}
 use Rattle.wires.proofs.Entries.{trace-step, trace-home, trace-away}
 
 pub record Following (starts ends nexts firsts₀ : List ℕ) (f : ℕ) (flat₀ : List ℕ) (at : ℕ) (firsts flat : List ℕ) (m c : ℕ) : Type 0 where
@@ -48,7 +49,7 @@ follow-begins starts ends nexts firsts f flat at b =
 
 -- the wire from c on is c and the wire from where its entry leads
 unrolled :
-    {starts ends nexts : List ℕ} {f c : ℕ} {firsts firsts′ : List ℕ} {r : ℕ} → Onward starts ends nexts f c firsts firsts′ r
+    {starts ends nexts : List ℕ} {f c : ℕ} {firsts firsts′ : List ℕ} {r : ℕ} → StepTaken starts ends nexts f c firsts firsts′ r
     → trace f c (left starts ends firsts) ≡ longer c (traceOn f r (left starts ends firsts′))
 unrolled {starts} {ends} {nexts} {f} {c} {firsts} {firsts′} {r} o =
     trace-step f c (left starts ends firsts)
@@ -57,7 +58,7 @@ unrolled {starts} {ends} {nexts} {f} {c} {firsts} {firsts′} {r} o =
 module _
     {starts ends nexts firsts₀ : List ℕ} {f : ℕ} {flat₀ : List ℕ} {at : ℕ} {firsts flat : List ℕ} {m c : ℕ}
     (w : Following starts ends nexts firsts₀ f flat₀ at firsts flat m c)
-    {firsts′ : List ℕ} {r : ℕ} (o : Onward starts ends nexts f c firsts firsts′ r) (same-length : length firsts′ ≡ length firsts) where
+    {firsts′ : List ℕ} {r : ℕ} (o : StepTaken starts ends nexts f c firsts firsts′ r) (same-length : length firsts′ ≡ length firsts) where
   -- the whole wire, and what is left of the edges
   abbrev whole : Walk
   whole = trace f f (left starts ends firsts₀)

@@ -18,7 +18,8 @@ use Rattle.lists.proofs.Only.{only-append}
 use Rattle.edges.specs.Edges.{Edge}
 use Rattle.wires.specs.Hems.{EdgeLists, pairs}
 use Rattle.wires.specs.Ported.{put, fill, portedWires}
-use Rattle.wires.specs.Tracing.{leftFrom, left, Next, Linked, Stands, numbered, traces, nobody}
+use Rattle.wires.specs.Tables.{leftFrom, left, Next, Linked, Stands, numbered, nobody}
+use Rattle.wires.specs.Tracing.{traces}
 use Rattle.wires.proofs.Entries.{traces-enough}
 use Rattle.wires.proofs.Tables.{edgeAt, length-pairs, pairs-at, startsOf, starts-of}
 use Rattle.wires.proofs.AllWires.{left-few}

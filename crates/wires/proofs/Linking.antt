@@ -6,7 +6,7 @@ use native.Mathlib.Numerals.{add-one}
 use native.Mathlib.Omega.{arith}
 use lib.ListN.{length, getD, set, drop, length-set}
 use lib.Seq.{sets, length-sets, drop-cons, drop-length, set-comm}
-use Rattle.wires.specs.Tracing.{numbered, chained, nextsFrom, Chained}
+use Rattle.wires.specs.Tables.{numbered, chained, nextsFrom, LinkedAll}
 
 -- ---- one after the other
 
@@ -88,7 +88,7 @@ module _
       }
 
 pub chain-ends :
-    {starts nexts₀ firsts₀ nexts firsts : List ℕ} {k : ℕ} → k ≤ 0 → Chaining starts nexts₀ firsts₀ nexts firsts k → Chained starts nexts₀ firsts₀ nexts firsts
+    {starts nexts₀ firsts₀ nexts firsts : List ℕ} {k : ℕ} → k ≤ 0 → Chaining starts nexts₀ firsts₀ nexts firsts k → LinkedAll starts nexts₀ firsts₀ nexts firsts
 chain-ends {starts} {nexts₀} {firsts₀} {nexts} {firsts} {k} h c =
     let e : k ≡ 0 = omega arith in
     record {

@@ -8,7 +8,8 @@ use lib.ListN.{length, getD, set, length-set}
 use Rattle.edges.specs.Edges.{Edge}
 use Rattle.wires.specs.Hems.{EdgeLists}
 use Rattle.wires.specs.Ported.{entry}
-use Rattle.wires.specs.Tracing.{left, Linked, Stands, onward, taken, Onward}
+use Rattle.wires.specs.Tables.{left, Linked, Stands}
+use Rattle.wires.specs.Tracing.{onward, taken, StepTaken}
 use Rattle.wires.proofs.Tables.{none-left, entry-left, gone-left, linked-on}
 
 -- a table of the same length
@@ -29,7 +30,7 @@ module _
   g = left starts ends firsts
 
   -- no entry: back to the first position
-  pub back-home : length starts ≤ getD firsts c 0 → Onward starts ends nexts f c firsts firsts f
+  pub back-home : length starts ≤ getD firsts c 0 → StepTaken starts ends nexts f c firsts firsts f
   back-home h =
       let e : entry c g ≡ none = none-left starts ends nexts firsts (s .edges) (s .linked) c inside h in
       record { leads = sym (ap (onward f) e); inside = home; left-is = sym (ap (λ (o : Option Edge). taken o g) e); stands = s }
@@ -42,7 +43,7 @@ module _
     abbrev firsts′ : List ℕ
     firsts′ = set firsts c (getD nexts k 0)
 
-    goes-on : Onward starts ends nexts f c firsts firsts′ (getD ends k 0)
+    goes-on : StepTaken starts ends nexts f c firsts firsts′ (getD ends k 0)
     goes-on =
         let e : entry c g ≡ some (c, getD ends k 0) = entry-left starts ends nexts firsts (s .edges) (s .linked) c inside h in
         record {
@@ -55,7 +56,7 @@ module _
   -- the same by the code's names for the place and the edge
   pub onward-by :
       (p k : ℕ) → p ≡ c → k ≡ getD firsts p 0 → k < length starts
-      → Onward starts ends nexts f c firsts (set firsts p (getD nexts k 0)) (getD ends k 0)
+      → StepTaken starts ends nexts f c firsts (set firsts p (getD nexts k 0)) (getD ends k 0)
   onward-by p k a b h =
       let e : k ≡ getD firsts c 0 = b ∙ ap (λ (i : ℕ). getD firsts i 0) a in
       rw (a, e) (goes-on (rw e at h))

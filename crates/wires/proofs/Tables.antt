@@ -19,7 +19,7 @@ use Rattle.edges.proofs.SameEdge.{same-refl}
 use Rattle.wires.specs.Hems.{EdgeLists, outs, pairs}
 use Rattle.wires.specs.House.{lesser, leastStart, without}
 use Rattle.wires.specs.Ported.{entry}
-use Rattle.wires.specs.Tracing.{leftFrom, left, Next, Linked}
+use Rattle.wires.specs.Tables.{leftFrom, left, Next, Linked}
 use Rattle.wires.proofs.Closing.{start-none, start-some}
 use Rattle.wires.proofs.Entries.{entry-none, entry-outs, start-le}
 

@@ -2,7 +2,8 @@
 use mathlib.Core.Path.{_≡_, refl, ap}
 use Prim.Native.Nat.{ℕ, _-_}
 use lib.ListN.{length, set}
-use Rattle.wires.specs.Tracing.{left, trace}
+use Rattle.wires.specs.Tables.{left}
+use Rattle.wires.specs.Tracing.{trace}
 use Rattle.wires.proofs.AllWires.{wire-small}
 use native.Mathlib.Omega.{arith}
 use borrow.Author.Needs.{needs}

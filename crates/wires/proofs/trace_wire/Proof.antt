@@ -1,6 +1,7 @@
 -- What was passed and what is still to come is the whole wire. The measure is the length of what is to come. Assumes nothing.
 use lib.ListN.{length}
-use Rattle.wires.specs.Tracing.{left, trace}
+use Rattle.wires.specs.Tables.{left}
+use Rattle.wires.specs.Tracing.{trace}
 use Rattle.wires.proofs.Following.{Following, follow-begins, follow-turns, follow-less, follow-ends}
 use borrow.Author.Needs.{needs}
 use native.Mathlib.Omega.{arith}
