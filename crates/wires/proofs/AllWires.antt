@@ -21,7 +21,8 @@ use Rattle.edges.specs.Edges.{Edge}
 use Rattle.wires.specs.Hems.{Written, outs, pairs}
 use Rattle.wires.specs.House.{leastStart, Walk}
 use Rattle.wires.specs.Ported.{entry}
-use Rattle.wires.specs.Tracing.{leftFrom, left, Stands, trace, traces, Begun, Ended, Unwritten, OneMore, Room, AllLeft}
+use Rattle.wires.specs.Tables.{leftFrom, left, Stands}
+use Rattle.wires.specs.Tracing.{trace, traces, Begun, Ended, Unwritten, OneMore, Room, AllLeft}
 use Rattle.wires.proofs.Entries.{entry-none, entry-outs, trace-kept, trace-outs, start-traced, traces-step, traces-end}
 use Rattle.wires.proofs.Tables.{length-pairs, none-left, entry-left, least-left, left-none}
 
@@ -84,7 +85,9 @@ pub record Gathering (starts ends nexts firsts₀ flat₀ lengths₀ firsts flat
   pub written : Written done flat₀ lengths₀ flat lengths m k
   pub room : Room (traces (left starts ends firsts₀)) flat₀ lengths₀
 
-pub gather-begins : (starts ends nexts firsts flat lengths : List ℕ) → AllLeft starts ends nexts firsts flat lengths → Gathering starts ends nexts firsts flat lengths firsts flat lengths 0 0 0
+pub gather-begins :
+    (starts ends nexts firsts flat lengths : List ℕ) → AllLeft starts ends nexts firsts flat lengths
+    → Gathering starts ends nexts firsts flat lengths firsts flat lengths 0 0 0
 gather-begins starts ends nexts firsts flat lengths a =
     record {
       stands = a .stands;
@@ -99,7 +102,9 @@ gather-begins starts ends nexts firsts flat lengths a =
       room = a .room;
     }
 
-module _ {starts ends nexts firsts₀ flat₀ lengths₀ firsts flat lengths : List ℕ} {m k p : ℕ} (t : Gathering starts ends nexts firsts₀ flat₀ lengths₀ firsts flat lengths m k p) (inside : p < length firsts) where
+module _
+    {starts ends nexts firsts₀ flat₀ lengths₀ firsts flat lengths : List ℕ} {m k p : ℕ}
+    (t : Gathering starts ends nexts firsts₀ flat₀ lengths₀ firsts flat lengths m k p) (inside : p < length firsts) where
   -- no edge at p
   pub gather-skips : length starts ≤ getD firsts p 0 → Gathering starts ends nexts firsts₀ flat₀ lengths₀ firsts flat lengths m k (p + 1)
   gather-skips h =
@@ -123,61 +128,76 @@ module _ {starts ends nexts firsts₀ flat₀ lengths₀ firsts flat lengths : L
 
   -- an edge at p: a wire begins there
   module _ (h : getD firsts p 0 < length starts) where
-    least : leastStart (left starts ends firsts) ≡ some p
+    abbrev g : List Edge
+    g = left starts ends firsts
+
+    abbrev w : Walk
+    w = trace p p g
+
+    least : leastStart g ≡ some p
     least = least-left starts ends nexts firsts (t .stands .edges) (t .stands .linked) p inside (t .passed) h
 
-    opened : traces (left starts ends firsts₀) ≡ t .done ++ (trace p p (left starts ends firsts) .0 ∷ traces (trace p p (left starts ends firsts) .1))
-    opened = t .whole ∙ ap (λ (ws : List (List ℕ)). t .done ++ ws) (traces-step (left starts ends firsts) p least)
+    opened : traces (left starts ends firsts₀) ≡ t .done ++ (w .0 ∷ traces (w .1))
+    opened = t .whole ∙ ap (λ (ws : List (List ℕ)). t .done ++ ws) (traces-step g p least)
 
     pub gather-ready : Unwritten starts ends nexts firsts p flat lengths m k
     gather-ready =
-        let w : List ℕ = trace p p (left starts ends firsts) .0 in
-        let ws : List (List ℕ) = traces (trace p p (left starts ends firsts) .1) in
-        let a : length (joined (traces (left starts ends firsts₀))) ≡ length (joined (t .done)) + length (trace p p (left starts ends firsts) .0 ++ joined (traces (trace p p (left starts ends firsts) .1))) =
+        let a : length (joined (traces (left starts ends firsts₀))) ≡ length (joined (t .done)) + length (w .0 ++ joined (traces (w .1))) =
         ap (λ (l : List (List ℕ)). length (joined l)) opened
-        ∙ ap length (joined-append (t .done) (trace p p (left starts ends firsts) .0 ∷ traces (trace p p (left starts ends firsts) .1)))
-        ∙ length-append (joined (t .done)) (trace p p (left starts ends firsts) .0 ++ joined (traces (trace p p (left starts ends firsts) .1))) in
-        let b : _ = length-append (trace p p (left starts ends firsts) .0) (joined (traces (trace p p (left starts ends firsts) .1))) in
-        let c : length (traces (left starts ends firsts₀)) ≡ length (t .done) + suc (length (traces (trace p p (left starts ends firsts) .1))) =
-        ap length opened ∙ length-append (t .done) (trace p p (left starts ends firsts) .0 ∷ traces (trace p p (left starts ends firsts) .1)) in
+        ∙ ap length (joined-append (t .done) (w .0 ∷ traces (w .1)))
+        ∙ length-append (joined (t .done)) (w .0 ++ joined (traces (w .1))) in
+        let b : length (w .0 ++ joined (traces (w .1))) ≡ length (w .0) + length (joined (traces (w .1))) = length-append (w .0) (joined (traces (w .1))) in
+        let c : length (traces (left starts ends firsts₀)) ≡ length (t .done) + suc (length (traces (w .1))) =
+        ap length opened ∙ length-append (t .done) (w .0 ∷ traces (w .1)) in
         record {
           begun = record { stands = t .stands; inside = inside; room = omega (arith, t .room .numbers, t .written .numbers-is, t .flat-same) };
           slot = omega (arith, t .room .wires, t .written .wires-is, t .lengths-same);
         }
 
-    pub gather-less : length (trace p p (left starts ends firsts) .1) < length (left starts ends firsts)
+    fewer : length (w .1) < length g
     unfolding trace
-    gather-less = start-traced (length (left starts ends firsts)) p (left starts ends firsts) least .fewer
+    fewer = start-traced (length g) p g least .fewer
 
-    module _ {firsts′ flat′ lengths′ : List ℕ} {m′ k′ : ℕ} (r : OneMore starts ends nexts (trace p p (left starts ends firsts)) flat lengths m k firsts′ flat′ lengths′ m′ k′) (same-length : length firsts′ ≡ length firsts) where
+    module _
+        {firsts′ flat′ lengths′ : List ℕ} {m′ k′ : ℕ} (r : OneMore starts ends nexts w flat lengths m k firsts′ flat′ lengths′ m′ k′)
+        (same-length : length firsts′ ≡ length firsts) where
+      abbrev g′ : List Edge
+      g′ = left starts ends firsts′
+
       -- the wire takes away, so that below p no edge is left
       still-passed : (s : ℕ) → s < p → length starts ≤ getD firsts′ s 0
       still-passed s l =
           by-cases (ltb (getD firsts′ s 0) (length starts))
           (λ q.
           let st : Stands starts ends nexts firsts′ = r .ended .stands in
-          let a : 0 < outs s (left starts ends firsts′) = entry-outs s (left starts ends firsts′) (s, getD ends (getD firsts′ s 0) 0) (entry-left starts ends nexts firsts′ (st .edges) (st .linked) s (omega arith) (ltb-true (getD firsts′ s 0) (length starts) q)) in
-          let b : outs s (left starts ends firsts′) ≡ outs s (trace p p (left starts ends firsts) .1) = ap (outs s) (r .ended .left-is) in
-          let c : outs s (trace p p (left starts ends firsts) .1) ≤ outs s (left starts ends firsts) = trace-outs s p p (left starts ends firsts) in
-          let d : outs s (left starts ends firsts) ≡ 0 = entry-none s (left starts ends firsts) (none-left starts ends nexts firsts (t .stands .edges) (t .stands .linked) s (omega arith) (t .passed s l)) in
+          let e : entry s g′ ≡ some (s, getD ends (getD firsts′ s 0) 0) =
+          entry-left starts ends nexts firsts′ (st .edges) (st .linked) s (omega arith) (ltb-true (getD firsts′ s 0) (length starts) q) in
+          let a : 0 < outs s g′ = entry-outs s g′ (s, getD ends (getD firsts′ s 0) 0) e in
+          let b : outs s g′ ≡ outs s (w .1) = ap (outs s) (r .ended .left-is) in
+          let c : outs s (w .1) ≤ outs s g = trace-outs s p p g in
+          let d : outs s g ≡ 0 =
+          entry-none s g (none-left starts ends nexts firsts (t .stands .edges) (t .stands .linked) s (omega arith) (t .passed s l)) in
           absurd (omega arith))
           (λ q. ltb-false (getD firsts′ s 0) (length starts) q)
+
+      pub gather-less : length g′ < length g
+      gather-less = let a : length g′ ≡ length (w .1) = ap length (r .ended .left-is) in let b : length (w .1) < length g = fewer in omega arith
 
       pub gather-turns : Gathering starts ends nexts firsts₀ flat₀ lengths₀ firsts′ flat′ lengths′ m′ k′ p
       gather-turns =
           record {
             stands = r .ended .stands;
             same = same-length ∙ t .same;
-            flat-same = ap length (r .ended .flat-is) ∙ length-sets flat m (trace p p (left starts ends firsts) .0) ∙ t .flat-same;
-            lengths-same = ap length (r .lengths-is) ∙ length-set lengths k (length (trace p p (left starts ends firsts) .0)) ∙ t .lengths-same;
+            flat-same = ap length (r .ended .flat-is) ∙ length-sets flat m (w .0) ∙ t .flat-same;
+            lengths-same = ap length (r .lengths-is) ∙ length-set lengths k (length (w .0)) ∙ t .lengths-same;
             upto = omega (arith, t .upto);
             passed = still-passed;
-            done = t .done ++ (trace p p (left starts ends firsts) .0 ∷ []);
+            done = t .done ++ (w .0 ∷ []);
             whole =
                 opened
-                ∙ sym (append-assoc (t .done) (trace p p (left starts ends firsts) .0 ∷ []) (traces (trace p p (left starts ends firsts) .1)))
-                ∙ ap (λ (g : List Edge). (t .done ++ (trace p p (left starts ends firsts) .0 ∷ [])) ++ traces g) (sym (r .ended .left-is));
-            written = written-more (trace p p (left starts ends firsts) .0) (t .written) (r .ended .flat-is) (r .lengths-is) (r .ended .end-is) (r .wires-is);
+                ∙ sym (append-assoc (t .done) (w .0 ∷ []) (traces (w .1)))
+                ∙ ap (λ (l : List Edge). (t .done ++ (w .0 ∷ [])) ++ traces l) (sym (r .ended .left-is));
+            written = written-more (w .0) (t .written) (r .ended .flat-is) (r .lengths-is) (r .ended .end-is) (r .wires-is);
             room = t .room;
           }
 
@@ -188,5 +208,6 @@ pub gather-ends :
     → Written (traces (left starts ends firsts₀)) flat₀ lengths₀ flat lengths m k
 gather-ends {starts} {ends} {nexts} {firsts₀} {flat₀} {lengths₀} {firsts} {flat} {lengths} {m} {k} {p} t h =
     let e : left starts ends firsts ≡ [] = left-none starts ends nexts firsts (t .stands .edges) (t .stands .linked) (λ s l. t .passed s (omega arith)) in
-    let a : traces (left starts ends firsts₀) ≡ t .done = t .whole ∙ ap (λ (ws : List (List ℕ)). t .done ++ ws) (traces-end (left starts ends firsts) e) ∙ append-nil (t .done) in
+    let a : traces (left starts ends firsts₀) ≡ t .done =
+    t .whole ∙ ap (λ (ws : List (List ℕ)). t .done ++ ws) (traces-end (left starts ends firsts) e) ∙ append-nil (t .done) in
     subst (λ (ws : List (List ℕ)). Written ws flat₀ lengths₀ flat lengths m k) (sym a) (t .written)

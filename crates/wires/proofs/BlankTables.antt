@@ -10,7 +10,8 @@ use Rattle.edges.specs.Edges.{Edge}
 use Rattle.wires.specs.Hems.{pairs, EdgeLists, Portable, Houseable, Written}
 use Rattle.wires.specs.House.{houseWires}
 use Rattle.wires.specs.Ported.{portedWires}
-use Rattle.wires.specs.Tracing.{left, Stands, numbered, chained, nextsFrom, Startable, Linkable, Chained, traces, Room, AllLeft, nobody, blank, PortedIn, HouseIn}
+use Rattle.wires.specs.Tables.{left, Stands, numbered, chained, nextsFrom, Startable, Linkable, LinkedAll, nobody, blank}
+use Rattle.wires.specs.Tracing.{traces, Room, AllLeft, PortedIn, HouseIn}
 use Rattle.wires.proofs.Closing.{Used, house-used}
 use Rattle.wires.proofs.Entries.{Roomy, traces-roomy}
 use Rattle.wires.proofs.Tables.{length-pairs}
@@ -28,34 +29,52 @@ unfolding blank
 blank-at n k h = getD-replicate n k nobody 0 h
 
 -- the same wires, by another name
-pub written-as : {ws ws′ : List (List ℕ)} {flat lengths flat′ lengths′ : List ℕ} {m k : ℕ} → ws ≡ ws′ → Written ws flat lengths flat′ lengths′ m k → Written ws′ flat lengths flat′ lengths′ m k
+pub written-as :
+    {ws ws′ : List (List ℕ)} {flat lengths flat′ lengths′ : List ℕ} {m k : ℕ} → ws ≡ ws′
+    → Written ws flat lengths flat′ lengths′ m k → Written ws′ flat lengths flat′ lengths′ m k
 written-as {ws} {ws′} {flat} {lengths} {flat′} {lengths′} {m} {k} e w = subst (λ (v : List (List ℕ)). Written v flat lengths flat′ lengths′ m k) e w
 
--- ---- ported wires
+-- ---- tables of any size that is enough
 
 module _ (n m : ℕ) (small : n ≤ 2048) (wide : 4096 ≤ m) (starts ends : List ℕ) (h : EdgeLists starts ends n) where
   startable : Startable starts (blank n)
   startable = record { few = h .few; from = λ k l. rw (blank-length n) (h .from k l) }
 
+  room : length starts ≤ length (blank m)
+  room = let e : length (blank m) ≡ m = blank-length m in omega (arith, h .few)
+
+  free : (k : ℕ) → k < length starts → getD (blank m) k 0 ≡ nobody
+  free k l = blank-at m k (omega (arith, h .few))
+
   last-fit : Stands starts ends (blank m) (numbered 0 (blank n) starts)
   unfolding blank
-  last-fit = last-stands starts ends (blank m) n small h (let e : length (blank m) ≡ m = blank-length m in omega (arith, h .few)) (λ k l. blank-at m k (omega (arith, h .few)))
+  last-fit = last-stands starts ends (blank m) n small h room free
 
   last-wires : portedWires (pairs starts ends) ≡ traces (left starts ends (numbered 0 (blank n) starts))
   unfolding blank
-  last-wires = ported-are starts ends (blank m) n small h (let e : length (blank m) ≡ m = blank-length m in omega (arith, h .few)) (λ k l. blank-at m k (omega (arith, h .few)))
+  last-wires = ported-are starts ends (blank m) n small h room free
 
   chain-fit : Stands starts ends (sets (blank m) 0 (nextsFrom 0 (blank n) starts)) (chained 0 (blank n) starts)
   unfolding blank
-  chain-fit = chain-stands starts ends (blank m) n small h (let e : length (blank m) ≡ m = blank-length m in omega (arith, h .few))
+  chain-fit = chain-stands starts ends (blank m) n small h room
 
   chain-all : left starts ends (chained 0 (blank n) starts) ≡ pairs starts ends
   unfolding blank
-  chain-all = chain-left starts ends (blank m) n small h (let e : length (blank m) ≡ m = blank-length m in omega (arith, h .few))
+  chain-all = chain-left starts ends (blank m) n small h room
+
+-- 2,048 positions and 4,096 edges are
+positions-few : 2048 ≤ 2048
+positions-few = omega arith
+
+edges-many : 4096 ≤ 4096
+edges-many = omega arith
+
+-- ---- ported wires
 
 module _ {starts ends nexts firsts flat lengths : List ℕ} (p : PortedIn starts ends nexts firsts flat lengths) where
   pub ported-startable : Startable starts firsts
-  ported-startable = subst (λ (l : List ℕ). Startable starts l) (sym (p .tables .firsts-is)) (startable 2048 4096 (omega arith) (omega arith) starts ends (p .given .edges))
+  ported-startable =
+      subst (λ (l : List ℕ). Startable starts l) (sym (p .tables .firsts-is)) (startable 2048 4096 positions-few edges-many starts ends (p .given .edges))
 
   module _ {firsts′ : List ℕ} (e : firsts′ ≡ numbered 0 firsts starts) where
     as-numbered : firsts′ ≡ numbered 0 (blank 2048) starts
@@ -63,8 +82,8 @@ module _ {starts ends nexts firsts flat lengths : List ℕ} (p : PortedIn starts
 
     ported-stands : Stands starts ends nexts firsts′
     ported-stands =
-        subst (λ (l : List ℕ). Stands starts ends nexts l) (sym as-numbered)
-        (subst (λ (l : List ℕ). Stands starts ends l (numbered 0 (blank 2048) starts)) (sym (p .tables .nexts-is)) (last-fit 2048 4096 (omega arith) (omega arith) starts ends (p .given .edges)))
+        let s : Stands starts ends (blank 4096) (numbered 0 (blank 2048) starts) = last-fit 2048 4096 positions-few edges-many starts ends (p .given .edges) in
+        rw (as-numbered, p .tables .nexts-is) s
 
     pub ported-left : AllLeft starts ends nexts firsts′ flat lengths
     ported-left =
@@ -78,19 +97,20 @@ module _ {starts ends nexts firsts flat lengths : List ℕ} (p : PortedIn starts
     pub ported-traced : traces (left starts ends firsts′) ≡ portedWires (pairs starts ends)
     ported-traced =
         ap (λ (l : List ℕ). traces (left starts ends l)) as-numbered
-        ∙ sym (last-wires 2048 4096 (omega arith) (omega arith) starts ends (p .given .edges))
+        ∙ sym (last-wires 2048 4096 positions-few edges-many starts ends (p .given .edges))
 
 -- ---- house wires
 
 module _ {starts ends nexts firsts flat lengths : List ℕ} (p : HouseIn starts ends nexts firsts flat lengths) where
   pub house-linkable : Linkable starts nexts firsts
   house-linkable =
+      let s : Startable starts (blank 2048) = startable 2048 4096 positions-few edges-many starts ends (p .given .edges) in
       record {
-        startable = subst (λ (l : List ℕ). Startable starts l) (sym (p .tables .firsts-is)) (startable 2048 4096 (omega arith) (omega arith) starts ends (p .given .edges));
-        room = let e : length nexts ≡ 4096 = ap length (p .tables .nexts-is) ∙ blank-length 4096 in omega (arith, p .given .edges .few);
+        startable = rw (p .tables .firsts-is) s;
+        room = rw (p .tables .nexts-is) (room 2048 4096 positions-few edges-many starts ends (p .given .edges));
       }
 
-  module _ {nexts′ firsts′ : List ℕ} (c : Chained starts nexts firsts nexts′ firsts′) where
+  module _ {nexts′ firsts′ : List ℕ} (c : LinkedAll starts nexts firsts nexts′ firsts′) where
     as-chained : firsts′ ≡ chained 0 (blank 2048) starts
     as-chained = c .firsts-is ∙ ap (λ (l : List ℕ). chained 0 l starts) (p .tables .firsts-is)
 
@@ -98,13 +118,11 @@ module _ {starts ends nexts firsts flat lengths : List ℕ} (p : HouseIn starts 
     as-nexts = c .nexts-is ∙ ap₂ (λ (a b : List ℕ). sets a 0 (nextsFrom 0 b starts)) (p .tables .nexts-is) (p .tables .firsts-is)
 
     house-stands : Stands starts ends nexts′ firsts′
-    house-stands =
-        subst (λ (l : List ℕ). Stands starts ends nexts′ l) (sym as-chained)
-        (subst (λ (l : List ℕ). Stands starts ends l (chained 0 (blank 2048) starts)) (sym as-nexts) (chain-fit 2048 4096 (omega arith) (omega arith) starts ends (p .given .edges)))
+    house-stands = rw (as-chained, as-nexts) (chain-fit 2048 4096 positions-few edges-many starts ends (p .given .edges))
 
     pub house-wires-are : traces (left starts ends firsts′) ≡ houseWires (pairs starts ends)
     house-wires-are =
-        ap traces (ap (left starts ends) as-chained ∙ chain-all 2048 4096 (omega arith) (omega arith) starts ends (p .given .edges))
+        ap traces (ap (left starts ends) as-chained ∙ chain-all 2048 4096 positions-few edges-many starts ends (p .given .edges))
         ∙ sym (house-traced (pairs starts ends) (p .given .rises) (p .given .balanced))
 
     pub house-left : AllLeft starts ends nexts′ firsts′ flat lengths

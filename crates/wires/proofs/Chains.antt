@@ -4,7 +4,7 @@ use mathlib.Core.Path.{_≡_, refl, sym, ap, ap₂, _∙_, subst}
 use mathlib.Core.Bool.{Bool, true, false}
 use mathlib.Core.List.{List, [], _∷_, _++_}
 use Prim.Native.Nat.{ℕ, zero, suc, _+_, _-_, _≤_, _<_}
-use native.Mathlib.Nat.{add-zero}
+use native.Mathlib.Nat.{add-zero, zero-add}
 use native.Mathlib.Omega.{arith}
 use lib.Dec.{leb, eqb}
 use lib.ListN.{length, getD, set, drop, replicate, length-set, length-drop, length-replicate, getD-replicate, List·getD-append}
@@ -15,7 +15,7 @@ use Rattle.lists.proofs.Bools.{by-cases}
 use Rattle.lists.proofs.Writing.{sets-front}
 use Rattle.edges.specs.Edges.{Edge}
 use Rattle.wires.specs.Hems.{EdgeLists, pairs}
-use Rattle.wires.specs.Tracing.{leftFrom, left, Next, Linked, Stands, chained, nextsFrom, nobody}
+use Rattle.wires.specs.Tables.{leftFrom, left, Next, Linked, Stands, chained, nextsFrom, nobody}
 use Rattle.wires.proofs.Tables.{edgeAt, length-pairs, pairs-at}
 
 -- ---- the first table, of edges that are numbered from k on
@@ -85,7 +85,9 @@ nexts-length : (i : ℕ) (firsts ss : List ℕ) → length (nextsFrom i firsts s
 nexts-length i firsts [] = refl
 nexts-length i firsts (s ∷ ss) = ap suc (nexts-length (suc i) firsts ss)
 
-nexts-at : (i : ℕ) (firsts ss : List ℕ) (k : ℕ) → k < length ss → getD (nextsFrom i firsts ss) k 0 ≡ getD (chained (suc (i + k)) firsts (drop (suc k) ss)) (getD ss k 0) 0
+nexts-at :
+    (i : ℕ) (firsts ss : List ℕ) (k : ℕ) → k < length ss
+    → getD (nextsFrom i firsts ss) k 0 ≡ getD (chained (suc (i + k)) firsts (drop (suc k) ss)) (getD ss k 0) 0
 nexts-at i firsts [] k h = absurd (omega arith)
 nexts-at i firsts (s ∷ ss) zero h = ap (λ (m : ℕ). getD (chained (suc m) firsts ss) s 0) (sym (add-zero i))
 nexts-at i firsts (s ∷ ss) (suc k) h =
@@ -101,54 +103,66 @@ all-left : (firsts : List ℕ) (i : ℕ) (h : List Edge) → ((j : ℕ) → j < 
 all-left firsts i [] f = refl
 all-left firsts i (e ∷ h) f =
     let t : leb (getD firsts (e .0) 0) i ≡ true = le-leb (getD firsts (e .0) 0) i (let l : getD firsts (e .0) 0 ≤ i + 0 = f 0 (omega arith) in omega arith) in
-    rw t (ap (λ (g : List Edge). e ∷ g) (all-left firsts (suc i) h (λ j l. let m : getD firsts (edgeAt h j .0) 0 ≤ i + suc j = f (suc j) (omega arith) in omega arith)))
+    rw t
+    (ap (λ (g : List Edge). e ∷ g)
+    (all-left firsts (suc i) h (λ j l. let m : getD firsts (edgeAt h j .0) 0 ≤ i + suc j = f (suc j) (omega arith) in omega arith)))
 
 module _ (starts ends nexts : List ℕ) (n : ℕ) (small : n ≤ 2048) (h : EdgeLists starts ends n) (room : length starts ≤ length nexts) where
-  whole : Chain n 0 starts (chained 0 (replicate n nobody) starts)
+  abbrev table : List ℕ
+  table = chained 0 (replicate n nobody) starts
+
+  -- the table as it was when edge k came in, and what stood there at its start
+  abbrev before : ℕ → List ℕ
+  before k = chained (suc k) (replicate n nobody) (drop (suc k) starts)
+
+  abbrev found : ℕ → ℕ
+  found k = getD (before k) (getD starts k 0) 0
+
+  abbrev nexts′ : List ℕ
+  nexts′ = sets nexts 0 (nextsFrom 0 (replicate n nobody) starts)
+
+  whole : Chain n 0 starts table
   whole = chain n 0 starts (omega (arith, h .few)) (h .from)
 
-  -- the table as it was when edge k came in
-  rest : (k : ℕ) → k < length starts → Chain n (suc k) (drop (suc k) starts) (chained (suc k) (replicate n nobody) (drop (suc k) starts))
+  rest : (k : ℕ) → k < length starts → Chain n (suc k) (drop (suc k) starts) (before k)
   rest k l =
       let e : length (drop (suc k) starts) ≡ length starts - suc k = length-drop (suc k) starts in
       chain n (suc k) (drop (suc k) starts) (omega (arith, h .few)) (λ j q. rw (getD-drop (suc k) starts j 0) (h .from (suc k + j) (omega arith)))
 
-  next-at :
-      (k : ℕ) → k < length starts
-      → getD (sets nexts 0 (nextsFrom 0 (replicate n nobody) starts)) k 0 ≡ getD (chained (suc k) (replicate n nobody) (drop (suc k) starts)) (getD starts k 0) 0
+  next-at : (k : ℕ) → k < length starts → getD nexts′ k 0 ≡ found k
   next-at k l =
       let e : length (nextsFrom 0 (replicate n nobody) starts) ≡ length starts = nexts-length 0 (replicate n nobody) starts in
       written-at nexts (nextsFrom 0 (replicate n nobody) starts) k (omega arith) (omega arith)
       ∙ nexts-at 0 (replicate n nobody) starts k l
-      ∙ ap (λ (m : ℕ). getD (chained (suc m) (replicate n nobody) (drop (suc k) starts)) (getD starts k 0) 0) (let z : 0 + k ≡ k = omega arith in z)
+      ∙ ap (λ (m : ℕ). getD (chained (suc m) (replicate n nobody) (drop (suc k) starts)) (getD starts k 0) 0) (zero-add k)
 
-  its-next : (k : ℕ) → k < length starts → Next starts k (getD (sets nexts 0 (nextsFrom 0 (replicate n nobody) starts)) k 0)
+  its-next : (k : ℕ) → k < length starts → Next starts k (getD nexts′ k 0)
   its-next k l =
-      let c : Chain n (suc k) (drop (suc k) starts) (chained (suc k) (replicate n nobody) (drop (suc k) starts)) = rest k l in
+      let c : Chain n (suc k) (drop (suc k) starts) (before k) = rest k l in
       let d : length (drop (suc k) starts) ≡ length starts - suc k = length-drop (suc k) starts in
+      let m : suc k ≤ found k = c .from (getD starts k 0) (h .from k l) in
       rw (next-at k l)
       (record {
-        later = let m : suc k ≤ getD (chained (suc k) (replicate n nobody) (drop (suc k) starts)) (getD starts k 0) 0 = c .from (getD starts k 0) (h .from k l) in omega arith;
+        later = omega arith;
         there =
             λ q.
-            let m : suc k ≤ getD (chained (suc k) (replicate n nobody) (drop (suc k) starts)) (getD starts k 0) 0 = c .from (getD starts k 0) (h .from k l) in
-            let z : suc k + (getD (chained (suc k) (replicate n nobody) (drop (suc k) starts)) (getD starts k 0) 0 - suc k) ≡ getD (chained (suc k) (replicate n nobody) (drop (suc k) starts)) (getD starts k 0) 0 = omega arith in
+            let z : suc k + (found k - suc k) ≡ found k = omega arith in
             ap (λ (i : ℕ). getD starts i 0) (sym z)
-            ∙ sym (getD-drop (suc k) starts (getD (chained (suc k) (replicate n nobody) (drop (suc k) starts)) (getD starts k 0) 0 - suc k) 0)
+            ∙ sym (getD-drop (suc k) starts (found k - suc k) 0)
             ∙ c .named (getD starts k 0) (h .from k l) (omega arith);
         least =
             λ j a b q.
             let z : suc k + (j - suc k) ≡ j = omega arith in
-            let s : getD (drop (suc k) starts) (j - suc k) 0 ≡ getD starts k 0 = getD-drop (suc k) starts (j - suc k) 0 ∙ ap (λ (i : ℕ). getD starts i 0) z ∙ q in
-            let m : getD (chained (suc k) (replicate n nobody) (drop (suc k) starts)) (getD (drop (suc k) starts) (j - suc k) 0) 0 ≤ suc k + (j - suc k) = c .low (j - suc k) (omega arith) in
-            let y : getD (chained (suc k) (replicate n nobody) (drop (suc k) starts)) (getD (drop (suc k) starts) (j - suc k) 0) 0 ≡ getD (chained (suc k) (replicate n nobody) (drop (suc k) starts)) (getD starts k 0) 0 =
-            ap (λ (i : ℕ). getD (chained (suc k) (replicate n nobody) (drop (suc k) starts)) i 0) s in
+            let s : getD (drop (suc k) starts) (j - suc k) 0 ≡ getD starts k 0 =
+            getD-drop (suc k) starts (j - suc k) 0 ∙ ap (λ (i : ℕ). getD starts i 0) z ∙ q in
+            let y : getD (before k) (getD (drop (suc k) starts) (j - suc k) 0) 0 ≤ suc k + (j - suc k) = c .low (j - suc k) (omega arith) in
+            let x : getD (before k) (getD (drop (suc k) starts) (j - suc k) 0) 0 ≡ found k = ap (λ (i : ℕ). getD (before k) i 0) s in
             omega arith;
       })
 
-  pub chain-stands : Stands starts ends (sets nexts 0 (nextsFrom 0 (replicate n nobody) starts)) (chained 0 (replicate n nobody) starts)
+  pub chain-stands : Stands starts ends nexts′ table
   chain-stands =
-      let c : Chain n 0 starts (chained 0 (replicate n nobody) starts) = whole in
+      let c : Chain n 0 starts table = whole in
       record {
         low = rw (c .long) small;
         edges = subst (λ (m : ℕ). EdgeLists starts ends m) (sym (c .long)) h;
@@ -156,16 +170,16 @@ module _ (starts ends nexts : List ℕ) (n : ℕ) (small : n ≤ 2048) (h : Edge
           room = rw (length-sets nexts 0 (nextsFrom 0 (replicate n nobody) starts)) room;
           first =
               λ s a b.
-              let z : getD (chained 0 (replicate n nobody) starts) s 0 - 0 ≡ getD (chained 0 (replicate n nobody) starts) s 0 = omega arith in
+              let z : getD table s 0 - 0 ≡ getD table s 0 = omega arith in
               ap (λ (i : ℕ). getD starts i 0) (sym z) ∙ c .named s (rw (c .long) at a) (omega arith);
           next = λ k a b. its-next k a;
         };
       }
 
-  pub chain-left : left starts ends (chained 0 (replicate n nobody) starts) ≡ pairs starts ends
+  pub chain-left : left starts ends table ≡ pairs starts ends
   unfolding left
   chain-left =
-      all-left (chained 0 (replicate n nobody) starts) 0 (pairs starts ends)
+      all-left table 0 (pairs starts ends)
       (λ j l.
       let e : length (pairs starts ends) ≡ length starts = length-pairs starts ends (h .paired) in
       let s : edgeAt (pairs starts ends) j .0 ≡ getD starts j 0 = ap (λ (e : Edge). e .0) (pairs-at starts ends j (h .paired) (omega arith)) in

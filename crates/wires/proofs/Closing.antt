@@ -50,8 +50,8 @@ end-some c (x ∷ h) e q = go (λ p. or-right (same (c, e) x) (has-some (same (c
     hit b p = or-left (same (c, e) x) (has-some (same (c, e)) h) (rw (b, eq-eqb e (x .1) (sym p)))
 
     go :
-        (leastEnd c h ≡ some e → has-some (same (c, e)) (x ∷ h) ≡ true) → (b : Bool) → eqb c (x .0) ≡ b → (o : Option ℕ) → leastEnd c h ≡ o → cond b (lesser (x .1) o) o ≡ some e
-        → has-some (same (c, e)) (x ∷ h) ≡ true
+        (leastEnd c h ≡ some e → has-some (same (c, e)) (x ∷ h) ≡ true) → (b : Bool) → eqb c (x .0) ≡ b
+        → (o : Option ℕ) → leastEnd c h ≡ o → cond b (lesser (x .1) o) o ≡ some e → has-some (same (c, e)) (x ∷ h) ≡ true
     go miss true b none o q = hit b (let f : x .1 ≡ e = cc in f)
     go miss true b (some k) o q =
         let f : min (x .1) k ≡ e = cc in
@@ -113,7 +113,8 @@ walked (suc n) f c h l b o =
   where
     go :
         (q : Option ℕ) → leastEnd c h ≡ q
-        → ((e : ℕ) → length (without (c, e) h) ≤ n → Left f e (without (c, e) h) → 0 < outs e (without (c, e) h) → Walked f e (without (c, e) h) (walk n f e (without (c, e) h)))
+        → ((e : ℕ) → length (without (c, e) h) ≤ n → Left f e (without (c, e) h) → 0 < outs e (without (c, e) h)
+        → Walked f e (without (c, e) h) (walk n f e (without (c, e) h)))
         → Walked f c h
         (elim q [
           | none ↦ (c ∷ [], h)
@@ -140,11 +141,16 @@ walked (suc n) f c h l b o =
                   λ p.
                   let w : count p h ≡ bump (p (c, e)) (count p (without (c, e) h)) = without-count p (c, e) h m in
                   rw fe (let y : _ = bump-plus (p (c, e)) (count p (without (c, e) h)) in omega arith);
-              left = λ v. let k : outs v (without (c, e) h) + at v f ≡ ins v (without (c, e) h) + at v e = t v in let k′ : outs v (without (c, e) h) + at v e ≡ ins v (without (c, e) h) + at v e = rw fe at k in omega arith;
+              left =
+                  λ v.
+                  let k : outs v (without (c, e) h) + at v f ≡ ins v (without (c, e) h) + at v e = t v in
+                  let k′ : outs v (without (c, e) h) + at v e ≡ ins v (without (c, e) h) + at v e = rw fe at k in
+                  omega arith;
             }
         close false z =
             let s : length h ≡ suc (length (without (c, e) h)) = taken-length (c, e) h m in
-            let r : Walked f e (without (c, e) h) (walk n f e (without (c, e) h)) = ih e (omega arith) t (some-out f e (without (c, e) h) (eqb-false f e z) t) in
+            let o′ : 0 < outs e (without (c, e) h) = some-out f e (without (c, e) h) (eqb-false f e z) t in
+            let r : Walked f e (without (c, e) h) (walk n f e (without (c, e) h)) = ih e (omega arith) t o′ in
             record {
               rest = e ∷ r .rest;
               shape = ap (λ y. c ∷ y) (r .shape);

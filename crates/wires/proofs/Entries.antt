@@ -294,13 +294,17 @@ traces-enough (suc n) (suc n′) m m′ g a a′ b b′ =
 pub traces-step : (g : List Edge) (s : ℕ) → leastStart g ≡ some s → traces g ≡ trace s s g .0 ∷ traces (trace s s g .1)
 unfolding traces trace
 traces-step [] s q = absurd (let z : _≡_ {A = ℕ} 0 1 = cc in omega arith)
-traces-step (x ∷ g) s q =
-    let l : length (follow (suc (suc (length g))) s s (x ∷ g) .1) < suc (length g) = start-traced (suc (length g)) s (x ∷ g) q .fewer in
-    traces-step-in (length g) (suc (suc (length g))) (x ∷ g)
-    ∙ ap (wires-by (length g) (suc (suc (length g))) (x ∷ g)) q
-    ∙ wires-some (length g) (suc (suc (length g))) (x ∷ g) s
-    ∙ ap (λ (ws : List (List ℕ)). follow (suc (suc (length g))) s s (x ∷ g) .0 ∷ ws)
-    (traces-enough (length g) (length (follow (suc (suc (length g))) s s (x ∷ g) .1)) (suc (length g)) (length (follow (suc (suc (length g))) s s (x ∷ g) .1)) (follow (suc (suc (length g))) s s (x ∷ g) .1) (omega arith) (omega arith) (omega arith) (omega arith))
+traces-step (x ∷ g) s q = go (length g) (follow (suc (suc (length g))) s s (x ∷ g) .1) refl (start-traced (suc (length g)) s (x ∷ g) q .fewer)
+  where
+    go :
+        (n : ℕ) (h : List Edge) → follow (suc (suc n)) s s (x ∷ g) .1 ≡ h → length h < suc n
+        → tracesIn (suc n) (suc (suc n)) (x ∷ g) ≡ follow (suc (suc n)) s s (x ∷ g) .0 ∷ tracesIn (length h) (suc (length h)) h
+    go n h e l =
+        traces-step-in n (suc (suc n)) (x ∷ g)
+        ∙ ap (wires-by n (suc (suc n)) (x ∷ g)) q
+        ∙ wires-some n (suc (suc n)) (x ∷ g) s
+        ∙ ap (λ (ws : List (List ℕ)). follow (suc (suc n)) s s (x ∷ g) .0 ∷ ws)
+        (ap (tracesIn n (suc (suc n))) e ∙ traces-enough n (length h) (suc n) (length h) h (omega arith) (omega arith) (omega arith) (omega arith))
 
 pub traces-end : (g : List Edge) → g ≡ [] → traces g ≡ []
 traces-end g e = ap traces e ∙ unfold traces in traces-nothing 0 1

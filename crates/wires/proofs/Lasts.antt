@@ -3,7 +3,7 @@
 use mathlib.Core.Path.{_≡_, refl, sym, ap, ap₂, _∙_, subst}
 use mathlib.Core.Bool.{Bool, true, false, cond}
 use mathlib.Core.Logic.{⊎-elim}
-use mathlib.Core.List.{List, [], _∷_, _++_, append-assoc, append-nil, map}
+use mathlib.Core.List.{List, [], _∷_, _++_, append-assoc, append-nil}
 use Prim.Native.Nat.{ℕ, zero, suc, _+_, _≤_, _<_}
 use native.Mathlib.Nat.{zero-add, add-zero, add-suc, suc-add, le-of-suc-le-suc, eq-or-lt-of-le}
 use native.Mathlib.Numerals.{add-one}
@@ -18,9 +18,10 @@ use Rattle.lists.proofs.Only.{only-append}
 use Rattle.edges.specs.Edges.{Edge}
 use Rattle.wires.specs.Hems.{EdgeLists, pairs}
 use Rattle.wires.specs.Ported.{put, fill, portedWires}
-use Rattle.wires.specs.Tracing.{leftFrom, left, Next, Linked, Stands, numbered, traces, nobody}
+use Rattle.wires.specs.Tables.{leftFrom, left, Next, Linked, Stands, numbered, nobody}
+use Rattle.wires.specs.Tracing.{traces}
 use Rattle.wires.proofs.Entries.{traces-enough}
-use Rattle.wires.proofs.Tables.{edgeAt, length-pairs, pairs-at}
+use Rattle.wires.proofs.Tables.{edgeAt, length-pairs, pairs-at, startsOf, starts-of}
 use Rattle.wires.proofs.AllWires.{left-few}
 use Rattle.wires.proofs.Twins.{from, Twin, twin-traces}
 
@@ -116,7 +117,9 @@ fill-climbs t (x ∷ d) c = fill-climbs (put x t) d (put-climbs x t c)
 
 left-append : (firsts : List ℕ) (i : ℕ) (a b : List Edge) → leftFrom firsts i (a ++ b) ≡ leftFrom firsts i a ++ leftFrom firsts (i + length a) b
 left-append firsts i [] b = ap (λ (n : ℕ). leftFrom firsts n b) (sym (add-zero i))
-left-append firsts i (e ∷ a) b = go (leb (getD firsts (e .0) 0) i) (left-append firsts (suc i) a b ∙ ap (λ (n : ℕ). leftFrom firsts (suc i) a ++ leftFrom firsts n b) (omega arith))
+left-append firsts i (e ∷ a) b =
+    go (leb (getD firsts (e .0) 0) i)
+    (left-append firsts (suc i) a b ∙ ap (λ (n : ℕ). leftFrom firsts (suc i) a ++ leftFrom firsts n b) (omega arith))
   where
     go :
         (t : Bool) → leftFrom firsts (suc i) (a ++ b) ≡ leftFrom firsts (suc i) a ++ leftFrom firsts (i + suc (length a)) b
@@ -186,86 +189,90 @@ lasts-begin n =
     }
 
 module _ (n : ℕ) (d : List Edge) (firsts : List ℕ) (r : Lasts n d firsts) (e : Edge) (inside : e .0 < n) where
+  -- the edges and the table with e
+  abbrev d′ : List Edge
+  d′ = d ++ (e ∷ [])
+
+  abbrev firsts′ : List ℕ
+  firsts′ = set firsts (e .0) (length d)
+
   within : e .0 < length firsts
   within = rw (r .long) inside
 
-  longer-by : length (d ++ (e ∷ [])) ≡ length d + 1
+  longer-by : length d′ ≡ length d + 1
   longer-by = length-append d (e ∷ [])
 
-  old : (j : ℕ) → j < length d → edgeAt (d ++ (e ∷ [])) j ≡ edgeAt d j
+  old : (j : ℕ) → j < length d → edgeAt d′ j ≡ edgeAt d j
   old j h = List·getD-append d (e ∷ []) (0, 0) j h
 
-  new : edgeAt (d ++ (e ∷ [])) (length d) ≡ e
+  new : edgeAt d′ (length d) ≡ e
   new = getD-at d e [] (0, 0) (length d) refl
 
-  at-start : getD (set firsts (e .0) (length d)) (e .0) 0 ≡ length d
+  at-start : getD firsts′ (e .0) 0 ≡ length d
   at-start = getD-set-same firsts (e .0) (length d) 0 within
 
-  off-start : (s : ℕ) → (s ≡ e .0 → ⊥) → getD (set firsts (e .0) (length d)) s 0 ≡ getD firsts s 0
+  off-start : (s : ℕ) → (s ≡ e .0 → ⊥) → getD firsts′ s 0 ≡ getD firsts s 0
   off-start s q = getD-set-other firsts (e .0) s (length d) 0 q
 
-  higher-old : (j : ℕ) → j < length d → j ≤ getD (set firsts (e .0) (length d)) (edgeAt (d ++ (e ∷ [])) j .0) 0
+  higher-old : (j : ℕ) → j < length d → j ≤ getD firsts′ (edgeAt d′ j .0) 0
   higher-old j l =
       rw (old j l)
       (by-cases (eqb (edgeAt d j .0) (e .0))
       (λ q. rw (eqb-true (edgeAt d j .0) (e .0) q, at-start) (omega arith))
       (λ q. rw (off-start (edgeAt d j .0) (eqb-false (edgeAt d j .0) (e .0) q)) (r .highest j l)))
 
-  higher : (j : ℕ) → j < length (d ++ (e ∷ [])) → j ≤ getD (set firsts (e .0) (length d)) (edgeAt (d ++ (e ∷ [])) j .0) 0
+  higher : (j : ℕ) → j < length d′ → j ≤ getD firsts′ (edgeAt d′ j .0) 0
   higher j h =
       ⊎-elim
       (λ q.
-      let z : getD (set firsts (e .0) (length d)) (edgeAt (d ++ (e ∷ [])) j .0) 0 ≡ length d =
-      ap (λ (i : ℕ). getD (set firsts (e .0) (length d)) (edgeAt (d ++ (e ∷ [])) i .0) 0) q
-      ∙ ap (λ (x : Edge). getD (set firsts (e .0) (length d)) (x .0) 0) new ∙ at-start in
+      let z : getD firsts′ (edgeAt d′ j .0) 0 ≡ length d =
+      ap (λ (i : ℕ). getD firsts′ (edgeAt d′ i .0) 0) q
+      ∙ ap (λ (x : Edge). getD firsts′ (x .0) 0) new ∙ at-start in
       omega arith)
       (λ q. higher-old j q)
-      (eq-or-lt-of-le (let l : length (d ++ (e ∷ [])) ≡ length d + 1 = longer-by in let k : j ≤ length d = omega arith in k))
+      (eq-or-lt-of-le (let l : length d′ ≡ length d + 1 = longer-by in let k : j ≤ length d = omega arith in k))
 
   naming :
-      (s : ℕ) → s < n → getD (set firsts (e .0) (length d)) s 0 < nobody
-      → (getD (set firsts (e .0) (length d)) s 0 < length (d ++ (e ∷ []))) × (edgeAt (d ++ (e ∷ [])) (getD (set firsts (e .0) (length d)) s 0) .0 ≡ s)
+      (s : ℕ) → s < n → getD firsts′ s 0 < nobody
+      → (getD firsts′ s 0 < length d′) × (edgeAt d′ (getD firsts′ s 0) .0 ≡ s)
   naming s h l =
       by-cases (eqb s (e .0))
       (λ q.
       let z : s ≡ e .0 = eqb-true s (e .0) q in
-      let g : getD (set firsts (e .0) (length d)) s 0 ≡ length d = ap (λ (i : ℕ). getD (set firsts (e .0) (length d)) i 0) z ∙ at-start in
+      let g : getD firsts′ s 0 ≡ length d = ap (λ (i : ℕ). getD firsts′ i 0) z ∙ at-start in
       (rw (g, longer-by) (omega arith), rw (g, new) (sym z)))
       (λ q.
-      let g : getD (set firsts (e .0) (length d)) s 0 ≡ getD firsts s 0 = off-start s (eqb-false s (e .0) q) in
+      let g : getD firsts′ s 0 ≡ getD firsts s 0 = off-start s (eqb-false s (e .0) q) in
       let k : (getD firsts s 0 < length d) × (edgeAt d (getD firsts s 0) .0 ≡ s) = r .named s h (rw g at l) in
       (rw (g, longer-by) (omega (arith, k .0)), rw (g, old (getD firsts s 0) (k .0)) (k .1)))
 
-  last-one : leftFrom (set firsts (e .0) (length d)) (0 + length d) (e ∷ []) ≡ e ∷ []
+  last-one : leftFrom firsts′ (0 + length d) (e ∷ []) ≡ e ∷ []
   last-one =
-      let t : leb (getD (set firsts (e .0) (length d)) (e .0) 0) (0 + length d) ≡ true = rw at-start (le-leb (length d) (0 + length d) (omega arith)) in
+      let t : leb (getD firsts′ (e .0) 0) (0 + length d) ≡ true = rw at-start (le-leb (length d) (0 + length d) (omega arith)) in
       rw t
 
-  twins : (s : ℕ) → from s (fill [] (d ++ (e ∷ []))) ≡ from s (leftFrom (set firsts (e .0) (length d)) 0 (d ++ (e ∷ [])))
+  twins : (s : ℕ) → from s (fill [] d′) ≡ from s (leftFrom firsts′ 0 d′)
   twins s =
       ap (from s) (fill-snoc [] d e)
       ∙ by-cases (eqb s (e .0))
       (λ q.
       let z : s ≡ e .0 = eqb-true s (e .0) q in
       put-at s e (fill [] d) z (fill-climbs [] d tt)
-      ∙ sym (split s ∙ ap₂ _++_ (ap (λ (i : ℕ). from i (leftFrom (set firsts (e .0) (length d)) 0 d)) z ∙ set-at firsts (e .0) (length d) within 0 d (omega arith)) (rw q)))
+      ∙ sym (split s ∙ ap₂ _++_ (ap (λ (i : ℕ). from i (leftFrom firsts′ 0 d)) z ∙ set-at firsts (e .0) (length d) within 0 d (omega arith)) (rw q)))
       (λ q.
       let n : s ≡ e .0 → ⊥ = eqb-false s (e .0) q in
       put-off s e (fill [] d) n ∙ r .twin .at s
       ∙ sym (split s ∙ ap₂ _++_ (set-off firsts (e .0) (length d) within s 0 d n) (rw q) ∙ append-nil (from s (leftFrom firsts 0 d))))
     where
       split :
-          (s : ℕ) → from s (leftFrom (set firsts (e .0) (length d)) 0 (d ++ (e ∷ [])))
-          ≡ from s (leftFrom (set firsts (e .0) (length d)) 0 d) ++ from s (e ∷ [])
+          (s : ℕ) → from s (leftFrom firsts′ 0 d′)
+          ≡ from s (leftFrom firsts′ 0 d) ++ from s (e ∷ [])
       split s =
-          ap (from s) (left-append (set firsts (e .0) (length d)) 0 d (e ∷ []) ∙ ap (λ (l : List Edge). leftFrom (set firsts (e .0) (length d)) 0 d ++ l) last-one)
-          ∙ only-append (λ x. eqb s (x .0)) (leftFrom (set firsts (e .0) (length d)) 0 d) (e ∷ [])
+          ap (from s) (left-append firsts′ 0 d (e ∷ []) ∙ ap (λ (l : List Edge). leftFrom firsts′ 0 d ++ l) last-one)
+          ∙ only-append (λ x. eqb s (x .0)) (leftFrom firsts′ 0 d) (e ∷ [])
 
-  lasts-more : Lasts n (d ++ (e ∷ [])) (set firsts (e .0) (length d))
+  lasts-more : Lasts n d′ firsts′
   lasts-more = record { long = length-set firsts (e .0) (length d) ∙ r .long; highest = higher; named = naming; twin = record { at = twins } }
-
-abbrev startsOf : List Edge → List ℕ
-startsOf h = map (λ (e : Edge). e .0) h
 
 lasts-all :
     (n : ℕ) (d h : List Edge) (firsts : List ℕ) → Lasts n d firsts → ((j : ℕ) → j < length h → edgeAt h j .0 < n)
@@ -278,38 +285,39 @@ lasts-all n d (e ∷ h) firsts r f =
     subst (λ (g : List Edge). Lasts n g (numbered (suc (length d)) (set firsts (e .0) (length d)) (startsOf h))) (append-assoc d (e ∷ []) h)
     (subst (λ (i : ℕ). Lasts n ((d ++ (e ∷ [])) ++ h) (numbered i (set firsts (e .0) (length d)) (startsOf h))) l k)
 
-starts-of : (ss es : List ℕ) → length ss ≡ length es → startsOf (pairs ss es) ≡ ss
-starts-of [] es l = refl
-starts-of (s ∷ ss) [] l = absurd (omega arith)
-starts-of (s ∷ ss) (e ∷ es) l = ap (λ (t : List ℕ). s ∷ t) (starts-of ss es (omega arith))
-
 -- ---- ported wires are the wires of what the table stands for
 
-module _ (starts ends nexts : List ℕ) (n : ℕ) (small : n ≤ 2048) (h : EdgeLists starts ends n) (room : length starts ≤ length nexts) (free : (k : ℕ) → k < length starts → getD nexts k 0 ≡ nobody) where
-  count : length (pairs starts ends) ≡ length starts
+module _
+    (starts ends nexts : List ℕ) (n : ℕ) (small : n ≤ 2048) (h : EdgeLists starts ends n) (room : length starts ≤ length nexts)
+    (free : (k : ℕ) → k < length starts → getD nexts k 0 ≡ nobody) where
+  abbrev edges : List Edge
+  edges = pairs starts ends
+
+  abbrev table : List ℕ
+  table = numbered 0 (replicate n nobody) starts
+
+  count : length edges ≡ length starts
   count = length-pairs starts ends (h .paired)
 
-  edge-at : (k : ℕ) → k < length starts → edgeAt (pairs starts ends) k .0 ≡ getD starts k 0
+  edge-at : (k : ℕ) → k < length starts → edgeAt edges k .0 ≡ getD starts k 0
   edge-at k l = ap (λ (e : Edge). e .0) (pairs-at starts ends k (h .paired) l)
 
-  filled : Lasts n (pairs starts ends) (numbered 0 (replicate n nobody) starts)
+  filled : Lasts n edges table
   filled =
-      subst (λ (l : List ℕ). Lasts n (pairs starts ends) (numbered 0 (replicate n nobody) l)) (starts-of starts ends (h .paired))
-      (lasts-all n [] (pairs starts ends) (replicate n nobody) (lasts-begin n) (λ j l. let c : length (pairs starts ends) ≡ length starts = count in rw (edge-at j (omega arith)) (h .from j (omega arith))))
+      subst (λ (l : List ℕ). Lasts n edges (numbered 0 (replicate n nobody) l)) (starts-of starts ends (h .paired))
+      (lasts-all n [] edges (replicate n nobody) (lasts-begin n)
+      (λ j l. let c : length edges ≡ length starts = count in rw (edge-at j (omega arith)) (h .from j (omega arith))))
 
-  pub last-stands : Stands starts ends nexts (numbered 0 (replicate n nobody) starts)
+  pub last-stands : Stands starts ends nexts table
   last-stands =
-      let r : Lasts n (pairs starts ends) (numbered 0 (replicate n nobody) starts) = filled in
-      let c : length (pairs starts ends) ≡ length starts = count in
+      let r : Lasts n edges table = filled in
+      let c : length edges ≡ length starts = count in
       record {
         low = rw (r .long) small;
         edges = subst (λ (m : ℕ). EdgeLists starts ends m) (sym (r .long)) h;
         linked = record {
           room = room;
-          first =
-              λ s a b.
-              let k = r .named s (rw (r .long) at a) (omega (arith, h .few)) in
-              sym (edge-at (getD (numbered 0 (replicate n nobody) starts) s 0) b) ∙ k .1;
+          first = λ s a b. sym (edge-at (getD table s 0) b) ∙ r .named s (rw (r .long) at a) (omega (arith, h .few)) .1;
           next =
               λ k a b.
               rw (free k a)
@@ -319,18 +327,17 @@ module _ (starts ends nexts : List ℕ) (n : ℕ) (small : n ≤ 2048) (h : Edge
                 least =
                     λ j p q z.
                     absurd
-                    (let m : j ≤ getD (numbered 0 (replicate n nobody) starts) (edgeAt (pairs starts ends) j .0) 0 = r .highest j (omega arith) in
-                    let y : getD (numbered 0 (replicate n nobody) starts) (edgeAt (pairs starts ends) j .0) 0 ≡ getD (numbered 0 (replicate n nobody) starts) (getD starts k 0) 0 =
-                    ap (λ (s : ℕ). getD (numbered 0 (replicate n nobody) starts) s 0) (edge-at j q ∙ z) in
+                    (let m : j ≤ getD table (edgeAt edges j .0) 0 = r .highest j (omega arith) in
+                    let y : getD table (edgeAt edges j .0) 0 ≡ getD table (getD starts k 0) 0 = ap (λ (s : ℕ). getD table s 0) (edge-at j q ∙ z) in
                     omega arith);
               });
         };
       }
 
-  pub ported-are : portedWires (pairs starts ends) ≡ traces (left starts ends (numbered 0 (replicate n nobody) starts))
+  pub ported-are : portedWires edges ≡ traces (left starts ends table)
   unfolding portedWires traces left
   ported-are =
-      let g : List Edge = leftFrom (numbered 0 (replicate n nobody) starts) 0 (pairs starts ends) in
-      let l : length (leftFrom (numbered 0 (replicate n nobody) starts) 0 (pairs starts ends)) ≤ length (pairs starts ends) = left-few (numbered 0 (replicate n nobody) starts) 0 (pairs starts ends) in
-      twin-traces (length (pairs starts ends)) (suc (length (pairs starts ends))) (filled .twin)
-      ∙ traces-enough (length (pairs starts ends)) (length (leftFrom (numbered 0 (replicate n nobody) starts) 0 (pairs starts ends))) (length (pairs starts ends)) (length (leftFrom (numbered 0 (replicate n nobody) starts) 0 (pairs starts ends))) (leftFrom (numbered 0 (replicate n nobody) starts) 0 (pairs starts ends)) l (omega arith) l (omega arith)
+      let l : length (leftFrom table 0 edges) ≤ length edges = left-few table 0 edges in
+      twin-traces (length edges) (suc (length edges)) (filled .twin)
+      ∙ traces-enough (length edges) (length (leftFrom table 0 edges)) (length edges) (length (leftFrom table 0 edges)) (leftFrom table 0 edges)
+      l (omega arith) l (omega arith)

@@ -12,3 +12,5 @@ pub mod Lasts
 pub mod Chains
 pub mod Rising
 pub mod BlankTables
+pub mod HemLists
+pub mod Answering

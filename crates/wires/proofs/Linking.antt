@@ -6,7 +6,7 @@ use native.Mathlib.Numerals.{add-one}
 use native.Mathlib.Omega.{arith}
 use lib.ListN.{length, getD, set, drop, length-set}
 use lib.Seq.{sets, length-sets, drop-cons, drop-length, set-comm}
-use Rattle.wires.specs.Tracing.{numbered, chained, nextsFrom, Chained}
+use Rattle.wires.specs.Tables.{numbered, chained, nextsFrom, LinkedAll}
 
 -- ---- one after the other
 
@@ -59,26 +59,36 @@ chain-begins starts nexts firsts =
       nexts-is = sym (ap (λ (l : List ℕ). sets nexts (length starts) (nextsFrom (length starts) firsts l)) e);
     }
 
-pub chain-turns :
-    {starts nexts₀ firsts₀ nexts firsts : List ℕ} {k : ℕ} (j s : ℕ) → suc j ≡ k → s ≡ getD starts j 0 → Chaining starts nexts₀ firsts₀ nexts firsts k
-    → Chaining starts nexts₀ firsts₀ (set nexts j (getD firsts s 0)) (set firsts s j) j
-chain-turns {starts} {nexts₀} {firsts₀} {nexts} {firsts} {k} j s q e c =
-    let d : drop j starts ≡ getD starts j 0 ∷ drop (suc j) starts = drop-cons starts j 0 (omega (arith, c .within)) in
-    let f : firsts ≡ chained (suc j) firsts₀ (drop (suc j) starts) = c .firsts-is ∙ ap (λ (i : ℕ). chained i firsts₀ (drop i starts)) (sym q) in
-    let n : nexts ≡ sets nexts₀ (suc j) (nextsFrom (suc j) firsts₀ (drop (suc j) starts)) = c .nexts-is ∙ ap (λ (i : ℕ). sets nexts₀ i (nextsFrom i firsts₀ (drop i starts))) (sym q) in
-    record {
-      within = omega (arith, c .within);
-      nexts-same = length-set nexts j (getD firsts s 0) ∙ c .nexts-same;
-      firsts-same = length-set firsts s j ∙ c .firsts-same;
-      firsts-is = ap₂ (λ (l : List ℕ) (i : ℕ). set l i j) f e ∙ sym (ap (chained j firsts₀) d);
-      nexts-is =
-          ap₂ (λ (l : List ℕ) (y : ℕ). set l j y) n (ap₂ (λ (l : List ℕ) (i : ℕ). getD l i 0) f e)
-          ∙ sets-under nexts₀ j (suc j) (getD (chained (suc j) firsts₀ (drop (suc j) starts)) (getD starts j 0) 0) (nextsFrom (suc j) firsts₀ (drop (suc j) starts)) (omega arith)
-          ∙ sym (ap (λ (l : List ℕ). sets nexts₀ j (nextsFrom j firsts₀ l)) d);
-    }
+module _
+    {starts nexts₀ firsts₀ nexts firsts : List ℕ} {k : ℕ} (j s : ℕ) (q : suc j ≡ k) (e : s ≡ getD starts j 0)
+    (c : Chaining starts nexts₀ firsts₀ nexts firsts k) where
+  abbrev later : List ℕ
+  later = drop (suc j) starts
+
+  one-more : drop j starts ≡ getD starts j 0 ∷ later
+  one-more = drop-cons starts j 0 (omega (arith, c .within))
+
+  firsts-now : firsts ≡ chained (suc j) firsts₀ later
+  firsts-now = c .firsts-is ∙ ap (λ (i : ℕ). chained i firsts₀ (drop i starts)) (sym q)
+
+  nexts-now : nexts ≡ sets nexts₀ (suc j) (nextsFrom (suc j) firsts₀ later)
+  nexts-now = c .nexts-is ∙ ap (λ (i : ℕ). sets nexts₀ i (nextsFrom i firsts₀ (drop i starts))) (sym q)
+
+  pub chain-turns : Chaining starts nexts₀ firsts₀ (set nexts j (getD firsts s 0)) (set firsts s j) j
+  chain-turns =
+      record {
+        within = omega (arith, c .within);
+        nexts-same = length-set nexts j (getD firsts s 0) ∙ c .nexts-same;
+        firsts-same = length-set firsts s j ∙ c .firsts-same;
+        firsts-is = ap₂ (λ (l : List ℕ) (i : ℕ). set l i j) firsts-now e ∙ sym (ap (chained j firsts₀) one-more);
+        nexts-is =
+            ap₂ (λ (l : List ℕ) (y : ℕ). set l j y) nexts-now (ap₂ (λ (l : List ℕ) (i : ℕ). getD l i 0) firsts-now e)
+            ∙ sets-under nexts₀ j (suc j) (getD (chained (suc j) firsts₀ later) (getD starts j 0) 0) (nextsFrom (suc j) firsts₀ later) (omega arith)
+            ∙ sym (ap (λ (l : List ℕ). sets nexts₀ j (nextsFrom j firsts₀ l)) one-more);
+      }
 
 pub chain-ends :
-    {starts nexts₀ firsts₀ nexts firsts : List ℕ} {k : ℕ} → k ≤ 0 → Chaining starts nexts₀ firsts₀ nexts firsts k → Chained starts nexts₀ firsts₀ nexts firsts
+    {starts nexts₀ firsts₀ nexts firsts : List ℕ} {k : ℕ} → k ≤ 0 → Chaining starts nexts₀ firsts₀ nexts firsts k → LinkedAll starts nexts₀ firsts₀ nexts firsts
 chain-ends {starts} {nexts₀} {firsts₀} {nexts} {firsts} {k} h c =
     let e : k ≡ 0 = omega arith in
     record {

@@ -123,7 +123,8 @@ walk-traced (suc n) f c g l r b o =
   where
     go :
         (e : Edge) → entry c g ≡ some e
-        → (length (without e g) ≤ n → Rises (without e g) → Left f (e .1) (without e g) → 0 < outs (e .1) (without e g) → walk n f (e .1) (without e g) ≡ trace f (e .1) (without e g))
+        → (length (without e g) ≤ n → Rises (without e g) → Left f (e .1) (without e g) → 0 < outs (e .1) (without e g)
+        → walk n f (e .1) (without e g) ≡ trace f (e .1) (without e g))
         → walk (suc n) f c g ≡ trace f c g
     go e q ih = walk-some n f c g (e .1) (first-least c g e r q) ∙ close (eqb f (e .1)) refl ∙ sym (trace-some f c g e q)
       where
@@ -147,8 +148,10 @@ walk-traced (suc n) f c g l r b o =
         close false z =
             let ne : f ≡ e .1 → ⊥ = eqb-false f (e .1) z in
             let k : length g ≡ suc (length (without e g)) = found-less c g e q in
+            let w : walk n f (e .1) (without e g) ≡ trace f (e .1) (without e g) =
+            ih (omega arith) (rises-without e g r) on (some-out f (e .1) (without e g) ne on) in
             ap (λ (h : List Edge). longer c (walk n f (e .1) h)) rest-is
-            ∙ ap (longer c) (ih (omega arith) (rises-without e g r) on (some-out f (e .1) (without e g) ne on) ∙ sym (trace-away f (e .1) (without e g) (λ y. ne (sym y))))
+            ∙ ap (longer c) (w ∙ sym (trace-away f (e .1) (without e g) (λ y. ne (sym y))))
 
 -- ---- all of them
 

@@ -3,7 +3,7 @@
 use mathlib.Core.Path.{_≡_, refl, sym, ap, ap₂, _∙_, subst}
 use mathlib.Core.Bool.{Bool, true, false, cond, _&&_}
 use mathlib.Core.Option.{Option, none, some}
-use mathlib.Core.List.{List, [], _∷_}
+use mathlib.Core.List.{List, [], _∷_, map}
 use Prim.Native.Nat.{ℕ, zero, suc, _+_, _≤_, _<_, min}
 use native.Mathlib.Nat.{add-suc, suc-add, add-zero, zero-add}
 use native.Mathlib.Omega.{arith}
@@ -19,7 +19,7 @@ use Rattle.edges.proofs.SameEdge.{same-refl}
 use Rattle.wires.specs.Hems.{EdgeLists, outs, pairs}
 use Rattle.wires.specs.House.{lesser, leastStart, without}
 use Rattle.wires.specs.Ported.{entry}
-use Rattle.wires.specs.Tracing.{leftFrom, left, Next, Linked}
+use Rattle.wires.specs.Tables.{leftFrom, left, Next, Linked}
 use Rattle.wires.proofs.Closing.{start-none, start-some}
 use Rattle.wires.proofs.Entries.{entry-none, entry-outs, start-le}
 
@@ -38,6 +38,22 @@ pairs-at [] es k l h = absurd (omega arith)
 pairs-at (s ∷ ss) [] k l h = absurd (omega arith)
 pairs-at (s ∷ ss) (e ∷ es) zero l h = refl
 pairs-at (s ∷ ss) (e ∷ es) (suc k) l h = pairs-at ss es k (omega arith) (omega arith)
+
+-- where each edge starts and where each ends
+abbrev pub startsOf : List Edge → List ℕ
+startsOf h = map (λ (e : Edge). e .0) h
+
+abbrev pub endsOf : List Edge → List ℕ
+endsOf h = map (λ (e : Edge). e .1) h
+
+pub pairs-of : (h : List Edge) → pairs (startsOf h) (endsOf h) ≡ h
+pairs-of [] = refl
+pairs-of (e ∷ h) = ap (λ (g : List Edge). e ∷ g) (pairs-of h)
+
+pub starts-of : (ss es : List ℕ) → length ss ≡ length es → startsOf (pairs ss es) ≡ ss
+starts-of [] es l = refl
+starts-of (s ∷ ss) [] l = absurd (omega arith)
+starts-of (s ∷ ss) (e ∷ es) l = ap (λ (t : List ℕ). s ∷ t) (starts-of ss es (omega arith))
 
 -- ---- what a new first at c changes
 
@@ -63,7 +79,8 @@ module _ (firsts : List ℕ) (c x : ℕ) (inside : c < length firsts) where
       test-at (e .0) i z ∙ le-leb x i (omega (arith, r .1))
       ∙ sym (ap (λ (s : ℕ). leb (getD firsts s 0) i) z ∙ le-leb (getD firsts c 0) i (omega (arith, r .0))))
       (λ q. test-off (e .0) i (eqb-false (e .0) c q)))
-      (same-later (suc i) h (λ j l q. let r : (getD firsts c 0 ≤ i + suc j) × (x ≤ i + suc j) = f (suc j) (omega arith) q in (omega (arith, r .0), omega (arith, r .1))))
+      (same-later (suc i) h
+      (λ j l q. let r : (getD firsts c 0 ≤ i + suc j) × (x ≤ i + suc j) = f (suc j) (omega arith) q in (omega (arith, r .0), omega (arith, r .1))))
 
   -- the edge at place d of the list is the first at c, and x its next
   record First (i d : ℕ) (h : List Edge) : Type 0 where
@@ -85,7 +102,10 @@ module _ (firsts : List ℕ) (c x : ℕ) (inside : c < length firsts) where
       let new : leb (getD (set firsts c x) (e .0) 0) i ≡ false = test-at (e .0) i s ∙ lt-leb x i (omega (arith, r .later)) in
       record {
         entered = rw (old, eq-eqb c (e .0) (sym s));
-        gone = rw (old, new, same-refl e) (same-later (suc i) h (λ j l q. (omega (arith, r .number), let m : x ≤ i + suc j = r .least (suc j) (omega arith) (omega arith) q in omega arith)));
+        gone =
+            rw (old, new, same-refl e)
+            (same-later (suc i) h
+            (λ j l q. let m : x ≤ i + suc j = r .least (suc j) (omega arith) (omega arith) q in (omega (arith, r .number), omega arith)));
       }
 
   took-keep : (d : Edge) (e : Edge) (b : Bool) (l l′ : List Edge) → (e .0 ≡ c → ⊥) → d .0 ≡ c → entry c l ≡ some d → l′ ≡ without d l
@@ -116,7 +136,9 @@ module _ (firsts : List ℕ) (c x : ℕ) (inside : c < length firsts) where
       (λ q.
       let n : e .0 ≡ c → ⊥ = eqb-false (e .0) c q in
       let t : leb (getD (set firsts c x) (e .0) 0) i ≡ leb (getD firsts (e .0) 0) i = test-off (e .0) i n in
-      let k = took-keep (edgeAt h d) e (leb (getD firsts (e .0) 0) i) (leftFrom firsts (suc i) h) (leftFrom (set firsts c x) (suc i) h) n (r .starts) (ih .entered) (ih .gone) in
+      let k =
+      took-keep (edgeAt h d) e (leb (getD firsts (e .0) 0) i) (leftFrom firsts (suc i) h) (leftFrom (set firsts c x) (suc i) h)
+      n (r .starts) (ih .entered) (ih .gone) in
       record { entered = k .0; gone = rw t (k .1) })
 
 -- ---- where no edge is left
@@ -154,74 +176,88 @@ module _ (starts ends nexts firsts : List ℕ) (edges : EdgeLists starts ends (l
   start-at k h = ap (λ (e : Edge). e .0) (edge-at k h)
 
   module _ (c : ℕ) (inside : c < length firsts) where
+    -- the number of the first edge at c, and that of its next
+    abbrev k : ℕ
+    k = getD firsts c 0
+
+    abbrev x : ℕ
+    x = getD nexts k 0
+
+    abbrev firsts′ : List ℕ
+    firsts′ = set firsts c x
+
     -- none where the first is no edge's number
-    pub none-left : length starts ≤ getD firsts c 0 → entry c (left starts ends firsts) ≡ none
+    pub none-left : length starts ≤ k → entry c (left starts ends firsts) ≡ none
     unfolding left
     none-left h = none-from firsts c 0 (pairs starts ends) (let l : length (pairs starts ends) ≡ length starts = count in omega arith)
 
-    module _ (h : getD firsts c 0 < length starts) where
-      its-next : Next starts (getD firsts c 0) (getD nexts (getD firsts c 0) 0)
-      its-next =
-          linked .next (getD firsts c 0) h (let e : getD firsts (getD starts (getD firsts c 0) 0) 0 ≡ getD firsts c 0 = ap (λ (s : ℕ). getD firsts s 0) (linked .first c inside h) in omega arith)
+    module _ (h : k < length starts) where
+      its-start : getD starts k 0 ≡ c
+      its-start = linked .first c inside h
 
-      its-place : First firsts c (getD nexts (getD firsts c 0) 0) inside 0 (getD firsts c 0) (pairs starts ends)
+      its-next : Next starts k x
+      its-next = linked .next k h (let e : getD firsts (getD starts k 0) 0 ≡ k = ap (λ (s : ℕ). getD firsts s 0) its-start in omega arith)
+
+      its-edge : edgeAt (pairs starts ends) k ≡ (c, getD ends k 0)
+      its-edge = edge-at k h ∙ ap (λ (s : ℕ). (s, getD ends k 0)) its-start
+
+      its-place : First firsts c x inside 0 k (pairs starts ends)
       its-place =
           let n : length (pairs starts ends) ≡ length starts = count in
-          let s : getD starts (getD firsts c 0) 0 ≡ c = linked .first c inside h in
           record {
-            number = sym (zero-add (getD firsts c 0));
+            number = sym (zero-add k);
             within = omega arith;
-            starts = start-at (getD firsts c 0) h ∙ s;
-            later = let l : getD firsts c 0 < getD nexts (getD firsts c 0) 0 = its-next .later in omega arith;
-            least = λ j a b q. let m : getD nexts (getD firsts c 0) 0 ≤ j = its-next .least j a (omega arith) (sym (start-at j (omega arith)) ∙ q ∙ sym s) in omega arith;
+            starts = start-at k h ∙ its-start;
+            later = let l : k < x = its-next .later in omega arith;
+            least =
+                λ j a b q.
+                let m : x ≤ j = its-next .least j a (omega arith) (sym (start-at j (omega arith)) ∙ q ∙ sym its-start) in
+                omega arith;
           }
 
       -- the entry of c
-      pub entry-left : entry c (left starts ends firsts) ≡ some (c, getD ends (getD firsts c 0) 0)
+      pub entry-left : entry c (left starts ends firsts) ≡ some (c, getD ends k 0)
       unfolding left
-      entry-left =
-          took firsts c (getD nexts (getD firsts c 0) 0) inside 0 (getD firsts c 0) (pairs starts ends) its-place .entered
-          ∙ ap some (edge-at (getD firsts c 0) h ∙ ap (λ (s : ℕ). (s, getD ends (getD firsts c 0) 0)) (linked .first c inside h))
+      entry-left = took firsts c x inside 0 k (pairs starts ends) its-place .entered ∙ ap some its-edge
 
       -- what is left without it
-      pub gone-left : left starts ends (set firsts c (getD nexts (getD firsts c 0) 0)) ≡ without (c, getD ends (getD firsts c 0) 0) (left starts ends firsts)
+      pub gone-left : left starts ends firsts′ ≡ without (c, getD ends k 0) (left starts ends firsts)
       unfolding left
       gone-left =
-          took firsts c (getD nexts (getD firsts c 0) 0) inside 0 (getD firsts c 0) (pairs starts ends) its-place .gone
-          ∙ ap (λ (e : Edge). without e (leftFrom firsts 0 (pairs starts ends))) (edge-at (getD firsts c 0) h ∙ ap (λ (s : ℕ). (s, getD ends (getD firsts c 0) 0)) (linked .first c inside h))
+          took firsts c x inside 0 k (pairs starts ends) its-place .gone
+          ∙ ap (λ (e : Edge). without e (leftFrom firsts 0 (pairs starts ends))) its-edge
 
       -- and the tables fit on
-      pub linked-on : Linked starts nexts (set firsts c (getD nexts (getD firsts c 0) 0))
-      linked-on =
-          let x : ℕ = getD nexts (getD firsts c 0) 0 in
-          let here : (s : ℕ) → s ≡ c → getD (set firsts c (getD nexts (getD firsts c 0) 0)) s 0 ≡ getD nexts (getD firsts c 0) 0 =
-          λ s e. ap (λ (t : ℕ). getD (set firsts c (getD nexts (getD firsts c 0) 0)) t 0) e ∙ getD-set-same firsts c (getD nexts (getD firsts c 0) 0) 0 inside in
-          let there : (s : ℕ) → (s ≡ c → ⊥) → getD (set firsts c (getD nexts (getD firsts c 0) 0)) s 0 ≡ getD firsts s 0 =
-          λ s n. getD-set-other firsts c s (getD nexts (getD firsts c 0) 0) 0 n in
-          record {
-            room = linked .room;
-            first =
-                λ s a b.
-                by-cases (eqb s c)
-                (λ q.
-                let e : s ≡ c = eqb-true s c q in
-                let l : getD nexts (getD firsts c 0) 0 < length starts = rw (here s e) at b in
-                rw (here s e) (its-next .there l ∙ linked .first c inside h ∙ sym e))
-                (λ q.
-                let e : getD (set firsts c (getD nexts (getD firsts c 0) 0)) s 0 ≡ getD firsts s 0 = there s (eqb-false s c q) in
-                rw e (linked .first s (subst (λ (n : ℕ). s < n) (length-set firsts c (getD nexts (getD firsts c 0) 0)) a) (rw e at b)));
-            next =
-                λ k a b.
-                linked .next k a
-                (by-cases (eqb (getD starts k 0) c)
-                (λ q.
-                let e : getD starts k 0 ≡ c = eqb-true (getD starts k 0) c q in
-                let l : getD nexts (getD firsts c 0) 0 ≤ k = rw (here (getD starts k 0) e) at b in
-                let m : getD firsts c 0 < getD nexts (getD firsts c 0) 0 = its-next .later in
-                let z : getD firsts (getD starts k 0) 0 ≡ getD firsts c 0 = ap (λ (s : ℕ). getD firsts s 0) e in
-                omega arith)
-                (λ q. rw (there (getD starts k 0) (eqb-false (getD starts k 0) c q)) at b));
-          }
+      here : (s : ℕ) → s ≡ c → getD firsts′ s 0 ≡ x
+      here s e = ap (λ (t : ℕ). getD firsts′ t 0) e ∙ getD-set-same firsts c x 0 inside
+
+      there : (s : ℕ) → (s ≡ c → ⊥) → getD firsts′ s 0 ≡ getD firsts s 0
+      there s n = getD-set-other firsts c s x 0 n
+
+      first-on : (s : ℕ) → s < length firsts′ → getD firsts′ s 0 < length starts → getD starts (getD firsts′ s 0) 0 ≡ s
+      first-on s a b =
+          by-cases (eqb s c)
+          (λ q.
+          let e : s ≡ c = eqb-true s c q in
+          let l : x < length starts = rw (here s e) at b in
+          rw (here s e) (its-next .there l ∙ its-start ∙ sym e))
+          (λ q.
+          let e : getD firsts′ s 0 ≡ getD firsts s 0 = there s (eqb-false s c q) in
+          rw e (linked .first s (subst (λ (n : ℕ). s < n) (length-set firsts c x) a) (rw e at b)))
+
+      still-left : (j : ℕ) → getD firsts′ (getD starts j 0) 0 ≤ j → getD firsts (getD starts j 0) 0 ≤ j
+      still-left j b =
+          by-cases (eqb (getD starts j 0) c)
+          (λ q.
+          let e : getD starts j 0 ≡ c = eqb-true (getD starts j 0) c q in
+          let l : x ≤ j = rw (here (getD starts j 0) e) at b in
+          let m : k < x = its-next .later in
+          let z : getD firsts (getD starts j 0) 0 ≡ k = ap (λ (s : ℕ). getD firsts s 0) e in
+          omega arith)
+          (λ q. rw (there (getD starts j 0) (eqb-false (getD starts j 0) c q)) at b)
+
+      pub linked-on : Linked starts nexts firsts′
+      linked-on = record { room = linked .room; first = first-on; next = λ j a b. linked .next j a (still-left j b) }
 
   -- ---- the smallest start is the first position with an edge left; with none anywhere nothing is left
 
@@ -234,13 +270,19 @@ module _ (starts ends nexts firsts : List ℕ) (edges : EdgeLists starts ends (l
       some-there = entry-outs p (left starts ends firsts) (p, getD ends (getD firsts p 0) 0) (entry-left p a h)
 
       go : (o : Option ℕ) → leastStart (left starts ends firsts) ≡ o → leastStart (left starts ends firsts) ≡ some p
-      go none q = absurd (let z : outs p (left starts ends firsts) ≡ 0 = ap (outs p) (start-none (left starts ends firsts) q) in let y = some-there in omega arith)
+      go none q =
+          absurd
+          (let z : outs p (left starts ends firsts) ≡ 0 = ap (outs p) (start-none (left starts ends firsts) q) in
+          let y : 0 < outs p (left starts ends firsts) = some-there in
+          omega arith)
       go (some s) q =
           let l : s ≤ p = start-le (left starts ends firsts) s p q some-there in
           let y : 0 < outs s (left starts ends firsts) = start-some (left starts ends firsts) s q in
           q ∙ ap some (by-cases (eqb s p) (λ e. eqb-true s p e) (λ e.
           let n : s ≡ p → ⊥ = eqb-false s p e in
-          absurd (let z : outs s (left starts ends firsts) ≡ 0 = entry-none s (left starts ends firsts) (none-left s (omega arith) (f s (omega arith))) in omega arith)))
+          let i : entry s (left starts ends firsts) ≡ none = none-left s (omega arith) (f s (omega arith)) in
+          let z : outs s (left starts ends firsts) ≡ 0 = entry-none s (left starts ends firsts) i in
+          absurd (omega arith)))
 
   pub left-none : ((s : ℕ) → s < length firsts → length starts ≤ getD firsts s 0) → left starts ends firsts ≡ []
   unfolding left

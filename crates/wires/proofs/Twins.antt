@@ -84,22 +84,25 @@ module _ {g g′ : List Edge} (t : Twin g g′) where
   twin-outs : (s : ℕ) → outs s g ≡ outs s g′
   twin-outs s = outs-from s g ∙ ap length (t .at s) ∙ sym (outs-from s g′)
 
+  -- a start of the one is a start of the other
+  over-there : (s : ℕ) → leastStart g ≡ some s → 0 < outs s g′
+  over-there s p = let a : 0 < outs s g = start-some g s p in let b : outs s g ≡ outs s g′ = twin-outs s in omega arith
+
+  over-here : (s : ℕ) → leastStart g′ ≡ some s → 0 < outs s g
+  over-here s p = let a : 0 < outs s g′ = start-some g′ s p in let b : outs s g ≡ outs s g′ = twin-outs s in omega arith
+
   pub twin-start : leastStart g ≡ leastStart g′
   twin-start = go (leastStart g) (leastStart g′) refl refl
     where
       go : (o o′ : Option ℕ) → leastStart g ≡ o → leastStart g′ ≡ o′ → o ≡ o′
       go none none p q = refl
       go none (some s) p q =
-          absurd (let a : 0 < outs s g′ = start-some g′ s q in let b : outs s g ≡ 0 = ap (outs s) (start-none g p) in let c : outs s g ≡ outs s g′ = twin-outs s in omega arith)
+          absurd (let a : 0 < outs s g = over-here s q in let b : outs s g ≡ 0 = ap (outs s) (start-none g p) in omega arith)
       go (some s) none p q =
-          absurd (let a : 0 < outs s g = start-some g s p in let b : outs s g′ ≡ 0 = ap (outs s) (start-none g′ q) in let c : outs s g ≡ outs s g′ = twin-outs s in omega arith)
+          absurd (let a : 0 < outs s g′ = over-there s p in let b : outs s g′ ≡ 0 = ap (outs s) (start-none g′ q) in omega arith)
       go (some s) (some r) p q =
-          let a : outs s g ≡ outs s g′ = twin-outs s in
-          let b : outs r g ≡ outs r g′ = twin-outs r in
-          let c : 0 < outs s g = start-some g s p in
-          let d : 0 < outs r g′ = start-some g′ r q in
-          let e : s ≤ r = start-le g s r p (omega arith) in
-          let f : r ≤ s = start-le g′ r s q (omega arith) in
+          let e : s ≤ r = start-le g s r p (over-here r q) in
+          let f : r ≤ s = start-le g′ r s q (over-there s p) in
           ap some (omega arith)
 
 -- ---- the same wires

@@ -1,6 +1,7 @@
 // Wires along the hem edges. The definitions stand in specs/.
 ghost use mathlib.Core.Path.{_≡_};
-ghost use Rattle.wires.specs.Tracing.{numbered, Startable, Linkable, Chained, left, trace, traces, Underway, Onward, Begun, Ended, Unwritten, OneMore, AllLeft, PortedIn, HouseIn};
+ghost use Rattle.wires.specs.Tables.{numbered, Startable, Linkable, LinkedAll, left};
+ghost use Rattle.wires.specs.Tracing.{trace, traces, Underway, StepTaken, Begun, Ended, Unwritten, OneMore, AllLeft, PortedIn, HouseIn};
 ghost use Rattle.wires.specs.Hems.{pairs, Portable, Houseable, Written};
 ghost use Rattle.wires.specs.Ported.{portedWires};
 ghost use Rattle.wires.specs.House.{houseWires};
@@ -86,7 +87,7 @@ fn keep_last(starts: &[u32], firsts: &mut [u32])
 // Each position has the first hem edge that starts there, and each hem edge the next with the same start.
 fn link_all(starts: &[u32], nexts: &mut [u32], firsts: &mut [u32])
     requires { ⌜ Linkable (now starts) (now nexts) (now firsts) ⌝ }
-    ensures { λ _. ⌜ Chained (now (starts .entry)) (now (nexts .entry)) (now (firsts .entry)) (now (nexts .exit)) (now (firsts .exit)) ⌝ }
+    ensures { λ _. ⌜ LinkedAll (now (starts .entry)) (now (nexts .entry)) (now (firsts .entry)) (now (nexts .exit)) (now (firsts .exit)) ⌝ }
 {
     let mut k = starts.len();
     while k > 0 {
@@ -107,7 +108,7 @@ fn onward_from(
     c: u32,
 ) -> u32
     requires { ⌜ Underway (now starts) (now ends) (now nexts) (now firsts) first c ⌝ }
-    ensures { λ r. ⌜ Onward (now (starts .entry)) (now (ends .entry)) (now (nexts .entry)) first c (now (firsts .entry)) (now (firsts .exit)) r ⌝ }
+    ensures { λ r. ⌜ StepTaken (now (starts .entry)) (now (ends .entry)) (now (nexts .entry)) first c (now (firsts .entry)) (now (firsts .exit)) r ⌝ }
 {
     let p = wide(c);
     let k = wide(firsts[p]);

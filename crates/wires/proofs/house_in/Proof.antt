@@ -9,7 +9,10 @@ link-all-requires : tie.Need-link-all-requires
 link-all-requires c κs = house-linkable (c .before .before .before .before .before .before .before .before .pre)
 
 trace-all-requires : tie.Need-trace-all-requires
-trace-all-requires c κs = house-left (c .before .before .before .before .before .before .before .before .before .before .before .before .before .before .before .before .before .pre) (c .before .before .before .before .before .before .before .before .link-all .ensures)
+trace-all-requires c κs =
+    let pre = c .before .before .before .before .before .before .before .before .before .before .before .before .before .before .before .before .before .pre in
+    let link-all = c .before .before .before .before .before .before .before .before .link-all in
+    house-left (pre) (link-all .ensures)
 
 same-length : tie.Need-same-length
 same-length c = search needs
@@ -24,7 +27,11 @@ same-length-4 : tie.Need-same-length-4
 same-length-4 c = search needs
 
 returns : tie.Need-returns
-returns c = written-as (house-wires-are (c .before .before .before .before .before .before .before .before .before .before .before .before .before .before .before .before .before .before .before .before .before .before .before .before .pre) (c .before .before .before .before .before .before .before .before .before .before .before .before .before .before .before .link-all .ensures)) (c .before .before .before .before .before .before .trace-all .ensures)
+returns c =
+    let pre = c .before .before .before .before .before .before .before .before .before .before .before .before .before .before .before .before .before .before .before .before .before .before .before .before .pre in
+    let link-all = c .before .before .before .before .before .before .before .before .before .before .before .before .before .before .before .link-all in
+    let trace-all = c .before .before .before .before .before .before .trace-all in
+    written-as (house-wires-are (pre) (link-all .ensures)) (trace-all .ensures)
 
 pub house-in-spec : {M : Type 1} → statement M
 house-in-spec =

@@ -29,10 +29,21 @@ cast-firsts : tie.Need-cast-firsts Inv-loop μ-loop
 cast-firsts c = search needs
 
 mul-firsts : tie.Need-mul-firsts Inv-loop μ-loop
-mul-firsts c = omega (arith, c .wide .ensures, c .before .before .before .before .before .before .pre .from (c .before .before .before .loop .k) (c .before .before .loop-test .taken), c .before .before .before .before .before .before .good)
+mul-firsts c =
+    let wide = c .wide in
+    let pre = c .before .before .before .before .before .before .pre in
+    let loop = c .before .before .before .loop in
+    let loop-test = c .before .before .loop-test in
+    let good = c .before .before .before .before .before .before .good in
+    omega (arith, wide .ensures, pre .from (loop .k) (loop-test .taken), good)
 
 slice-write-firsts : tie.Need-slice-write-firsts Inv-loop μ-loop
-slice-write-firsts c = omega (arith, c .wide .ensures, c .before .before .before .before .before .before .pre .from (c .before .before .before .loop .k) (c .before .before .loop-test .taken), c .before .before .before .loop .inv .same)
+slice-write-firsts c =
+    let wide = c .wide in
+    let pre = c .before .before .before .before .before .before .pre in
+    let loop = c .before .before .before .loop in
+    let loop-test = c .before .before .loop-test in
+    omega (arith, wide .ensures, pre .from (loop .k) (loop-test .taken), loop .inv .same)
 
 add-k : tie.Need-add-k Inv-loop μ-loop
 add-k c = search needs

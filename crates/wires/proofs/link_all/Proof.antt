@@ -29,10 +29,21 @@ wide-requires : tie.Need-wide-requires Inv-loop μ-loop
 wide-requires c κs = search needs
 
 mul-nexts : tie.Need-mul-nexts Inv-loop μ-loop
-mul-nexts c = omega (arith, c .wide .ensures, c .before .before .before .before .before .before .before .pre .startable .from (c .before .before .before .loop .k - 1) (omega (arith, c .before .before .loop-test .taken, c .before .before .before .loop .inv .within)), c .before .before .before .before .before .before .before .good)
+mul-nexts c =
+    let wide = c .wide in
+    let pre = c .before .before .before .before .before .before .before .pre in
+    let loop = c .before .before .before .loop in
+    let loop-test = c .before .before .loop-test in
+    let good = c .before .before .before .before .before .before .before .good in
+    omega (arith, wide .ensures, pre .startable .from (loop .k - 1) (omega (arith, loop-test .taken, loop .inv .within)), good)
 
 slice-read-nexts : tie.Need-slice-read-nexts Inv-loop μ-loop
-slice-read-nexts c = omega (arith, c .before .wide .ensures, c .before .before .before .before .before .before .before .before .pre .startable .from (c .before .before .before .before .loop .k - 1) (omega (arith, c .before .before .before .loop-test .taken, c .before .before .before .before .loop .inv .within)), c .before .before .before .before .loop .inv .firsts-same)
+slice-read-nexts c =
+    let wide = c .before .wide in
+    let pre = c .before .before .before .before .before .before .before .before .pre in
+    let loop = c .before .before .before .before .loop in
+    let loop-test = c .before .before .before .loop-test in
+    omega (arith, wide .ensures, pre .startable .from (loop .k - 1) (omega (arith, loop-test .taken, loop .inv .within)), loop .inv .firsts-same)
 
 mul-nexts-2 : tie.Need-mul-nexts-2 Inv-loop μ-loop
 mul-nexts-2 c = search needs
@@ -44,16 +55,31 @@ cast-firsts : tie.Need-cast-firsts Inv-loop μ-loop
 cast-firsts c = search needs
 
 mul-firsts : tie.Need-mul-firsts Inv-loop μ-loop
-mul-firsts c = omega (arith, c .before .wide .ensures, c .before .before .before .before .before .before .before .before .pre .startable .from (c .before .before .before .before .loop .k - 1) (omega (arith, c .before .before .before .loop-test .taken, c .before .before .before .before .loop .inv .within)), c .before .before .before .before .before .before .before .before .good)
+mul-firsts c =
+    let wide = c .before .wide in
+    let pre = c .before .before .before .before .before .before .before .before .pre in
+    let loop = c .before .before .before .before .loop in
+    let loop-test = c .before .before .before .loop-test in
+    let good = c .before .before .before .before .before .before .before .before .good in
+    omega (arith, wide .ensures, pre .startable .from (loop .k - 1) (omega (arith, loop-test .taken, loop .inv .within)), good)
 
 slice-write-firsts : tie.Need-slice-write-firsts Inv-loop μ-loop
-slice-write-firsts c = omega (arith, c .before .wide .ensures, c .before .before .before .before .before .before .before .before .pre .startable .from (c .before .before .before .before .loop .k - 1) (omega (arith, c .before .before .before .loop-test .taken, c .before .before .before .before .loop .inv .within)), c .before .before .before .before .loop .inv .firsts-same)
+slice-write-firsts c =
+    let wide = c .before .wide in
+    let pre = c .before .before .before .before .before .before .before .before .pre in
+    let loop = c .before .before .before .before .loop in
+    let loop-test = c .before .before .before .loop-test in
+    omega (arith, wide .ensures, pre .startable .from (loop .k - 1) (omega (arith, loop-test .taken, loop .inv .within)), loop .inv .firsts-same)
 
 loop-less : tie.Need-loop-less Inv-loop μ-loop
 loop-less c = search needs
 
 loop-again : tie.Need-loop-again Inv-loop μ-loop
-loop-again c = chain-turns _ _ (omega (arith, c .before .before .before .loop-test .taken)) (c .before .wide .ensures) (c .before .before .before .before .loop .inv)
+loop-again c =
+    let loop-test = c .before .before .before .loop-test in
+    let wide = c .before .wide in
+    let loop = c .before .before .before .before .loop in
+    chain-turns _ _ (omega (arith, loop-test .taken)) (wide .ensures) (loop .inv)
 
 same-length : tie.Need-same-length Inv-loop μ-loop
 same-length c = search needs

@@ -21,7 +21,11 @@ wide-requires-2 : tie.Need-wide-requires-2
 wide-requires-2 c κs = search needs
 
 returns : tie.Need-returns
-returns c = back-home _ _ _ _ _ _ (c .before .before .before .before .before .before .before .before .pre .stands) (c .before .before .before .before .before .before .before .before .pre .home) (c .before .before .before .before .before .before .before .before .pre .inside) (omega (arith, c .before .before .before .wide .ensures, ap (λ (i : ℕ). getD (c .before .before .before .before .before .before .before .before .args .firsts .now) i 0) (c .before .before .before .wide .ensures)))
+returns c =
+    let pre = c .before .before .before .before .before .before .before .before .pre in
+    let wide = c .before .before .before .wide in
+    let args = c .before .before .before .before .before .before .before .before .args in
+    back-home _ _ _ _ _ _ (pre .stands) (pre .home) (pre .inside) (omega (arith, wide .ensures, ap (λ (i : ℕ). getD (args .firsts .now) i 0) (wide .ensures)))
 
 mul-firsts : tie.Need-mul-firsts
 mul-firsts c = search needs
@@ -45,7 +49,12 @@ same-length : tie.Need-same-length
 same-length c = search needs
 
 returns-2 : tie.Need-returns-2
-returns-2 c = onward-by _ _ _ _ _ _ (c .before .before .before .before .before .before .before .before .before .before .pre .stands) (c .before .before .before .before .before .before .before .before .before .before .pre .home) (c .before .before .before .before .before .before .before .before .before .before .pre .inside) _ _ (c .before .before .before .before .before .wide .ensures) (c .before .before .before .wide2 .ensures) (c .before .before .if1 .left)
+returns-2 c =
+    let pre = c .before .before .before .before .before .before .before .before .before .before .pre in
+    let wide = c .before .before .before .before .before .wide in
+    let wide2 = c .before .before .before .wide2 in
+    let if1 = c .before .before .if1 in
+    onward-by _ _ _ _ _ _ (pre .stands) (pre .home) (pre .inside) _ _ (wide .ensures) (wide2 .ensures) (if1 .left)
 
 pub onward-from-spec : {M : Type 1} → statement M
 onward-from-spec =

@@ -9,7 +9,10 @@ keep-last-requires : tie.Need-keep-last-requires
 keep-last-requires c κs = ported-startable (c .before .before .before .before .before .before .before .pre)
 
 trace-all-requires : tie.Need-trace-all-requires
-trace-all-requires c κs = ported-left (c .before .before .before .before .before .before .before .before .before .before .before .before .before .pre) (c .before .before .before .before .before .keep-last .ensures)
+trace-all-requires c κs =
+    let pre = c .before .before .before .before .before .before .before .before .before .before .before .before .before .pre in
+    let keep-last = c .before .before .before .before .before .keep-last in
+    ported-left (pre) (keep-last .ensures)
 
 same-length : tie.Need-same-length
 same-length c = search needs
@@ -21,7 +24,11 @@ same-length-3 : tie.Need-same-length-3
 same-length-3 c = search needs
 
 returns : tie.Need-returns
-returns c = written-as (ported-traced (c .before .before .before .before .before .before .before .before .before .before .before .before .before .before .before .before .before .before .before .before .pre) (c .before .before .before .before .before .before .before .before .before .before .before .before .keep-last .ensures)) (c .before .before .before .before .before .before .trace-all .ensures)
+returns c =
+    let pre = c .before .before .before .before .before .before .before .before .before .before .before .before .before .before .before .before .before .before .before .before .pre in
+    let keep-last = c .before .before .before .before .before .before .before .before .before .before .before .before .keep-last in
+    let trace-all = c .before .before .before .before .before .before .trace-all in
+    written-as (ported-traced (pre) (keep-last .ensures)) (trace-all .ensures)
 
 pub ported-in-spec : {M : Type 1} → statement M
 ported-in-spec =

@@ -1,10 +1,7 @@
 -- What is written and what is still to come are all wires. The measure is the positions and the edges that are left. Assumes nothing.
 use Prim.Native.Nat.{ℕ, _+_, _-_}
-use mathlib.Core.Path.{_≡_, ap}
 use lib.ListN.{length}
-use Rattle.edges.specs.Edges.{Edge}
-use Rattle.wires.specs.Tracing.{left}
-use mathlib.Core.List.{List}
+use Rattle.wires.specs.Tables.{left}
 use Rattle.wires.proofs.AllWires.{Gathering, gather-begins, gather-skips, gather-ready, gather-less, gather-turns, gather-ends}
 use borrow.Author.Needs.{needs}
 use native.Mathlib.Omega.{arith}
@@ -30,13 +27,27 @@ wide-requires : tie.Need-wide-requires Inv-loop μ-loop
 wide-requires c κs = search needs
 
 trace-one-requires : tie.Need-trace-one-requires Inv-loop μ-loop
-trace-one-requires c κs = gather-ready (c .before .before .before .before .before .before .before .loop .inv) (c .before .before .before .before .before .before .loop-test .taken) (omega (arith, c .before .before .before .before .wide .ensures))
+trace-one-requires c κs =
+    let loop = c .before .before .before .before .before .before .before .loop in
+    let loop-test = c .before .before .before .before .before .before .loop-test in
+    let wide = c .before .before .before .before .wide in
+    gather-ready (loop .inv) (loop-test .taken) (omega (arith, wide .ensures))
 
 loop-less : tie.Need-loop-less Inv-loop μ-loop
-loop-less c = omega (arith, gather-less (c .before .before .before .before .before .before .before .before .before .before .before .before .before .before .loop .inv) (c .before .before .before .before .before .before .before .before .before .before .before .before .before .loop-test .taken) (omega (arith, c .before .before .before .before .before .before .before .before .before .before .before .wide .ensures)), ap (λ (g : List Edge). length g) (c .before .before .before .before .before .before .trace-one .ensures .ended .left-is))
+loop-less c =
+    let loop = c .before .before .before .before .before .before .before .before .before .before .before .before .before .before .loop in
+    let loop-test = c .before .before .before .before .before .before .before .before .before .before .before .before .before .loop-test in
+    let wide = c .before .before .before .before .before .before .before .before .before .before .before .wide in
+    let trace-one = c .before .before .before .before .before .before .trace-one in
+    omega (arith, gather-less (loop .inv) (loop-test .taken) (omega (arith, wide .ensures)) (trace-one .ensures) (trace-one .kept .1 .1 .1 .0))
 
 loop-again : tie.Need-loop-again Inv-loop μ-loop
-loop-again c = gather-turns (c .before .before .before .before .before .before .before .before .before .before .before .before .before .before .loop .inv) (c .before .before .before .before .before .before .before .before .before .before .before .before .before .loop-test .taken) (omega (arith, c .before .before .before .before .before .before .before .before .before .before .before .wide .ensures)) (c .before .before .before .before .before .before .trace-one .ensures) (c .before .before .before .before .before .before .trace-one .kept .1 .1 .1 .0)
+loop-again c =
+    let loop = c .before .before .before .before .before .before .before .before .before .before .before .before .before .before .loop in
+    let loop-test = c .before .before .before .before .before .before .before .before .before .before .before .before .before .loop-test in
+    let wide = c .before .before .before .before .before .before .before .before .before .before .before .wide in
+    let trace-one = c .before .before .before .before .before .before .trace-one in
+    gather-turns (loop .inv) (loop-test .taken) (omega (arith, wide .ensures)) (trace-one .ensures) (trace-one .kept .1 .1 .1 .0)
 
 add-p : tie.Need-add-p Inv-loop μ-loop
 add-p c = search needs
@@ -45,7 +56,11 @@ loop-less-2 : tie.Need-loop-less-2 Inv-loop μ-loop
 loop-less-2 c = omega (arith, c .before .before .before .before .loop .inv .same, c .before .before .before .loop-test .taken)
 
 loop-again-2 : tie.Need-loop-again-2 Inv-loop μ-loop
-loop-again-2 c = gather-skips (c .before .before .before .before .loop .inv) (c .before .before .before .loop-test .taken) (omega (arith, c .before .wide .ensures))
+loop-again-2 c =
+    let loop = c .before .before .before .before .loop in
+    let loop-test = c .before .before .before .loop-test in
+    let wide = c .before .wide in
+    gather-skips (loop .inv) (loop-test .taken) (omega (arith, wide .ensures))
 
 same-length : tie.Need-same-length Inv-loop μ-loop
 same-length c = c .before .loop .inv .same

@@ -1,6 +1,6 @@
 -- The tables are blank. Assumes nothing.
 use mathlib.Core.Path.{refl}
-use Rattle.wires.specs.Tracing.{blank}
+use Rattle.wires.specs.Tables.{blank}
 use native.Mathlib.Omega.{arith}
 use borrow.Author.Needs.{needs}
 use Rattle.wires.proofs.trace_house.Statement.{statement}
@@ -14,7 +14,9 @@ slice-aggregate-house-in-2 c = search needs
 
 house-in-requires : tie.Need-house-in-requires
 unfolding blank
-house-in-requires c κs = record { given = c .before .before .before .before .before .before .before .before .pre; tables = record { nexts-is = refl; firsts-is = refl } }
+house-in-requires c κs =
+    let pre = c .before .before .before .before .before .before .before .before .pre in
+    record { given = pre; tables = record { nexts-is = refl; firsts-is = refl } }
 
 same-length : tie.Need-same-length
 same-length c = search needs

@@ -2,7 +2,8 @@
 use mathlib.Core.Path.{_≡_, refl, ap}
 use Prim.Native.Nat.{ℕ, _-_}
 use lib.ListN.{length, set}
-use Rattle.wires.specs.Tracing.{left, trace}
+use Rattle.wires.specs.Tables.{left}
+use Rattle.wires.specs.Tracing.{trace}
 use Rattle.wires.proofs.AllWires.{wire-small}
 use native.Mathlib.Omega.{arith}
 use borrow.Author.Needs.{needs}
@@ -19,7 +20,11 @@ sub-lengths : tie.Need-sub-lengths
 sub-lengths c = search needs
 
 cast-lengths : tie.Need-cast-lengths
-cast-lengths c = omega (arith, c .before .before .before .before .trace-wire .ensures .end-is, wire-small (c .before .before .before .before .before .before .before .before .before .before .before .before .before .pre .begun .stands) (c .before .before .before .before .before .before .before .before .before .before .before .before .before .args .p) (c .before .before .before .before .before .before .before .before .before .before .before .before .before .args .p))
+cast-lengths c =
+    let trace-wire = c .before .before .before .before .trace-wire in
+    let pre = c .before .before .before .before .before .before .before .before .before .before .before .before .before .pre in
+    let args = c .before .before .before .before .before .before .before .before .before .before .before .before .before .args in
+    omega (arith, trace-wire .ensures .end-is, wire-small (pre .begun .stands) (args .p) (args .p))
 
 mul-lengths : tie.Need-mul-lengths
 mul-lengths c = search needs
@@ -40,8 +45,11 @@ same-length-3 : tie.Need-same-length-3
 same-length-3 c = search needs
 
 returns : tie.Need-returns
-returns c = let e : c .before .before .before .before .trace-wire .result - c .before .before .before .before .before .before .before .before .before .before .before .before .before .args .done .flat ≡ length (trace (c .before .before .before .before .before .before .before .before .before .before .before .before .before .args .p) (c .before .before .before .before .before .before .before .before .before .before .before .before .before .args .p) (left (c .before .before .before .before .before .before .before .before .before .before .before .before .before .args .starts .now) (c .before .before .before .before .before .before .before .before .before .before .before .before .before .args .ends .now) (c .before .before .before .before .before .before .before .before .before .before .before .before .before .args .firsts .now)) .0) = omega (arith, c .before .before .before .before .trace-wire .ensures .end-is) in
-    record { ended = c .before .before .before .before .trace-wire .ensures; lengths-is = ap (set (c .before .before .before .before .before .before .before .before .before .before .before .before .before .args .lengths .now) (c .before .before .before .before .before .before .before .before .before .before .before .before .before .args .done .wires)) e; wires-is = refl }
+returns c =
+    let trace-wire = c .before .before .before .before .trace-wire in
+    let args = c .before .before .before .before .before .before .before .before .before .before .before .before .before .args in
+    let e : trace-wire .result - args .done .flat ≡ length (trace (args .p) (args .p) (left (args .starts .now) (args .ends .now) (args .firsts .now)) .0) = omega (arith, trace-wire .ensures .end-is) in
+    record { ended = trace-wire .ensures; lengths-is = ap (set (args .lengths .now) (args .done .wires)) e; wires-is = refl }
 
 pub trace-one-spec : {M : Type 1} → statement M
 trace-one-spec =

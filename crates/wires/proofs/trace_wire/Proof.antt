@@ -1,6 +1,7 @@
 -- What was passed and what is still to come is the whole wire. The measure is the length of what is to come. Assumes nothing.
 use lib.ListN.{length}
-use Rattle.wires.specs.Tracing.{left, trace}
+use Rattle.wires.specs.Tables.{left}
+use Rattle.wires.specs.Tracing.{trace}
 use Rattle.wires.proofs.Following.{Following, follow-begins, follow-turns, follow-less, follow-ends}
 use borrow.Author.Needs.{needs}
 use native.Mathlib.Omega.{arith}
@@ -35,13 +36,25 @@ same-length-2 : tie.Need-same-length-2 Inv-loop μ-loop
 same-length-2 c = search needs
 
 returns : tie.Need-returns Inv-loop μ-loop
-returns c = follow-ends (c .before .before .before .before .before .loop .inv) (c .before .before .before .onward-from .ensures) (c .before .before .before .onward-from .kept .1 .1 .1 .0) (c .if1 .taken)
+returns c =
+    let loop = c .before .before .before .before .before .loop in
+    let onward-from = c .before .before .before .onward-from in
+    let if1 = c .if1 in
+    follow-ends (loop .inv) (onward-from .ensures) (onward-from .kept .1 .1 .1 .0) (if1 .taken)
 
 loop-less : tie.Need-loop-less Inv-loop μ-loop
-loop-less c = follow-less (c .before .before .before .before .before .loop .inv) (c .before .before .before .onward-from .ensures) (c .before .before .before .onward-from .kept .1 .1 .1 .0) (c .if1 .left)
+loop-less c =
+    let loop = c .before .before .before .before .before .loop in
+    let onward-from = c .before .before .before .onward-from in
+    let if1 = c .if1 in
+    follow-less (loop .inv) (onward-from .ensures) (onward-from .kept .1 .1 .1 .0) (if1 .left)
 
 loop-again : tie.Need-loop-again Inv-loop μ-loop
-loop-again c = follow-turns (c .before .before .before .before .before .loop .inv) (c .before .before .before .onward-from .ensures) (c .before .before .before .onward-from .kept .1 .1 .1 .0) (c .if1 .left)
+loop-again c =
+    let loop = c .before .before .before .before .before .loop in
+    let onward-from = c .before .before .before .onward-from in
+    let if1 = c .if1 in
+    follow-turns (loop .inv) (onward-from .ensures) (onward-from .kept .1 .1 .1 .0) (if1 .left)
 
 pub trace-wire-spec : {M : Type 1} → statement M
 trace-wire-spec =
