@@ -1,5 +1,6 @@
 pub mod Alike
 pub mod Bools
+pub mod Buckets
 pub mod Cases
 pub mod Copies
 pub mod Counting
@@ -9,3 +10,4 @@ pub mod Only
 pub mod Parts
 pub mod Seeking
 pub mod Writing
+pub mod Others

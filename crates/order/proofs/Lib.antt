@@ -6,3 +6,4 @@ pub mod Panelwise
 pub mod Demand
 pub mod Shown
 pub mod Needed
+pub mod Calls

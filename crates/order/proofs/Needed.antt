@@ -1,6 +1,6 @@
 -- What the conditions are for. Example 4 of document 01 is Irregular: with its last two faces exchanged it has the same faces,
--- and neither the directions of its hem edges nor its house wires. Faces with no corners are refused, and must be: which of two
--- such faces is meant would make a difference. Assumes nothing.
+-- but not the same directions of hem edges, nor the same house wires. A mesh with two faces that have no corner is refused: each
+-- would be the other begun elsewhere, and they stand in two panels. Assumes nothing.
 use mathlib.Core.Path.{_≡_, refl, sym, ap, _∙_}
 use mathlib.Core.Bool.{Bool, true, false}
 use mathlib.Core.List.{[]}
@@ -38,13 +38,15 @@ pub hem-of-the-one : some (same (0, 1)) (hems (edgesOf (faces thriceUsed))) ≡ 
 unfolding faces hems key
 hem-of-the-one = refl
 
-pub hem-of-the-other : (some (same (0, 1)) (hems (edgesOf (faces exchanged))) ≡ false) × (some (same (1, 0)) (hems (edgesOf (faces exchanged))) ≡ true)
+pub hem-of-the-other :
+    (some (same (0, 1)) (hems (edgesOf (faces exchanged))) ≡ false) × (some (same (1, 0)) (hems (edgesOf (faces exchanged))) ≡ true)
 unfolding faces hems key
 hem-of-the-other = (refl, refl)
 
--- so directions are not kept on that condition
+-- so it is not true that directions are kept whatever the verdict
 pub directions-not-kept :
-    ((m n : Mesh) → meshNumber m ≡ 0 → meshNumber n ≡ 0 → Same (faces m) (faces n) → hems (edgesOf (faces m)) ≡ hems (edgesOf (faces n))) → ⊥
+    ((m n : Mesh) → meshNumber m ≡ 0 → meshNumber n ≡ 0 → Same (faces m) (faces n)
+    → hems (edgesOf (faces m)) ≡ hems (edgesOf (faces n))) → ⊥
 directions-not-kept kept =
     let e : hems (edgesOf (faces thriceUsed)) ≡ hems (edgesOf (faces exchanged)) =
     kept thriceUsed exchanged (both-accepted .0) (both-accepted .1) exchanged-same in
@@ -58,6 +60,7 @@ pub wires-of-both :
 unfolding faces hems key houseWires wiresIn walk
 wires-of-both = (refl, refl)
 
+-- so it is not true that the house wires are the same whatever the verdict
 pub wires-not-kept :
     ((m n : Mesh) → meshNumber m ≡ 0 → meshNumber n ≡ 0 → Same (faces m) (faces n)
     → houseWires (hems (edgesOf (faces m))) ≡ houseWires (hems (edgesOf (faces n)))) → ⊥
@@ -78,6 +81,7 @@ pub empties-apart :
 unfolding faces panels panelsFrom search′ keyOf
 empties-apart = (refl, refl)
 
+-- so it is not true of meshes that are refused that any of equal faces may be taken for each other
 pub panels-not-kept :
     ((m n : Mesh) → Same (faces m) (faces n)
     → (normals : Bool) (a b c d : ℕ) → a < length (faces m) → c < length (faces n)
