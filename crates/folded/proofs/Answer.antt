@@ -1,16 +1,16 @@
 -- The call: what it answers on a refusal and on 0. Assumes nothing.
-use mathlib.Core.Path.{_≡_, refl, sym, ap, _∙_}
-use mathlib.Core.Bool.{true, false}
+use mathlib.Core.Path.{_≡_, refl, sym, _∙_}
+use mathlib.Core.Bool.{true}
 use mathlib.Core.List.{List, [], _∷_}
-use Prim.Native.Nat.{ℕ, zero, suc, _+_, _*_, _/_, _≤_, _<_}
+use Prim.Native.Nat.{ℕ, zero, suc, _/_, _≤_, _<_}
 use native.Mathlib.Nat.{zero-add}
 use native.Mathlib.Omega.{arith}
 use lib.ListN.{length}
 use lib.Seq.{sets}
 use borrow.Author.Tests.{lt-ltb, le-ltb}
-use Rattle.mesh.specs.Mesh.{Mesh, meshOf, faces, rings}
+use Rattle.mesh.specs.Mesh.{Mesh, faces, rings}
 use Rattle.mesh.specs.Table.{meshNumber, when, short, after}
-use Rattle.mesh.proofs.Numbers.{first-is, first-on, row-given, row-passed}
+use Rattle.mesh.proofs.Numbers.{first-is, first-on, row-given}
 use Rattle.mesh.proofs.Accepted.{accepted}
 use Rattle.grouping.specs.Push.{Placed, cornerCount}
 use Rattle.folded.specs.declared.Removed.{Removed}

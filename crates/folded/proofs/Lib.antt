@@ -5,3 +5,4 @@ pub mod Result
 pub mod Accepted
 pub mod Scratch
 pub mod Answer
+pub mod Examples

@@ -1,8 +1,8 @@
 -- The lists that hold the pieces before they are grouped: all fit, and their fronts are the pieces again. Assumes nothing.
-use mathlib.Core.Path.{_≡_, refl, sym, ap, ap₂, _∙_}
+use mathlib.Core.Path.{_≡_, sym, ap, ap₂, _∙_}
 use mathlib.Core.Bool.{true}
-use mathlib.Core.List.{List, [], _∷_, map}
-use Prim.Native.Nat.{ℕ, _+_, _*_, _≤_, _<_}
+use mathlib.Core.List.{List, map}
+use Prim.Native.Nat.{ℕ, _*_, _≤_}
 use native.Mathlib.Nat.{le-of-eq}
 use native.Mathlib.Omega.{arith}
 use lib.ListN.{length, take, length-map}
@@ -11,14 +11,13 @@ use Rattle.lists.proofs.Copies.{take-written}
 use Rattle.mesh.specs.Mesh.{Ring, rings}
 use Rattle.mesh.specs.Face.{Sound}
 use Rattle.mesh.proofs.Faces.{isRing, rings-are, rings-back, sizes-back}
-use Rattle.grouping.specs.Push.{Placed, pushed, cornerCount}
+use Rattle.grouping.specs.Push.{Placed, pushed}
 use Rattle.grouping.proofs.Placing.{length-flat}
 use Rattle.folding.specs.Folding.{pieces}
 use Rattle.folding.proofs.Pieces.{isFace, pieces-sane}
 use Rattle.folding.proofs.Placing.{faces-count}
 use Rattle.folded.specs.Folded.{removed}
 use Rattle.folded.specs.Working.{Ready}
-use Rattle.folded.proofs.OneFace.{placed-as}
 use Rattle.folded.proofs.Passing.{pieces-rings}
 use Rattle.folded.proofs.Result.{every-pieces, count-pieces}
 

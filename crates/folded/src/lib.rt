@@ -4,9 +4,9 @@
 // does. A face that is not folded is copied as it is; only a folded larger one is made a row of corners. The definitions that a
 // caller cites stand in specs/Folded.antt, those of one face in folding's specs/Folding.antt.
 ghost use mathlib.Core.Path.{_≡_};
-ghost use mathlib.Core.List.{List, [], _∷_, _++_, map};
-ghost use Prim.Native.Nat.{ℕ, _+_, _*_, _-_, _<_, _≤_};
-ghost use lib.ListN.{length, getD, take, drop};
+ghost use mathlib.Core.List.{[], _∷_, map};
+ghost use Prim.Native.Nat.{_+_, _*_, _<_, _≤_};
+ghost use lib.ListN.{length, take};
 ghost use Rattle.lists.specs.Lists.{each};
 ghost use Rattle.mesh.specs.Mesh.{meshOf, position, threes, rings};
 ghost use Rattle.grouping.specs.Push.{Placed};

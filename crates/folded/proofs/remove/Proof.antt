@@ -1,3 +1,4 @@
+-- `folded::remove` meets its contract: the pieces of all faces fit the two lists, whose fronts are those pieces again; grouped, they are what is left. Assumes nothing.
 use Prim.Native.Nat.{ℕ}
 use mathlib.Core.Path.{sym}
 use lib.ListN.{length-replicate}
@@ -8,49 +9,36 @@ use native.Mathlib.Omega.{arith}
 use borrow.Author.Needs.{needs}
 use Rattle.folded.proofs.remove.Statement.{statement}
 use Rattle.folded.proofs.remove.Tie as tie
-use Rattle.folded.proofs.remove.Reads as reads
-use Rattle.folded.proofs.remove.Lts as lts
-use Rattle.folded.proofs.all_pieces.Reads as all-pieces-reads
-use Rattle.grouping.proofs.push_all.Reads as push-all-reads
 
--- src/lib.rt:76:41
 slice-aggregate-all-pieces : tie.Need-slice-aggregate-all-pieces
 slice-aggregate-all-pieces c = search needs
 
--- src/lib.rt:76:54
 slice-aggregate-all-pieces-2 : tie.Need-slice-aggregate-all-pieces-2
 slice-aggregate-all-pieces-2 c = search needs
 
--- src/lib.rt:76:9
 all-pieces-requires : tie.Need-all-pieces-requires
 all-pieces-requires c κs = search needs
 
--- src/lib.rt:77:13
 mul-c : tie.Need-mul-c
 mul-c c =
     omega (arith, few-corners _ _ _ _ _ _ _ _ _ _ (c .before .before .before .before .before .before .before .before .before .before .pre) (length-replicate {A = ℕ} 12288 0) (length-replicate {A = ℕ} 1365 0) (c .before .before .before .all-pieces .ensures))
 
--- src/lib.rt:79:24
 array-share-prefix-pieces : tie.Need-array-share-prefix-pieces
 array-share-prefix-pieces c =
     omega (arith, few-corners _ _ _ _ _ _ _ _ _ _ (c .before .before .before .before .before .before .before .before .before .before .pre) (length-replicate {A = ℕ} 12288 0) (length-replicate {A = ℕ} 1365 0) (c .before .before .before .all-pieces .ensures), c .before .before .before .before .before .before .before .before .before .before .pre .sound .fits)
 
--- src/lib.rt:79:24
 slice-aggregate-push-all : tie.Need-slice-aggregate-push-all
 slice-aggregate-push-all c =
     sym (length-take-le _ _ (omega (arith, few-corners _ _ _ _ _ _ _ _ _ _ (c .before .before .before .before .before .before .before .before .before .before .before .pre) (length-replicate {A = ℕ} 12288 0) (length-replicate {A = ℕ} 1365 0) (c .before .before .before .before .all-pieces .ensures), c .before .before .before .before .before .before .before .before .before .before .before .pre .sound .fits)))
 
--- src/lib.rt:79:38
 array-share-prefix-lens : tie.Need-array-share-prefix-lens
 array-share-prefix-lens c =
     omega (arith, few-faces _ _ _ _ _ _ _ _ _ _ (c .before .before .before .before .before .before .before .before .before .before .before .pre) (length-replicate {A = ℕ} 12288 0) (length-replicate {A = ℕ} 1365 0) (c .before .before .before .before .all-pieces .ensures), c .before .before .before .before .before .before .before .before .before .before .before .pre .sound .fits)
 
--- src/lib.rt:79:38
 slice-aggregate-push-all-2 : tie.Need-slice-aggregate-push-all-2
 slice-aggregate-push-all-2 c =
     sym (length-take-le _ _ (omega (arith, few-faces _ _ _ _ _ _ _ _ _ _ (c .before .before .before .before .before .before .before .before .before .before .before .before .pre) (length-replicate {A = ℕ} 12288 0) (length-replicate {A = ℕ} 1365 0) (c .before .before .before .before .before .all-pieces .ensures), c .before .before .before .before .before .before .before .before .before .before .before .before .pre .sound .fits)))
 
--- src/lib.rt:79:5
 push-all-requires : tie.Need-push-all-requires
 push-all-requires c κs =
     let y = c .before .before .before .before .before .before .before .before .before .before .before .before .before .before .pre in
@@ -59,15 +47,12 @@ push-all-requires c κs =
     let q = length-replicate {A = ℕ} 1365 0 in
     (pieces-sound _ _ _ _ _ _ _ _ _ _ y p q w, (pieces-corners _ _ _ _ _ _ _ _ _ _ y p q w, pieces-sizes _ _ _ _ _ _ _ _ _ _ y p q w))
 
--- src/lib.rt:70:1
 same-length : tie.Need-same-length
 same-length c = search needs
 
--- src/lib.rt:70:1
 same-length-2 : tie.Need-same-length-2
 same-length-2 c = search needs
 
--- src/lib.rt:70:1
 returns : tie.Need-returns
 returns c =
     placed-as (pieces-grouped _ _ _ _ _ _ _ _ _ _ (c .before .before .before .before .before .before .before .before .before .before .before .before .before .before .before .before .before .before .before .pre) (length-replicate {A = ℕ} 12288 0) (length-replicate {A = ℕ} 1365 0) (c .before .before .before .before .before .before .before .before .before .before .before .before .all-pieces .ensures)) (c .before .before .before .before .push-all .ensures)
