@@ -3,20 +3,20 @@
 use mathlib.Core.Path.{_≡_, refl, sym, ap, _∙_}
 use mathlib.Core.Bool.{Bool, true, false, not, _&&_, _||_}
 use mathlib.Core.List.{List, [], _∷_, _++_, map}
-use Prim.Native.Nat.{ℕ, suc, _+_, _*_, _%_, _≤_, _<_}
+use Prim.Native.Nat.{ℕ, suc, _*_, _≤_, _<_}
 use native.Mathlib.Nat.{le-of-eq}
 use native.Mathlib.Omega.{arith}
 use lib.ListN.{length, getD, length-map, List·getD-map}
-use lib.Dec.{leb, ltb}
+use lib.Dec.{leb}
 use borrow.Author.Tests.{leb-true, le-leb}
 use Rattle.lists.specs.Lists.{every, some, joined, each, sum}
-use Rattle.lists.proofs.Bools.{and-both, and-left, and-right, by-cases, true-false}
+use Rattle.lists.proofs.Bools.{and-both, by-cases, true-false}
 use Rattle.lists.proofs.Parts.{every-append, every-at, joined-append}
 use Rattle.mesh.specs.Mesh.{Mesh, Corner, Ring, threes, rings, faces}
 use Rattle.mesh.specs.Table.{meshNumber, overLimits, uneven, misfit, ungrouped, astray, astrayAt}
 use Rattle.mesh.proofs.Corners.{isCorner, threes-joined}
 use Rattle.mesh.proofs.Faces.{isRing, rings-are, rings-back, sizes-back, corners-back}
-use Rattle.mesh.proofs.Numbers.{Clear, clear, clear-0}
+use Rattle.mesh.proofs.Numbers.{clear, clear-0}
 use Rattle.mesh.proofs.Accepted.{Accepted, accepted, within-back, even-back, sizes-back as sizes-accepted}
 use Rattle.grouping.specs.Push.{cornerCount}
 use Rattle.grouping.proofs.Placing.{length-flat}

@@ -1,18 +1,18 @@
 -- A face's flat part of the list of corners, read corner by corner: a triangle, a quadrangle, a row. Assumes nothing.
-use mathlib.Core.Path.{_≡_, refl, sym, ap, _∙_}
-use mathlib.Core.Bool.{Bool, true, false, _&&_, _||_}
+use mathlib.Core.Path.{_≡_, sym, ap, _∙_}
+use mathlib.Core.Bool.{Bool, true, false, _||_}
 use mathlib.Core.List.{List, [], _∷_, _++_, map, append-nil}
-use Prim.Native.Nat.{ℕ, zero, suc, _+_, _-_, _*_, _/_, _≤_, _<_}
+use Prim.Native.Nat.{ℕ, suc, _+_, _*_, _≤_, _<_}
 use native.Mathlib.Omega.{arith}
-use lib.ListN.{length, getD, take, drop, set, length-map, List·getD-map, drop-of-length-le}
+use lib.ListN.{length, getD, take, set, length-map, List·getD-map, drop-of-length-le}
 use lib.Seq.{sets}
 use lib.Dec.{eqb}
-use borrow.Author.Tests.{eqb-true, eq-eqb, ne-eqb}
+use borrow.Author.Tests.{eqb-true}
 use Rattle.lists.specs.Lists.{every, joined}
 use Rattle.lists.proofs.Bools.{and-left, and-right}
 use Rattle.lists.proofs.Writing.{Copying, copy-ends, sets-append}
 use Rattle.lists.proofs.Copies.{front-turns, take-written}
-use Rattle.mesh.specs.Mesh.{Corner, Ring, position, threes, cornerAt}
+use Rattle.mesh.specs.Mesh.{Ring, position, threes, cornerAt}
 use Rattle.mesh.proofs.Corners.{isCorner, threes-step, length-threes, getD-threes}
 use Rattle.grouping.specs.Push.{Placed}
 use Rattle.folding.specs.Folding.{folded}

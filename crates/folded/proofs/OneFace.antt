@@ -1,10 +1,9 @@
 -- One face: the room that it has, and its pieces by its size and by what the tests on it say. Assumes nothing.
-use mathlib.Core.Path.{_≡_, refl, sym, ap, _∙_}
-use mathlib.Core.Bool.{true, false}
+use mathlib.Core.Path.{_≡_, sym, ap, _∙_}
 use mathlib.Core.List.{List, [], _∷_, map}
-use Prim.Native.Nat.{ℕ, _+_, _*_, _≤_, _<_}
+use Prim.Native.Nat.{ℕ, _≤_}
 use native.Mathlib.Omega.{arith}
-use lib.ListN.{length, take, length-map}
+use lib.ListN.{length, take}
 use Rattle.mesh.specs.Mesh.{Ring, position, threes}
 use Rattle.mesh.proofs.Corners.{length-threes}
 use Rattle.grouping.specs.Push.{Placed, Room}

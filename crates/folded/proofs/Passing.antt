@@ -1,6 +1,6 @@
 -- The pass over the faces: the pieces of the first k are written, and there is room for those of the next. Assumes nothing.
 use mathlib.Core.Path.{_≡_, refl, sym, ap, _∙_}
-use mathlib.Core.Bool.{Bool, true}
+use mathlib.Core.Bool.{true}
 use mathlib.Core.List.{List, [], _∷_, _++_, append-nil}
 use Prim.Native.Nat.{ℕ, _+_, _*_, _≤_, _<_}
 use native.Mathlib.Numerals.{add-one}
@@ -17,7 +17,6 @@ use Rattle.mesh.proofs.Faces.{isRing, rings-are, length-rings, getD-rings, face
 use Rattle.grouping.specs.Push.{Placed}
 use Rattle.grouping.proofs.Placing.{placed-none, placed-both}
 use Rattle.folding.specs.Folding.{pieces}
-use Rattle.folding.specs.Working.{Room}
 use Rattle.folding.proofs.Pieces.{pieces-sane}
 use Rattle.folding.proofs.Placing.{took}
 use Rattle.folded.specs.Working.{Face, Ready}

@@ -1,9 +1,9 @@
 -- Laws of the removal: no face of the result is folded, each has three corners or more, each corner is a corner of the input, and there
 -- are no more corners than were given. Assumes nothing.
-use mathlib.Core.Path.{_≡_, refl, sym, ap, _∙_}
-use mathlib.Core.Bool.{Bool, true, false, not, _&&_}
-use mathlib.Core.List.{List, [], _∷_, _++_, map}
-use Prim.Native.Nat.{ℕ, _+_, _*_, _≤_, _<_}
+use mathlib.Core.Path.{_≡_, refl, _∙_}
+use mathlib.Core.Bool.{Bool, true}
+use mathlib.Core.List.{List, [], _∷_}
+use Prim.Native.Nat.{ℕ, _*_, _≤_}
 use native.Mathlib.Omega.{arith}
 use lib.ListN.{length}
 use lib.Dec.{leb}
@@ -12,11 +12,11 @@ use Rattle.lists.specs.Lists.{every, each}
 use Rattle.lists.proofs.Bools.{and-both, and-left, and-right}
 use Rattle.lists.proofs.Parts.{every-append}
 use Rattle.mesh.specs.Mesh.{Corner, Ring}
-use Rattle.grouping.specs.Push.{pushed, cornerCount}
+use Rattle.grouping.specs.Push.{cornerCount}
 use Rattle.grouping.proofs.Placing.{count-append}
 use Rattle.grouping.proofs.Pushed.{every-pushed, pushed-corners}
 use Rattle.folding.specs.Folding.{pieces}
-use Rattle.folding.proofs.Pieces.{isUnfolded, isFace, Sane, pieces-sane}
+use Rattle.folding.proofs.Pieces.{isUnfolded, isFace, pieces-sane}
 use Rattle.folding.proofs.Placing.{faces-count}
 use Rattle.folded.specs.Folded.{removed}
 

@@ -1,2 +1,3 @@
 pub mod Folded
 pub mod Working
+pub mod Examples

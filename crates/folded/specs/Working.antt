@@ -5,6 +5,7 @@ use mathlib.Core.List.{List}
 use lib.ListN.{length, getD}
 use Rattle.folding.specs.Working.{Room}
 use Rattle.mesh.specs.Face.{Sound}
+use Rattle.folded.specs.declared.Removed.{Removed}
 
 -- a face of n corners, three or more, and room for its pieces behind c corners and f faces
 pub record Face (face : List ℕ) (n : ℕ) (out lens : List ℕ) (c f : ℕ) : Type 0 where
@@ -19,3 +20,7 @@ pub record Ready (cs s out lens : List ℕ) : Type 0 where
   pub most : (k : ℕ) → k < length s → getD s k 0 ≤ 32
   pub corners : length cs ≤ length out
   pub sizes : length cs < 9 * (length lens + 1)
+
+-- a refusal: each count beside the number is 0
+abbrev pub refusedBy : ℕ → Removed
+refusedBy n = record { number = n; corners = 0; faces = 0 }

@@ -4,15 +4,15 @@
 // does. A face that is not folded is copied as it is; only a folded larger one is made a row of corners. The definitions that a
 // caller cites stand in specs/Folded.antt, those of one face in folding's specs/Folding.antt.
 ghost use mathlib.Core.Path.{_≡_};
-ghost use mathlib.Core.List.{List, [], _∷_, _++_, map};
-ghost use Prim.Native.Nat.{ℕ, _+_, _*_, _-_, _<_, _≤_};
-ghost use lib.ListN.{length, getD, take, drop};
+ghost use mathlib.Core.List.{[], _∷_, map};
+ghost use Prim.Native.Nat.{_+_, _*_, _<_, _≤_};
+ghost use lib.ListN.{length, take};
 ghost use Rattle.lists.specs.Lists.{each};
-ghost use Rattle.mesh.specs.Mesh.{position, threes, rings};
+ghost use Rattle.mesh.specs.Mesh.{meshOf, position, threes, rings};
 ghost use Rattle.grouping.specs.Push.{Placed};
 ghost use Rattle.folding.specs.Folding.{folded, trianglePieces, quadranglePieces, ringPieces, pieces};
 ghost use Rattle.folded.specs.Folded as want;
-ghost use Rattle.folded.specs.Working.{Face, Ready};
+ghost use Rattle.folded.specs.Working.{Face, Ready, refusedBy};
 use folding::Fold;
 use grouping::Filled;
 
@@ -21,6 +21,62 @@ pub struct Removed {
     pub number: u32,
     pub corners: usize,
     pub faces: usize,
+}
+
+// Takes the mesh in five lists and lends two for the result: corners and sizes; positions, texture points and normals don't change.
+// The corners need the room of the input's, the sizes a third of the number of corners, rounded down. Answers 0 and how many corners
+// and faces are left; or 1 to 5 as the mesh earns, or 9 where a result list is too short, with counts of 0 and nothing written.
+pub fn remove_degenerate_faces(
+    positions: &[f64],
+    textures: &[f64],
+    normals: &[f64],
+    corners: &[u32],
+    sizes: &[u32],
+    newcorners: &mut [u32],
+    newsizes: &mut [u32],
+) -> Removed
+    ensures { λ r. ⌜ want.Removal (meshOf (now (positions .entry)) (now (textures .entry)) (now (normals .entry)) (now (corners .entry)) (now (sizes .entry))) (want.resultOf (now (newcorners .entry)) (now (newsizes .entry))) (want.resultOf (now (newcorners .exit)) (now (newsizes .exit))) r ⌝ }
+{
+    let number = mesh::number(positions, textures, normals, corners, sizes);
+    if number != 0 {
+        return refused(number);
+    }
+    if newcorners.len() < corners.len() {
+        return refused(9);
+    }
+    if newsizes.len() < corners.len() / 3 / 3 {
+        return refused(9);
+    }
+    let left = remove(corners, sizes, newcorners, newsizes);
+    Removed {
+        number: 0,
+        corners: left.corners,
+        faces: left.faces,
+    }
+}
+
+// A refusal: each count beside it is 0.
+fn refused(number: u32) -> Removed
+    ensures { λ r. ⌜ r ≡ refusedBy number ⌝ }
+{
+    Removed {
+        number: number,
+        corners: 0,
+        faces: 0,
+    }
+}
+
+// The pieces of all faces go to lists of their own, and from there to the result, grouped.
+fn remove(corners: &[u32], sizes: &[u32], newcorners: &mut [u32], newsizes: &mut [u32]) -> Filled
+    requires { ⌜ Ready (now corners) (now sizes) (now newcorners) (now newsizes) ⌝ }
+    ensures { λ r. ⌜ Placed (want.removed (rings (now (sizes .entry)) (now (corners .entry)))) (now (newcorners .entry)) (now (newcorners .exit)) (now (newsizes .entry)) (now (newsizes .exit)) 0 0 (r .corners) (r .faces) ⌝ }
+{
+    let mut pieces = [0u32; 12288];
+    let mut lens = [0u32; 1365];
+    let at = all_pieces(corners, sizes, &mut pieces, &mut lens);
+    let c = 3 * at.corners;
+    let f = at.faces;
+    grouping::push_all(&pieces[..c], &lens[..f], newcorners, newsizes)
 }
 
 // Whether a triangle is folded.

@@ -1,20 +1,20 @@
 -- What is known of the pieces of a face: none is folded, each has three corners or more, there are no more corners than the face has,
 -- and each is a corner of the face. Assumes nothing.
-use mathlib.Core.Path.{_≡_, refl, sym, ap, ap₂, subst, _∙_}
-use mathlib.Core.Bool.{Bool, true, false, not, _&&_, _||_}
-use mathlib.Core.List.{List, [], _∷_, _++_, map, map-append, append-nil}
-use Prim.Native.Nat.{ℕ, zero, suc, _+_, _-_, _*_, _≤_, _<_}
+use mathlib.Core.Path.{_≡_, refl, sym, ap, _∙_}
+use mathlib.Core.Bool.{Bool, true, false, not}
+use mathlib.Core.List.{List, [], _∷_, _++_, map, map-append}
+use Prim.Native.Nat.{ℕ, suc, _+_, _-_, _≤_, _<_}
 use native.Mathlib.Omega.{arith}
 use lib.ListN.{length, take, drop, length-append, take-append-drop}
 use lib.Seq.{drop-drop}
 use lib.Dec.{leb, eqb}
-use borrow.Author.Tests.{leb-true, le-leb, lt-leb, eqb-true, eqb-false, ne-eqb, eq-eqb}
-use Rattle.lists.specs.Lists.{every, only, joined, each, sum}
-use Rattle.lists.proofs.Bools.{by-cases, and-both, and-left, and-right, or-false-left, or-false-right, true-false}
+use borrow.Author.Tests.{le-leb, lt-leb, eqb-true, eqb-false, ne-eqb, eq-eqb}
+use Rattle.lists.specs.Lists.{every, only, sum}
+use Rattle.lists.proofs.Bools.{by-cases, and-both, and-left, and-right}
 use Rattle.lists.proofs.Parts.{every-append, every-take, every-drop, sum-append}
 use Rattle.lists.proofs.Only.{only-append, every-self, every-only}
 use Rattle.mesh.specs.Mesh.{Corner, Ring, position}
-use Rattle.folding.specs.Folding.{folded, firstIn, secondIn, between, around, split, trianglePieces, foldOf, withoutQ1, withoutQ3, left, quadranglePieces, ringPieces, pieces}
+use Rattle.folding.specs.Folding.{folded, firstIn, secondIn, between, around, split, trianglePieces, foldOf, left, quadranglePieces, ringPieces, pieces}
 use Rattle.folding.specs.declared.Fold.{Fold}
 use Rattle.folding.specs.declared.Fold.the-variants.{Goes, WithoutQ1, WithoutQ3, Stays}
 use Rattle.folding.proofs.Search.{Pair, folded-pair}

@@ -1,13 +1,13 @@
 -- One ring of a row that is written behind others, and that what its pieces leave of the room is enough. Assumes nothing.
 use mathlib.Core.Path.{_≡_, refl, sym, ap, _∙_}
 use mathlib.Core.Bool.{true, false}
-use mathlib.Core.List.{List, [], _∷_, _++_, map, append-nil}
-use Prim.Native.Nat.{ℕ, _+_, _-_, _*_, _≤_, _<_}
+use mathlib.Core.List.{List, [], _∷_, append-nil}
+use Prim.Native.Nat.{ℕ, _+_, _*_, _≤_, _<_}
 use native.Mathlib.Omega.{arith}
 use lib.ListN.{length, take, set}
 use lib.Seq.{sets, length-take-le}
 use borrow.Author.Tests.{leb-true}
-use Rattle.lists.specs.Lists.{every, joined, each}
+use Rattle.lists.specs.Lists.{every, joined}
 use Rattle.lists.proofs.Bools.{and-left, and-right}
 use Rattle.mesh.specs.Mesh.{Ring}
 use Rattle.grouping.specs.Push.{Placed, cornerCount}

@@ -1,22 +1,21 @@
 -- Rows of 32 corners of three numbers each: that owning one tells so, and what is written of one. Assumes nothing.
 use mathlib.Core.Path.{_≡_, refl, sym, ap, _∙_}
-use mathlib.Core.Bool.{Bool, true, false, _&&_}
+use mathlib.Core.Bool.{true}
 use mathlib.Core.List.{List, [], _∷_, _++_, map}
-use Prim.Native.Nat.{ℕ, zero, suc, _+_, _-_, _*_, _≤_, _<_}
+use Prim.Native.Nat.{ℕ, suc, _+_, _-_, _*_, _≤_, _<_}
 use native.Mathlib.Nat.{zero-add}
 use native.Mathlib.Numerals.{add-one, add-two}
 use native.Mathlib.Omega.{arith}
-use lib.ListN.{length, getD, take, drop, set, length-append, length-set, length-map, List·getD-map}
+use lib.ListN.{length, getD, take, drop, set, length-append, length-map, List·getD-map}
 use lib.Seq.{sets, take-suc, take-take, length-take-le, length-sets}
-use lib.Dec.{eqb}
-use borrow.Author.Tests.{eq-eqb, eqb-true}
+use borrow.Author.Tests.{eq-eqb}
 use mir.Val.{Val}
 use mir.Syntax.{w32}
 use denote.Array.{Array, each}
 use denote.Plain.{UInt}
 use denote.Shadow.{shadow}
 use Rattle.lists.specs.Lists.{every, joined}
-use Rattle.lists.proofs.Bools.{and-both, and-left, and-right}
+use Rattle.lists.proofs.Bools.{and-both}
 use Rattle.lists.proofs.Parts.{joined-append, every-take}
 use Rattle.lists.proofs.Writing.{Copying, copy-ends, sets-append}
 use Rattle.lists.proofs.Copies.{front-turns, sets-whole, take-written, length-part, drop-take}

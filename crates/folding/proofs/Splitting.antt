@@ -1,20 +1,16 @@
 -- How a ring is split: the depth is enough, a folded ring gives the pieces of its two rings, any other itself; so that every law of
 -- the pieces is one induction. Assumes nothing.
 use mathlib.Core.Path.{_≡_, refl, sym, ap, ap₂, _∙_}
-use mathlib.Core.Bool.{Bool, true, false, not, _&&_}
-use mathlib.Core.List.{List, [], _∷_, _++_, map, map-append}
-use Prim.Native.Nat.{ℕ, zero, suc, _+_, _-_, _*_, _≤_, _<_}
+use mathlib.Core.Bool.{true, false}
+use mathlib.Core.List.{List, [], _∷_, _++_}
+use Prim.Native.Nat.{ℕ, zero, suc, _-_, _≤_, _<_}
 use native.Mathlib.Omega.{arith}
-use lib.ListN.{length, take, drop, length-append, length-drop, take-append-drop}
-use lib.Seq.{length-take-le, drop-drop, take-add}
-use lib.Dec.{leb}
-use borrow.Author.Tests.{leb-true}
-use Rattle.lists.specs.Lists.{every, only, joined, each, sum}
-use Rattle.lists.proofs.Bools.{by-cases, true-false, and-both, and-left, and-right}
-use Rattle.lists.proofs.Parts.{every-append, sum-append}
+use lib.ListN.{length, take, drop, length-append, length-drop}
+use lib.Seq.{length-take-le}
+use Rattle.lists.proofs.Bools.{by-cases}
 use Rattle.lists.proofs.Copies.{length-part}
-use Rattle.mesh.specs.Mesh.{Corner, Ring}
-use Rattle.folding.specs.Folding.{folded, firstIn, secondIn, between, around, splitIn, split, ringPieces}
+use Rattle.mesh.specs.Mesh.{Ring}
+use Rattle.folding.specs.Folding.{folded, firstIn, secondIn, between, around, splitIn, split}
 use Rattle.folding.proofs.Search.{Pair, folded-pair}
 
 -- ---- the two rings of a pair

@@ -7,7 +7,7 @@ use lib.ListN.{length, getD, take, drop}
 use lib.Dec.{ltb, leb, eqb}
 use Rattle.lists.specs.Lists.{has, only}
 use Rattle.lists.specs.Numbers.{seek}
-use Rattle.mesh.specs.Mesh.{Corner, Ring, position}
+use Rattle.mesh.specs.Mesh.{Ring, position}
 use Rattle.folding.specs.declared.Fold.{Fold}
 use Rattle.folding.specs.declared.Fold.the-variants.{Goes, WithoutQ1, WithoutQ3, Stays}
 

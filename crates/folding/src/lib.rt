@@ -1,9 +1,8 @@
 // What becomes of a quadrangle and of a larger face that may be folded: document 01, 'Folded faces', as `degenerate_quadrangle`
 // and `split_into_nondegenerate` have it. A corner is three numbers, position, texture and normal; the first decides.
 ghost use mathlib.Core.Path.{_≡_};
-ghost use Prim.Native.Nat.{ℕ, _+_, _*_, _-_, _<_, _≤_};
-ghost use mathlib.Core.List.{List, [], _∷_, _++_};
-ghost use lib.ListN.{length, getD, take, drop};
+ghost use Prim.Native.Nat.{_+_, _*_, _-_, _<_, _≤_};
+ghost use lib.ListN.{length, take, drop};
 ghost use lib.Seq.{sets};
 ghost use mathlib.Core.List.{map};
 ghost use mathlib.Core.Bool.{false};

@@ -8,7 +8,6 @@ mod records;
 mod steps;
 
 ghost use mathlib.Core.Path.{_≡_};
-
 use floating::Point;
 use floating::Texel;
 
