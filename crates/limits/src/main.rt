@@ -1,5 +1,7 @@
-// Tries the check of a mesh on both sides of every limit of the table of numbers returned, and the part of a face on both sides of
-// its own, and prints what each answers: the row, what was tried, and the number.
+// Tries the check of a mesh on both sides of every limit of the table of numbers returned, the part of a face on both sides of its
+// own, and each call with exactly its room and less, and prints what each answers: the row, what was tried, and the number.
+mod rooms;
+
 use mesh::MISSING;
 
 fn main() {
@@ -11,6 +13,7 @@ fn main() {
     sizes_ungrouped();
     indices_beyond();
     parts();
+    rooms::compaction_rooms();
 }
 
 // 1: a list holds more numbers than limit times width, or there are over 1,365 face sizes.
