@@ -1,15 +1,15 @@
 -- What an accepted mesh hands to compaction: each column points into its list. Assumes nothing.
-use mathlib.Core.Path.{_≡_, refl, sym, ap, _∙_}
-use mathlib.Core.Bool.{Bool, true, false, not, _&&_, _||_}
+use mathlib.Core.Path.{_≡_, refl}
+use mathlib.Core.Bool.{Bool, false, not, _||_}
 use mathlib.Core.List.{List, [], _∷_, map}
-use Prim.Native.Nat.{ℕ, zero, suc, _+_, _*_, _/_, _≤_, _<_}
+use Prim.Native.Nat.{ℕ, _*_}
 use native.Mathlib.Omega.{arith}
-use lib.ListN.{length, getD}
+use lib.ListN.{length}
 use lib.Dec.{eqb}
 use lib.Ieee.{Float}
-use Rattle.lists.specs.Lists.{some, every}
+use Rattle.lists.specs.Lists.{some}
 use Rattle.lists.proofs.Bools.{and-false-right, or-neither, or-false-left, or-false-right}
-use Rattle.mesh.specs.Mesh.{Mesh, Corner, Ring, position, texture, normal, missing, threes, positionCount, textureCount, normalCount}
+use Rattle.mesh.specs.Mesh.{Mesh, position, texture, normal, missing, threes, positionCount, textureCount, normalCount}
 use Rattle.mesh.specs.Table.{beyond, beyondUnlessMissing, astray, astrayAt, meshNumber}
 use Rattle.mesh.proofs.Numbers.{clear}
 use Rattle.mesh.proofs.Accepted.{Accepted, accepted}

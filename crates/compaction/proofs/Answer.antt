@@ -1,16 +1,15 @@
 -- The call: what it answers on a refusal and on 0. Assumes nothing.
-use mathlib.Core.Path.{_≡_, refl, sym, ap, _∙_}
-use mathlib.Core.Bool.{Bool, true, false, _||_}
-use mathlib.Core.List.{List, [], _∷_, map}
-use Prim.Native.Nat.{ℕ, zero, suc, _+_, _*_, _/_, _≤_, _<_}
+use mathlib.Core.Path.{_≡_, refl, sym, _∙_}
+use mathlib.Core.Bool.{true}
+use mathlib.Core.List.{[], _∷_}
+use Prim.Native.Nat.{ℕ, zero, suc, _*_, _≤_, _<_}
 use native.Mathlib.Omega.{arith}
-use lib.ListN.{length, getD}
+use lib.ListN.{length}
 use lib.Seq.{sets}
-use lib.Dec.{ltb}
 use borrow.Author.Tests.{lt-ltb, le-ltb}
-use Rattle.mesh.specs.Mesh.{Mesh, position, texture, normal, threes, positionCount, textureCount, normalCount}
-use Rattle.mesh.specs.Table.{meshNumber, firstOf, when, short, after}
-use Rattle.mesh.proofs.Numbers.{first-is, first-on, row-given, row-passed}
+use Rattle.mesh.specs.Mesh.{Mesh, positionCount, textureCount, normalCount}
+use Rattle.mesh.specs.Table.{meshNumber, when, short, after}
+use Rattle.mesh.proofs.Numbers.{first-is, first-on, row-given}
 use Rattle.compaction.specs.declared.Compacted.{Compacted}
 use Rattle.compaction.specs.Compaction.{firstUses, entries, usedPositions, usedTextures, usedNormals, renumbered, compacted, Result, tooShort, compactionNumber, Compaction}
 use Rattle.compaction.specs.Working.{column, Ready, Done, Refused}

@@ -1,31 +1,30 @@
 -- What compaction gives, for those who go on with it: an accepted mesh with no more entries, all of them used, whose faces are those
 -- that were given with each corner renumbered one-to-one; and a second compaction changes nothing. Assumes nothing.
 use mathlib.Core.Path.{_≡_, refl, sym, ap, _∙_}
-use mathlib.Core.Bool.{Bool, true, false, _&&_, _||_}
+use mathlib.Core.Bool.{true, false}
 use mathlib.Core.List.{List, [], _∷_, _++_, map, map-map, map-append}
-use Prim.Native.Nat.{ℕ, zero, suc, _+_, _*_, _/_, _%_, _≤_, _<_}
+use Prim.Native.Nat.{ℕ, zero, suc, _*_, _/_, _≤_, _<_}
 use native.Mathlib.Nat.{not-suc-le-zero, le-of-suc-le-suc}
 use native.Mathlib.Omega.{arith}
 use lib.ListN.{length, getD, length-map, List·getD-map}
-use lib.Dec.{eqb, leb}
+use lib.Dec.{eqb}
 use lib.Ieee.{Float}
 use borrow.Author.Tests.{ne-eqb, lt-leb}
-use Rattle.lists.specs.Lists.{some, every, has, joined, each, sum}
+use Rattle.lists.specs.Lists.{some, every, has, joined, each, span}
 use Rattle.lists.proofs.Bools.{and-both, and-left, and-right, or-neither}
 use Rattle.lists.proofs.Parts.{some-none, every-append, joined-append}
 use Rattle.lists.proofs.Members.{in-head, in-tail}
 use Rattle.mesh.specs.Mesh.{Mesh, meshOf, Corner, Ring, position, texture, normal, missing, threes, rings, faces, positionCount, textureCount, normalCount}
-use Rattle.mesh.specs.Table.{beyond, beyondUnlessMissing, astray, astrayAt, misfit, ungrouped, meshNumber}
-use Rattle.mesh.proofs.Corners.{length-threes, getD-threes, isCorner, corners-threes, threes-joined, length-corners}
+use Rattle.mesh.specs.Table.{astray, astrayAt, misfit, ungrouped, meshNumber}
+use Rattle.mesh.proofs.Corners.{length-threes, getD-threes, isCorner, threes-joined, length-corners}
 use Rattle.mesh.proofs.Faces.{isRing, rings-are, rings-back, sizes-back, corners-back}
-use Rattle.mesh.proofs.Numbers.{Clear, clear, clear-0}
-use Rattle.mesh.proofs.Accepted.{Accepted, accepted, Found, within-back, even-back}
-use Rattle.compaction.specs.Compaction.{firstUses, place, renumber, entries, usedPositions, usedTextures, usedNormals, renumbered, compacted}
+use Rattle.mesh.proofs.Numbers.{clear, clear-0}
+use Rattle.mesh.proofs.Accepted.{Accepted, accepted, within-back, even-back}
+use Rattle.compaction.specs.Compaction.{firstUses, renumber, entries, usedPositions, usedTextures, usedNormals, renumbered, compacted}
 use Rattle.compaction.specs.Working.{column, Pointed}
-use Rattle.compaction.proofs.Places.{has-getD}
 use Rattle.compaction.proofs.Uses.{uses-few, uses-below}
 use Rattle.compaction.proofs.Entries.{entries-again}
-use Rattle.compaction.proofs.Renumbering.{renumber-below, renumber-within, renumber-same, uses-again, renumber-again, renumber-uses, every-number, map-same}
+use Rattle.compaction.proofs.Renumbering.{renumber-below, renumber-within, renumber-same, uses-again, renumber-again, renumber-uses, uses-numbered, every-number, map-same}
 use Rattle.compaction.proofs.Accepting.{pointed-positions, pointed-textures, pointed-normals, length-kept}
 
 -- ---- one column
@@ -235,6 +234,28 @@ module _ (m : Mesh) (z : meshNumber m ≡ 0) where
   every-normal-used i h =
       ap (has i) (normals-renumbered m) ∙ every-number (map normal (threes (m .corners))) i (rw normals-counted at h)
 
+  -- first uses come in the order 0, 1, 2, ..
+  pub positions-in-order : usedPositions (compacted m) ≡ span 0 (positionCount (compacted m))
+  unfolding usedPositions
+  positions-in-order =
+      ap firstUses (positions-renumbered m)
+      ∙ uses-numbered (map position (threes (m .corners))) (used-small (pointed-positions m z))
+      ∙ ap (span 0) (sym positions-counted)
+
+  pub textures-in-order : usedTextures (compacted m) ≡ span 0 (textureCount (compacted m))
+  unfolding usedTextures
+  textures-in-order =
+      ap firstUses (textures-renumbered m)
+      ∙ uses-numbered (map texture (threes (m .corners))) (used-small (pointed-textures m z))
+      ∙ ap (span 0) (sym textures-counted)
+
+  pub normals-in-order : usedNormals (compacted m) ≡ span 0 (normalCount (compacted m))
+  unfolding usedNormals
+  normals-in-order =
+      ap firstUses (normals-renumbered m)
+      ∙ uses-numbered (map normal (threes (m .corners))) (used-small (pointed-normals m z))
+      ∙ ap (span 0) (sym normals-counted)
+
   module _ (i j : ℕ) where
     pub position-same :
         has i (map position (threes (m .corners))) ≡ true → has j (map position (threes (m .corners))) ≡ true
@@ -275,6 +296,16 @@ module _ (m : Mesh) (z : meshNumber m ≡ 0) where
       ap (λ (l : List ℕ). rings l (joined (map (renumbered m) (threes (m .corners))))) (sym s)
       ∙ ap (rings (map length gs)) (sym c)
       ∙ rings-back gs (new-rings m fs)
+
+  -- so are their positions
+  pub face-positions : map (map position) (faces (compacted m)) ≡ map (map (renumber (usedPositions m))) (map (map position) (faces m))
+  unfolding renumbered
+  face-positions =
+      ap (map (map position)) faces-compacted
+      ∙ map-map (map position) (map (renumbered m)) (faces m)
+      ∙ map-same (λ f. map position (map (renumbered m) f)) (λ f. map (renumber (usedPositions m)) (map position f)) [] (faces m)
+      (λ k h. map-map position (renumbered m) (getD (faces m) k []) ∙ sym (map-map (renumber (usedPositions m)) position (getD (faces m) k [])))
+      ∙ sym (map-map (map (renumber (usedPositions m))) (map position) (faces m))
 
   -- ---- a second time
 

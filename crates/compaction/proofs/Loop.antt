@@ -1,11 +1,11 @@
 -- The loop over the corners: what it keeps, where it begins, its turn and its end. Assumes nothing.
 use mathlib.Core.Path.{_≡_, refl, sym, ap, _∙_}
 use mathlib.Core.List.{List, [], _∷_, _++_, map, map-append}
-use Prim.Native.Nat.{ℕ, zero, suc, _+_, _*_, _/_, _≤_, _<_}
-use native.Mathlib.Nat.{zero-add, add-zero}
+use Prim.Native.Nat.{ℕ, _+_, _*_, _/_, _≤_, _<_}
+use native.Mathlib.Nat.{add-zero}
 use native.Mathlib.Numerals.{add-one, towards-suc}
 use native.Mathlib.Omega.{arith}
-use lib.ListN.{length, getD, take, drop, set, length-set, length-append, replicate}
+use lib.ListN.{length, getD, take, set, replicate}
 use lib.Seq.{sets, length-sets, take-suc, take-all, length-take-le}
 use lib.Ieee.{Float}
 use Rattle.lists.specs.Lists.{joined}
@@ -14,8 +14,8 @@ use Rattle.lists.proofs.Writing.{sets-append}
 use Rattle.mesh.specs.Mesh.{Corner, Ring, missing, threes, cornerAt}
 use Rattle.mesh.proofs.Corners.{length-threes, getD-threes}
 use Rattle.compaction.specs.declared.Compacted.{Compacted}
-use Rattle.compaction.specs.Compaction.{firstUses, renumber, entries, Result, resultOf}
-use Rattle.compaction.specs.Working.{column, usesTo, newCorner, Pointed, Tables, Before, Taken, Ready, Done}
+use Rattle.compaction.specs.Compaction.{firstUses, renumber, entries, Result}
+use Rattle.compaction.specs.Working.{column, usesTo, newCorner, Pointed, Tables, Before, Taken, Done}
 use Rattle.compaction.proofs.Turn.{tables-begin, length-column, uses-within}
 
 -- ---- one column, k corners of which are read

@@ -1,19 +1,21 @@
 -- Renumbering one column: it is one-to-one, its numbers are below the count of uses, and the uses of a column whose numbers are
 -- changed one-to-one are the changed uses. Assumes nothing.
 use mathlib.Core.Path.{_≡_, refl, sym, ap, ap₂, _∙_}
-use mathlib.Core.Bool.{Bool, true, false, not, _&&_, _||_}
-use mathlib.Core.List.{List, [], _∷_, _++_, map}
-use Prim.Native.Nat.{ℕ, zero, suc, _+_, _*_, _≤_, _<_}
+use mathlib.Core.Bool.{Bool, true, false, not, _&&_}
+use mathlib.Core.List.{List, [], _∷_, map}
+use Prim.Native.Nat.{ℕ, zero, suc, _≤_, _<_}
+use native.Mathlib.Nat.{not-suc-le-zero, le-of-suc-le-suc, zero-add}
 use native.Mathlib.Omega.{arith}
-use lib.ListN.{length, getD}
+use lib.ListN.{length, getD, length-map}
+use lib.Seq.{ext-getD}
 use lib.Dec.{eqb, leb}
 use borrow.Author.Tests.{eqb-true, eqb-false, eq-eqb, ne-eqb, lt-leb, not-true}
-use Rattle.lists.specs.Lists.{has, only, keepIf, others}
+use Rattle.lists.specs.Lists.{has, keepIf, others, span}
 use Rattle.lists.proofs.Bools.{by-cases, true-false, and-left, and-right, and-false-right}
 use Rattle.lists.proofs.Members.{in-head, in-tail}
-use Rattle.lists.proofs.Others.{eqb-self, eqb-flip}
+use Rattle.lists.proofs.Buckets.{length-span, span-at}
 use Rattle.mesh.specs.Mesh.{missing}
-use Rattle.mesh.specs.Table.{beyond, beyondUnlessMissing}
+use Rattle.mesh.specs.Table.{beyondUnlessMissing}
 use Rattle.compaction.specs.Compaction.{firstUses, place, renumber}
 use Rattle.compaction.proofs.Places.{place-here, place-behind, place-below, place-one, has-getD, place-getD}
 use Rattle.compaction.proofs.Uses.{has-uses, uses-missing, uses-present, uses-once}
@@ -183,3 +185,20 @@ renumber-uses l =
     let u = getD us k 0 in
     let j : (not (eqb u missing) && has u l) ≡ true = sym (has-uses u l) ∙ has-getD us k h in
     renumber-present us u (not-true (eqb u missing) (and-left (not (eqb u missing)) (has u l) j)))
+
+-- the uses of the renumbered column are 0, 1, 2, ..
+getD-changed : (f : ℕ → ℕ) (l : List ℕ) (k : ℕ) → k < length l → getD (map f l) k 0 ≡ f (getD l k 0)
+getD-changed f [] k h = absurd (not-suc-le-zero h)
+getD-changed f (x ∷ l) zero h = refl
+getD-changed f (x ∷ l) (suc k) h = getD-changed f l k (le-of-suc-le-suc h)
+
+pub uses-numbered : (l : List ℕ) → length (firstUses l) ≤ missing → firstUses (map (renumber (firstUses l)) l) ≡ span 0 (length (firstUses l))
+uses-numbered l few =
+    let us = firstUses l in
+    uses-again l few
+    ∙ renumber-uses l
+    ∙ ext-getD 0 (map (place us) us) (span 0 (length us))
+    (length-map us (place us) ∙ sym (length-span 0 (length us)))
+    (λ k h.
+    let n : k < length us = rw (length-map us (place us)) at h in
+    getD-changed (place us) us k n ∙ place-getD us k (uses-once l) n ∙ sym (span-at 0 (length us) k 0 n ∙ zero-add k))

@@ -1,18 +1,18 @@
 -- One column of one corner: what the code finds in its map, and what it leaves, in each of the three cases. Assumes nothing.
 use mathlib.Core.Path.{_≡_, refl, sym, ap, _∙_}
-use mathlib.Core.Bool.{Bool, true, false, cond, not, _&&_, _||_}
-use mathlib.Core.List.{List, [], _∷_, _++_, map}
+use mathlib.Core.Bool.{Bool, true, false, cond, _||_}
+use mathlib.Core.List.{List, [], _∷_, _++_}
 use Prim.Native.Nat.{ℕ, zero, suc, _+_, _*_, _/_, _≤_, _<_}
 use native.Mathlib.Nat.{zero-add}
 use native.Mathlib.Numerals.{add-one}
 use native.Mathlib.Omega.{arith}
 use lib.ListN.{length, getD, take, drop, set, length-append, length-set, length-map, List·getD-map, take-append-drop, replicate, length-replicate, getD-replicate}
 use lib.Seq.{sets, take-suc, getD-set-same, getD-set-other}
-use lib.Dec.{eqb, leb}
+use lib.Dec.{eqb}
 use lib.Ieee.{Float}
-use borrow.Author.Tests.{eqb-true, eqb-false, eq-eqb, ne-eqb, leb-false, not-true}
+use borrow.Author.Tests.{eqb-true, eqb-false, eq-eqb, ne-eqb, leb-false}
 use Rattle.lists.specs.Lists.{some, has}
-use Rattle.lists.proofs.Bools.{by-cases, true-false, or-false-left, or-false-right}
+use Rattle.lists.proofs.Bools.{by-cases, or-false-left}
 use Rattle.lists.proofs.Parts.{some-append, some-false-at}
 use Rattle.lists.proofs.Writing.{sets-append}
 use Rattle.lists.proofs.Members.{has-snoc}
