@@ -109,12 +109,14 @@ pub uses-below : (n : ℕ) (l : List ℕ) → some (beyondUnlessMissing n) l ≡
 unfolding firstUses
 uses-below n [] h = refl
 uses-below n (i ∷ l) h =
-    let g : every (λ (x : ℕ). ltb x n) (firstUses l) ≡ true = uses-below n l (or-false-right (beyondUnlessMissing n i) (some (beyondUnlessMissing n) l) h) in
+    let g : every (λ (x : ℕ). ltb x n) (firstUses l) ≡ true =
+    uses-below n l (or-false-right (beyondUnlessMissing n i) (some (beyondUnlessMissing n) l) h) in
     by-cases (eqb i missing)
     (λ m. rw m g)
     (λ m.
     let b : leb n i ≡ false = rw m at (or-false-left (beyondUnlessMissing n i) (some (beyondUnlessMissing n) l) h) in
-    rw m (and-both (ltb i n) (every (λ (x : ℕ). ltb x n) (others i (firstUses l))) (lt-ltb i n (leb-false n i b)) (every-only (λ (j : ℕ). not (eqb i j)) (λ (x : ℕ). ltb x n) (firstUses l) g)))
+    rw m (and-both (ltb i n) (every (λ (x : ℕ). ltb x n) (others i (firstUses l))) (lt-ltb i n (leb-false n i b))
+    (every-only (λ (j : ℕ). not (eqb i j)) (λ (x : ℕ). ltb x n) (firstUses l) g)))
 
 pub uses-few : (n : ℕ) (l : List ℕ) → some (beyondUnlessMissing n) l ≡ false → length (firstUses l) ≤ n
 uses-few n l h = once-few n (firstUses l) (uses-once l) (uses-below n l h)

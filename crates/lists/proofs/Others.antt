@@ -82,7 +82,8 @@ once-only p l o x = let c : count (eqb x) l ≤ 1 = o x in let a : count (eqb x)
     fewer [] = omega arith
     fewer (y ∷ k) =
         let a : count (eqb x) (keepIf (p y) y (only p k)) ≤ bump (eqb x y) (count (eqb x) (only p k)) = kept (p y) y (only p k) in
-        let b : bump (eqb x y) (count (eqb x) (only p k)) ≤ bump (eqb x y) (count (eqb x) k) = keep (eqb x y) y (count (eqb x) (only p k)) (count (eqb x) k) (fewer k) in
+        let b : bump (eqb x y) (count (eqb x) (only p k)) ≤ bump (eqb x y) (count (eqb x) k) =
+        keep (eqb x y) y (count (eqb x) (only p k)) (count (eqb x) k) (fewer k) in
         omega arith
 
 -- one in front of the others
