@@ -16,11 +16,11 @@ use Rattle.compaction.specs.Working.{column, Ready, Done, Refused}
 use Rattle.compaction.proofs.Accepting.{pointed-positions, pointed-textures, pointed-normals, length-kept}
 
 -- what a refusal leaves, and what 0 leaves
-after-refusal : {A : Type 0} (n : ℕ) (new old : A) → (n ≡ 0 → ⊥) → after n new old ≡ old
+pub after-refusal : {A : Type 0} (n : ℕ) (new old : A) → (n ≡ 0 → ⊥) → after n new old ≡ old
 after-refusal zero new old h = absurd (h refl)
 after-refusal (suc n) new old h = refl
 
-after-done : {A : Type 0} (n : ℕ) (new old : A) → n ≡ 0 → after n new old ≡ new
+pub after-done : {A : Type 0} (n : ℕ) (new old : A) → n ≡ 0 → after n new old ≡ new
 after-done n new old h = rw h
 
 module _ (m : Mesh) (before : Result) (answer : Compacted) where
