@@ -1,15 +1,15 @@
 -- What an accepted mesh hands to compaction: each column points into its list. Assumes nothing.
-use mathlib.Core.Path.{_≡_, refl, sym, ap, _∙_}
-use mathlib.Core.Bool.{Bool, true, false, not, _&&_, _||_}
+use mathlib.Core.Path.{_≡_, refl}
+use mathlib.Core.Bool.{Bool, false, not, _||_}
 use mathlib.Core.List.{List, [], _∷_, map}
-use Prim.Native.Nat.{ℕ, zero, suc, _+_, _*_, _/_, _≤_, _<_}
+use Prim.Native.Nat.{ℕ, _*_}
 use native.Mathlib.Omega.{arith}
-use lib.ListN.{length, getD}
+use lib.ListN.{length}
 use lib.Dec.{eqb}
 use lib.Ieee.{Float}
-use Rattle.lists.specs.Lists.{some, every}
+use Rattle.lists.specs.Lists.{some}
 use Rattle.lists.proofs.Bools.{and-false-right, or-neither, or-false-left, or-false-right}
-use Rattle.mesh.specs.Mesh.{Mesh, Corner, Ring, position, texture, normal, missing, threes, positionCount, textureCount, normalCount}
+use Rattle.mesh.specs.Mesh.{Mesh, position, texture, normal, missing, threes, positionCount, textureCount, normalCount}
 use Rattle.mesh.specs.Table.{beyond, beyondUnlessMissing, astray, astrayAt, meshNumber}
 use Rattle.mesh.proofs.Numbers.{clear}
 use Rattle.mesh.proofs.Accepted.{Accepted, accepted}
@@ -19,7 +19,9 @@ use Rattle.compaction.proofs.Uses.{uses-below}
 use Rattle.compaction.proofs.Entries.{length-entries}
 
 -- a test that fails wherever another does fails of all where the other does
-none-either : {A B : Type 0} (p : A → Bool) (q : B → Bool) (f : A → B) (l : List A) → ((x : A) → p x ≡ false → q (f x) ≡ false) → some p l ≡ false → some q (map f l) ≡ false
+none-either :
+    {A B : Type 0} (p : A → Bool) (q : B → Bool) (f : A → B) (l : List A) → ((x : A) → p x ≡ false → q (f x) ≡ false)
+    → some p l ≡ false → some q (map f l) ≡ false
 none-either p q f [] w h = refl
 none-either p q f (x ∷ l) w h =
     or-neither (q (f x)) (some q (map f l))
@@ -45,7 +47,8 @@ module _ (m : Mesh) (h : meshNumber m ≡ 0) where
             (λ c e.
             and-false-right (not (eqb (position c) missing)) (beyond (positionCount m) (position c))
             (or-false-left (beyond (positionCount m) (position c)) (beyondUnlessMissing (textureCount m) (texture c))
-            (or-false-left (beyond (positionCount m) (position c) || beyondUnlessMissing (textureCount m) (texture c)) (beyondUnlessMissing (normalCount m) (normal c)) e)))
+            (or-false-left (beyond (positionCount m) (position c) || beyondUnlessMissing (textureCount m) (texture c))
+            (beyondUnlessMissing (normalCount m) (normal c)) e)))
             none-astray;
       }
 
@@ -62,7 +65,8 @@ module _ (m : Mesh) (h : meshNumber m ≡ 0) where
         within = none-either (astrayAt m) (beyondUnlessMissing (textureCount m)) texture (threes (m .corners))
             (λ c e.
             or-false-right (beyond (positionCount m) (position c)) (beyondUnlessMissing (textureCount m) (texture c))
-            (or-false-left (beyond (positionCount m) (position c) || beyondUnlessMissing (textureCount m) (texture c)) (beyondUnlessMissing (normalCount m) (normal c)) e))
+            (or-false-left (beyond (positionCount m) (position c) || beyondUnlessMissing (textureCount m) (texture c))
+            (beyondUnlessMissing (normalCount m) (normal c)) e))
             none-astray;
       }
 
@@ -77,10 +81,14 @@ module _ (m : Mesh) (h : meshNumber m ≡ 0) where
         whole = omega (arith, a .whole .normals);
         few = omega (arith, a .limits .normals);
         within = none-either (astrayAt m) (beyondUnlessMissing (normalCount m)) normal (threes (m .corners))
-            (λ c e. or-false-right (beyond (positionCount m) (position c) || beyondUnlessMissing (textureCount m) (texture c)) (beyondUnlessMissing (normalCount m) (normal c)) e)
+            (λ c e. or-false-right (beyond (positionCount m) (position c) || beyondUnlessMissing (textureCount m) (texture c))
+            (beyondUnlessMissing (normalCount m) (normal c)) e)
             none-astray;
       }
 
 -- the new list has as many entries as are used
-pub length-kept : (attrs : List Float) (w : ℕ) (cs : List ℕ) (q : ℕ) → Pointed attrs w cs q → length (entries w attrs (firstUses (column q cs))) ≡ length (firstUses (column q cs)) * w
-length-kept attrs w cs q p = length-entries attrs w (p .count) (firstUses (column q cs)) (p .whole) (uses-below (p .count) (column q cs) (p .within))
+pub length-kept :
+    (attrs : List Float) (w : ℕ) (cs : List ℕ) (q : ℕ) → Pointed attrs w cs q
+    → length (entries w attrs (firstUses (column q cs))) ≡ length (firstUses (column q cs)) * w
+length-kept attrs w cs q p =
+    length-entries attrs w (p .count) (firstUses (column q cs)) (p .whole) (uses-below (p .count) (column q cs) (p .within))

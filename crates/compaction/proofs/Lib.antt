@@ -7,4 +7,5 @@ pub mod Loop
 pub mod Accepting
 pub mod Answer
 pub mod Laws
+pub mod Using
 pub mod Examples

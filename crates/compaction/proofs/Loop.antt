@@ -1,11 +1,11 @@
 -- The loop over the corners: what it keeps, where it begins, its turn and its end. Assumes nothing.
 use mathlib.Core.Path.{_≡_, refl, sym, ap, _∙_}
 use mathlib.Core.List.{List, [], _∷_, _++_, map, map-append}
-use Prim.Native.Nat.{ℕ, zero, suc, _+_, _*_, _/_, _≤_, _<_}
-use native.Mathlib.Nat.{zero-add, add-zero}
+use Prim.Native.Nat.{ℕ, _+_, _*_, _/_, _≤_, _<_}
+use native.Mathlib.Nat.{add-zero}
 use native.Mathlib.Numerals.{add-one, towards-suc}
 use native.Mathlib.Omega.{arith}
-use lib.ListN.{length, getD, take, drop, set, length-set, length-append, replicate}
+use lib.ListN.{length, getD, take, set, replicate}
 use lib.Seq.{sets, length-sets, take-suc, take-all, length-take-le}
 use lib.Ieee.{Float}
 use Rattle.lists.specs.Lists.{joined}
@@ -14,26 +14,32 @@ use Rattle.lists.proofs.Writing.{sets-append}
 use Rattle.mesh.specs.Mesh.{Corner, Ring, missing, threes, cornerAt}
 use Rattle.mesh.proofs.Corners.{length-threes, getD-threes}
 use Rattle.compaction.specs.declared.Compacted.{Compacted}
-use Rattle.compaction.specs.Compaction.{firstUses, renumber, entries, Result, resultOf}
-use Rattle.compaction.specs.Working.{column, usesTo, newCorner, Pointed, Tables, Before, Taken, Ready, Done}
+use Rattle.compaction.specs.Compaction.{firstUses, renumber, entries, Result}
+use Rattle.compaction.specs.Working.{column, usesTo, newCorner, Pointed, Tables, Before, Taken, Done}
 use Rattle.compaction.proofs.Turn.{tables-begin, length-column, uses-within}
 
 -- ---- one column, k corners of which are read
 
-pub record Column (attrs : List Float) (w : ℕ) (cs : List ℕ) (q k : ℕ) (fresh₀ fresh : List Float) (old2new : List ℕ) (used : ℕ) : Type 0 where
+pub record Column
+    (attrs : List Float) (w : ℕ) (cs : List ℕ) (q k : ℕ) (fresh₀ fresh : List Float) (old2new : List ℕ) (used : ℕ) : Type 0 where
   pub tables : Tables (usesTo q cs k) old2new used
   pub grown : fresh ≡ sets fresh₀ 0 (entries w attrs (usesTo q cs k))
 
-column-begins : (attrs : List Float) (w : ℕ) (cs : List ℕ) (q : ℕ) (fresh : List Float) → Column attrs w cs q 0 fresh fresh (replicate 2048 missing) 0
+column-begins :
+    (attrs : List Float) (w : ℕ) (cs : List ℕ) (q : ℕ) (fresh : List Float)
+    → Column attrs w cs q 0 fresh fresh (replicate 2048 missing) 0
 unfolding firstUses entries
 column-begins attrs w cs q fresh = record { tables = tables-begin; grown = refl }
 
-module _ {attrs : List Float} {w : ℕ} {cs : List ℕ} {q k : ℕ} {fresh₀ fresh : List Float} {old2new : List ℕ} {used : ℕ} (c : Column attrs w cs q k fresh₀ fresh old2new used) where
+module _
+    {attrs : List Float} {w : ℕ} {cs : List ℕ} {q k : ℕ} {fresh₀ fresh : List Float} {old2new : List ℕ} {used : ℕ}
+    (c : Column attrs w cs q k fresh₀ fresh old2new used) where
   pub column-long : length fresh ≡ length fresh₀
   column-long = ap length (c .grown) ∙ length-sets fresh₀ 0 (entries w attrs (usesTo q cs k))
 
   pub column-before :
-      (out₀ out : List ℕ) → Pointed attrs w cs q → k < length cs / 3 → length attrs ≤ length fresh₀ → length cs ≤ length out₀ → length out ≡ length out₀
+      (out₀ out : List ℕ) → Pointed attrs w cs q → k < length cs / 3 → length attrs ≤ length fresh₀ → length cs ≤ length out₀
+      → length out ≡ length out₀
       → Before attrs w cs k q old2new used fresh out
   column-before out₀ out p h r s e = record {
     pointed = p;
@@ -43,7 +49,9 @@ module _ {attrs : List Float} {w : ℕ} {cs : List ℕ} {q k : ℕ} {fresh₀ fr
     corners-room = omega arith;
   }
 
-  column-turns : (fresh′ : List Float) (old2new′ : List ℕ) (used′ : ℕ) (out out′ : List ℕ) → Taken attrs w cs k q old2new′ used′ fresh fresh′ out out′ → Column attrs w cs q (k + 1) fresh₀ fresh′ old2new′ used′
+  column-turns :
+      (fresh′ : List Float) (old2new′ : List ℕ) (used′ : ℕ) (out out′ : List ℕ)
+      → Taken attrs w cs k q old2new′ used′ fresh fresh′ out out′ → Column attrs w cs q (k + 1) fresh₀ fresh′ old2new′ used′
   column-turns fresh′ old2new′ used′ out out′ t = record { tables = t .tables; grown = t .grown fresh₀ (c .grown) }
 
   -- few enough for the type of a count
@@ -76,11 +84,13 @@ module _ (cs : List ℕ) where
 
   more-corners :
       (k : ℕ) → k < length cs / 3
-      → joined (map (newCorner cs) (take (k + 1) (threes cs))) ≡ joined (map (newCorner cs) (take k (threes cs))) ++ newCorner cs (cornerAt cs k)
+      → joined (map (newCorner cs) (take (k + 1) (threes cs))) ≡ joined (map (newCorner cs) (take k (threes cs))) ++ newCorner cs
+      (cornerAt cs k)
   more-corners k h =
       let l : k < length (threes cs) = rw (length-threes cs) h in
       let done = take k (threes cs) in
-      ap (λ (r : Ring). joined (map (newCorner cs) r)) (ap (λ (n : ℕ). take n (threes cs)) (add-one k) ∙ take-suc (threes cs) k [] l)
+      ap (λ (r : Ring). joined (map (newCorner cs) r))
+      (ap (λ (n : ℕ). take n (threes cs)) (add-one k) ∙ take-suc (threes cs) k [] l)
       ∙ ap joined (map-append (newCorner cs) done (getD (threes cs) k [] ∷ []))
       ∙ joined-append (map (newCorner cs) done) (newCorner cs (getD (threes cs) k []) ∷ [])
       ∙ ap (λ (c : Corner). joined (map (newCorner cs) done) ++ c) (corner-is k h)
@@ -100,7 +110,9 @@ module _ (cs : List ℕ) where
       let b : length (take k (threes cs)) ≡ k = length-take-le k (threes cs) (rw (length-threes cs) (omega arith)) in
       omega arith in
       e3 ∙ rw (e2, e1) (three-stores c0 (3 * k) _ _ _)
-      ∙ ap (λ (i : ℕ). sets c0 (3 * k) (renumber (firstUses (column 0 cs)) (getD cs i 0) ∷ renumber (firstUses (column 1 cs)) (getD cs (3 * k + 1) 0) ∷ renumber (firstUses (column 2 cs)) (getD cs (3 * k + 2) 0) ∷ [])) (add-zero (3 * k))
+      ∙ ap (λ (i : ℕ). sets c0 (3 * k)
+      (renumber (firstUses (column 0 cs)) (getD cs i 0) ∷ renumber (firstUses (column 1 cs)) (getD cs (3 * k + 1) 0) ∷ renumber
+      (firstUses (column 2 cs)) (getD cs (3 * k + 2) 0) ∷ [])) (add-zero (3 * k))
       ∙ ap (λ (l : List ℕ). sets l (3 * k) (newCorner cs (cornerAt cs k))) e0
       ∙ ap (λ (n : ℕ). sets (sets o 0 done) n (newCorner cs (cornerAt cs k))) (sym long)
       ∙ sym (sets-append o 0 done (newCorner cs (cornerAt cs k)))
@@ -108,14 +120,17 @@ module _ (cs : List ℕ) where
 
 -- ---- the whole: k corners are read
 
-pub record Going (p t n : List Float) (cs : List ℕ) (before at : Result) (pmap tmap nmap : List ℕ) (pused tused nused k : ℕ) : Type 0 where
+pub record Going
+    (p t n : List Float) (cs : List ℕ) (before at : Result) (pmap tmap nmap : List ℕ) (pused tused nused k : ℕ) : Type 0 where
   pub within : k ≤ length cs / 3
   pub positions : Column p 3 cs 0 k (before .positions) (at .positions) pmap pused
   pub textures : Column t 2 cs 1 k (before .textures) (at .textures) tmap tused
   pub normals : Column n 3 cs 2 k (before .normals) (at .normals) nmap nused
   pub corners : at .corners ≡ sets (before .corners) 0 (joined (map (newCorner cs) (take k (threes cs))))
 
-pub going-begins : (p t n : List Float) (cs : List ℕ) (r : Result) → Going p t n cs r r (replicate 2048 missing) (replicate 2048 missing) (replicate 2048 missing) 0 0 0 0
+pub going-begins :
+    (p t n : List Float) (cs : List ℕ) (r : Result)
+    → Going p t n cs r r (replicate 2048 missing) (replicate 2048 missing) (replicate 2048 missing) 0 0 0 0
 going-begins p t n cs r = record {
   within = omega arith;
   positions = column-begins p 3 cs 0 (r .positions);
@@ -124,7 +139,9 @@ going-begins p t n cs r = record {
   corners = refl;
 }
 
-module _ {p t n : List Float} {cs : List ℕ} {before at : Result} {pmap tmap nmap : List ℕ} {pused tused nused k : ℕ} (g : Going p t n cs before at pmap tmap nmap pused tused nused k) where
+module _
+    {p t n : List Float} {cs : List ℕ} {before at : Result} {pmap tmap nmap : List ℕ} {pused tused nused k : ℕ}
+    (g : Going p t n cs before at pmap tmap nmap pused tused nused k) where
   pub going-long : length (at .corners) ≡ length (before .corners)
   going-long = ap length (g .corners) ∙ length-sets (before .corners) 0 (joined (map (newCorner cs) (take k (threes cs))))
 
@@ -139,16 +156,22 @@ module _ {p t n : List Float} {cs : List ℕ} {before at : Result} {pmap tmap nm
     positions = column-turns (g .positions) (behind .positions) pmap′ pused′ (at .corners) c1 a;
     textures = column-turns (g .textures) (behind .textures) tmap′ tused′ c1 c2 b;
     normals = column-turns (g .normals) (behind .normals) nmap′ nused′ c2 (behind .corners) c;
-    corners = corners-turn cs (before .corners) k h (at .corners) c1 c2 (behind .corners) (g .corners) (a .numbered) (b .numbered) (c .numbered);
+    corners =
+        corners-turn cs (before .corners) k h (at .corners) c1 c2 (behind .corners) (g .corners) (a .numbered) (b .numbered)
+        (c .numbered);
   }
 
-  pub going-ends : (answer : Compacted) → length cs / 3 ≤ k → answer .number ≡ 0 → answer .positions ≡ pused → answer .textures ≡ tused → answer .normals ≡ nused → Done p t n cs before at answer
+  pub going-ends :
+      (answer : Compacted) → length cs / 3 ≤ k → answer .number ≡ 0 → answer .positions ≡ pused → answer .textures ≡ tused
+      → answer .normals ≡ nused → Done p t n cs before at answer
   going-ends answer h a b c d = record {
     number = a;
     position-count = b ∙ column-counts (g .positions) h;
     texture-count = c ∙ column-counts (g .textures) h;
     normal-count = d ∙ column-counts (g .normals) h;
-    corners = g .corners ∙ ap (λ (l : Ring). sets (before .corners) 0 (joined (map (newCorner cs) l))) (take-all k (threes cs) (rw (length-threes cs) h));
+    corners =
+        g .corners ∙ ap (λ (l : Ring). sets (before .corners) 0 (joined (map (newCorner cs) l)))
+        (take-all k (threes cs) (rw (length-threes cs) h));
     positions = column-ends (g .positions) h;
     textures = column-ends (g .textures) h;
     normals = column-ends (g .normals) h;

@@ -1,15 +1,15 @@
 -- Where an index first stands in a list, and what stands there. Assumes nothing.
-use mathlib.Core.Path.{_≡_, refl, sym, ap, _∙_}
-use mathlib.Core.Bool.{Bool, true, false, cond, not, _&&_, _||_}
-use mathlib.Core.List.{List, [], _∷_, _++_, map}
-use Prim.Native.Nat.{ℕ, zero, suc, _+_, _≤_, _<_}
+use mathlib.Core.Path.{_≡_, sym, ap, _∙_}
+use mathlib.Core.Bool.{true, false}
+use mathlib.Core.List.{List, [], _∷_, _++_}
+use Prim.Native.Nat.{ℕ, zero, suc, _<_}
 use native.Mathlib.Nat.{not-suc-le-zero, le-of-suc-le-suc}
 use native.Mathlib.Omega.{arith}
 use lib.ListN.{length, getD}
 use lib.Dec.{eqb}
-use borrow.Author.Tests.{eqb-true, eqb-false, eq-eqb, ne-eqb, not-true}
-use Rattle.lists.specs.Lists.{has, span}
-use Rattle.lists.proofs.Bools.{by-cases, true-false, and-left, and-right, or-right, or-false-left, or-false-right}
+use borrow.Author.Tests.{eqb-true}
+use Rattle.lists.specs.Lists.{has}
+use Rattle.lists.proofs.Bools.{by-cases, true-false, or-right, or-false-left, or-false-right}
 use Rattle.lists.proofs.Members.{Once}
 use Rattle.lists.proofs.Others.{eqb-self, eqb-flip, once-head, once-tail}
 use Rattle.compaction.specs.Compaction.{place}

@@ -1,19 +1,21 @@
 -- Renumbering one column: it is one-to-one, its numbers are below the count of uses, and the uses of a column whose numbers are
 -- changed one-to-one are the changed uses. Assumes nothing.
 use mathlib.Core.Path.{_≡_, refl, sym, ap, ap₂, _∙_}
-use mathlib.Core.Bool.{Bool, true, false, not, _&&_, _||_}
-use mathlib.Core.List.{List, [], _∷_, _++_, map}
-use Prim.Native.Nat.{ℕ, zero, suc, _+_, _*_, _≤_, _<_}
+use mathlib.Core.Bool.{Bool, true, false, not, _&&_}
+use mathlib.Core.List.{List, [], _∷_, map}
+use Prim.Native.Nat.{ℕ, zero, suc, _≤_, _<_}
+use native.Mathlib.Nat.{not-suc-le-zero, le-of-suc-le-suc, zero-add}
 use native.Mathlib.Omega.{arith}
-use lib.ListN.{length, getD}
+use lib.ListN.{length, getD, length-map}
+use lib.Seq.{ext-getD}
 use lib.Dec.{eqb, leb}
 use borrow.Author.Tests.{eqb-true, eqb-false, eq-eqb, ne-eqb, lt-leb, not-true}
-use Rattle.lists.specs.Lists.{has, only, keepIf, others}
+use Rattle.lists.specs.Lists.{has, keepIf, others, span}
 use Rattle.lists.proofs.Bools.{by-cases, true-false, and-left, and-right, and-false-right}
 use Rattle.lists.proofs.Members.{in-head, in-tail}
-use Rattle.lists.proofs.Others.{eqb-self, eqb-flip}
+use Rattle.lists.proofs.Buckets.{length-span, span-at}
 use Rattle.mesh.specs.Mesh.{missing}
-use Rattle.mesh.specs.Table.{beyond, beyondUnlessMissing}
+use Rattle.mesh.specs.Table.{beyondUnlessMissing}
 use Rattle.compaction.specs.Compaction.{firstUses, place, renumber}
 use Rattle.compaction.proofs.Places.{place-here, place-behind, place-below, place-one, has-getD, place-getD}
 use Rattle.compaction.proofs.Uses.{has-uses, uses-missing, uses-present, uses-once}
@@ -68,7 +70,8 @@ module _ (l : List ℕ) (few : length (firstUses l) ≤ missing) where
       place-one (firstUses l) i j (used l i h m) (used l j k n)
       (sym (renumber-present (firstUses l) i m) ∙ e ∙ renumber-present (firstUses l) j n))
 
-  pub renumber-same : (i j : ℕ) → has i l ≡ true → has j l ≡ true → eqb (renumber (firstUses l) i) (renumber (firstUses l) j) ≡ eqb i j
+  pub renumber-same :
+      (i j : ℕ) → has i l ≡ true → has j l ≡ true → eqb (renumber (firstUses l) i) (renumber (firstUses l) j) ≡ eqb i j
   renumber-same i j h k =
       by-cases
       (eqb i j)
@@ -83,14 +86,16 @@ module _ (f : ℕ → ℕ) where
   keep-map false x l = refl
 
   -- the others of the changed are the changed others
-  pub others-map : (i : ℕ) (l : List ℕ) → ((j : ℕ) → has j l ≡ true → eqb (f i) (f j) ≡ eqb i j) → others (f i) (map f l) ≡ map f (others i l)
+  pub others-map :
+      (i : ℕ) (l : List ℕ) → ((j : ℕ) → has j l ≡ true → eqb (f i) (f j) ≡ eqb i j) → others (f i) (map f l) ≡ map f (others i l)
   others-map i [] h = refl
   others-map i (j ∷ l) h =
       rw (h j (in-head j l))
       (ap (keepIf (not (eqb i j)) (f j)) (others-map i l (λ k e. h k (in-tail k j l e))) ∙ keep-map (not (eqb i j)) j (others i l))
 
   -- a changed number stands where it stood
-  pub place-map : (us : List ℕ) (i : ℕ) → ((j : ℕ) → has j us ≡ true → eqb (f i) (f j) ≡ eqb i j) → place (map f us) (f i) ≡ place us i
+  pub place-map :
+      (us : List ℕ) (i : ℕ) → ((j : ℕ) → has j us ≡ true → eqb (f i) (f j) ≡ eqb i j) → place (map f us) (f i) ≡ place us i
   unfolding place
   place-map [] i h = refl
   place-map (u ∷ us) i h =
@@ -126,7 +131,9 @@ module _ (f : ℕ → ℕ) where
 -- ---- a second time
 
 -- two functions that agree on what stands in a list change it alike
-pub map-same : {A B : Type 0} (f g : A → B) (d : A) (l : List A) → ((k : ℕ) → k < length l → f (getD l k d) ≡ g (getD l k d)) → map f l ≡ map g l
+pub map-same :
+    {A B : Type 0} (f g : A → B) (d : A) (l : List A) → ((k : ℕ) → k < length l → f (getD l k d) ≡ g (getD l k d))
+    → map f l ≡ map g l
 map-same f g d [] h = refl
 map-same f g d (x ∷ l) h =
     ap₂ (λ a t. a ∷ t) (h 0 (omega arith)) (map-same f g d l (λ k n. h (suc k) (let e : k < length l = n in omega arith)))
@@ -137,7 +144,9 @@ module _ (l : List ℕ) (few : length (firstUses l) ≤ missing) where
   uses-again = uses-map (renumber (firstUses l)) l (missing-stays l few) (renumber-same l few)
 
   -- a second renumbering changes nothing
-  pub renumber-again : (i : ℕ) → has i l ≡ true → renumber (firstUses (map (renumber (firstUses l)) l)) (renumber (firstUses l) i) ≡ renumber (firstUses l) i
+  pub renumber-again :
+      (i : ℕ) → has i l ≡ true
+      → renumber (firstUses (map (renumber (firstUses l)) l)) (renumber (firstUses l) i) ≡ renumber (firstUses l) i
   renumber-again i h =
       let f = renumber (firstUses l) in
       ap (λ (us : List ℕ). renumber us (f i)) uses-again
@@ -170,7 +179,8 @@ every-number l n h =
     let i : has u us ≡ true = has-getD us n h in
     let j : (not (eqb u missing) && has u l) ≡ true = sym (has-uses u l) ∙ i in
     let e : renumber us u ≡ n =
-    renumber-present us u (not-true (eqb u missing) (and-left (not (eqb u missing)) (has u l) j)) ∙ place-getD us n (uses-once l) h in
+    renumber-present us u (not-true (eqb u missing) (and-left (not (eqb u missing)) (has u l) j))
+    ∙ place-getD us n (uses-once l) h in
     ap (λ (k : ℕ). has k (map (renumber us) l)) (sym e)
     ∙ has-map (renumber us) u l (and-right (not (eqb u missing)) (has u l) j)
 
@@ -183,3 +193,21 @@ renumber-uses l =
     let u = getD us k 0 in
     let j : (not (eqb u missing) && has u l) ≡ true = sym (has-uses u l) ∙ has-getD us k h in
     renumber-present us u (not-true (eqb u missing) (and-left (not (eqb u missing)) (has u l) j)))
+
+-- the uses of the renumbered column are 0, 1, 2, ..
+getD-changed : (f : ℕ → ℕ) (l : List ℕ) (k : ℕ) → k < length l → getD (map f l) k 0 ≡ f (getD l k 0)
+getD-changed f [] k h = absurd (not-suc-le-zero h)
+getD-changed f (x ∷ l) zero h = refl
+getD-changed f (x ∷ l) (suc k) h = getD-changed f l k (le-of-suc-le-suc h)
+
+pub uses-numbered :
+    (l : List ℕ) → length (firstUses l) ≤ missing → firstUses (map (renumber (firstUses l)) l) ≡ span 0 (length (firstUses l))
+uses-numbered l few =
+    let us = firstUses l in
+    uses-again l few
+    ∙ renumber-uses l
+    ∙ ext-getD 0 (map (place us) us) (span 0 (length us))
+    (length-map us (place us) ∙ sym (length-span 0 (length us)))
+    (λ k h.
+    let n : k < length us = rw (length-map us (place us)) at h in
+    getD-changed (place us) us k n ∙ place-getD us k (uses-once l) n ∙ sym (span-at 0 (length us) k 0 n ∙ zero-add k))

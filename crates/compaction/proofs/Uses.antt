@@ -1,20 +1,21 @@
 -- The indices of a column in the order of their first use. Assumes nothing.
 use mathlib.Core.Path.{_≡_, refl, sym, ap, _∙_}
-use mathlib.Core.Bool.{Bool, true, false, cond, not, _&&_, _||_, and-true}
-use mathlib.Core.List.{List, [], _∷_, _++_, map, append-nil}
-use Prim.Native.Nat.{ℕ, zero, suc, _+_, _≤_, _<_}
+use mathlib.Core.Bool.{true, false, not, _&&_, and-true}
+use mathlib.Core.List.{List, [], _∷_, _++_, append-nil}
+use Prim.Native.Nat.{ℕ, _≤_}
 use native.Mathlib.Omega.{arith}
-use lib.ListN.{length, getD}
+use lib.ListN.{length}
 use lib.Dec.{ltb, eqb, leb}
-use borrow.Author.Tests.{eqb-true, eqb-false, eq-eqb, ne-eqb, not-true, lt-ltb, leb-false}
+use borrow.Author.Tests.{eqb-true, lt-ltb, leb-false}
 use Rattle.lists.specs.Lists.{some, every, only, has, others}
-use Rattle.lists.proofs.Bools.{by-cases, true-false, and-both, and-left, and-right, and-false-right, or-false-left, or-false-right}
+use Rattle.lists.proofs.Bools.{by-cases, and-both, and-false-right, or-false-left, or-false-right}
 use Rattle.lists.proofs.Only.{only-append, only-all, every-only}
+use Rattle.lists.proofs.Buckets.{only-cong, only-only}
 use Rattle.lists.proofs.Members.{Once}
-use Rattle.lists.proofs.Others.{eqb-self, eqb-flip, only-cong, only-only, has-only, has-every, once-others, once-few}
+use Rattle.lists.proofs.Others.{eqb-flip, has-only, has-every, once-others, once-few}
 use Rattle.mesh.specs.Mesh.{missing}
 use Rattle.mesh.specs.Table.{beyondUnlessMissing}
-use Rattle.compaction.specs.Compaction.{firstUse, firstUses, place, renumber}
+use Rattle.compaction.specs.Compaction.{firstUses}
 
 -- an index that is missing, and one that is not
 pub uses-missing : (i : ℕ) (l : List ℕ) → eqb i missing ≡ true → firstUses (i ∷ l) ≡ firstUses l
@@ -108,12 +109,14 @@ pub uses-below : (n : ℕ) (l : List ℕ) → some (beyondUnlessMissing n) l ≡
 unfolding firstUses
 uses-below n [] h = refl
 uses-below n (i ∷ l) h =
-    let g : every (λ (x : ℕ). ltb x n) (firstUses l) ≡ true = uses-below n l (or-false-right (beyondUnlessMissing n i) (some (beyondUnlessMissing n) l) h) in
+    let g : every (λ (x : ℕ). ltb x n) (firstUses l) ≡ true =
+    uses-below n l (or-false-right (beyondUnlessMissing n i) (some (beyondUnlessMissing n) l) h) in
     by-cases (eqb i missing)
     (λ m. rw m g)
     (λ m.
     let b : leb n i ≡ false = rw m at (or-false-left (beyondUnlessMissing n i) (some (beyondUnlessMissing n) l) h) in
-    rw m (and-both (ltb i n) (every (λ (x : ℕ). ltb x n) (others i (firstUses l))) (lt-ltb i n (leb-false n i b)) (every-only (λ (j : ℕ). not (eqb i j)) (λ (x : ℕ). ltb x n) (firstUses l) g)))
+    rw m (and-both (ltb i n) (every (λ (x : ℕ). ltb x n) (others i (firstUses l))) (lt-ltb i n (leb-false n i b))
+    (every-only (λ (j : ℕ). not (eqb i j)) (λ (x : ℕ). ltb x n) (firstUses l) g)))
 
 pub uses-few : (n : ℕ) (l : List ℕ) → some (beyondUnlessMissing n) l ≡ false → length (firstUses l) ≤ n
 uses-few n l h = once-few n (firstUses l) (uses-once l) (uses-below n l h)

@@ -1,11 +1,10 @@
 -- Example 9 of document 01, as a test that computes. Assumes nothing.
-use Prim.Native.Nat.{ℕ}
 use mathlib.Core.Bool.{Bool, _&&_}
-use mathlib.Core.List.{List, [], _∷_, map}
+use mathlib.Core.List.{[], _∷_, map}
 use lib.Dec.{eqb}
-use lib.Ieee.{Float, binary64, ofBits, toBits}
+use lib.Ieee.{binary64, ofBits, toBits}
 use Rattle.lists.specs.Lists.{span, sameNumbers}
-use Rattle.mesh.specs.Mesh.{Mesh, Corner, Ring, meshOf, missing, position, threes}
+use Rattle.mesh.specs.Mesh.{Mesh, meshOf, missing, position, threes}
 use Rattle.mesh.specs.Table.{meshNumber}
 use Rattle.compaction.specs.Compaction.{compacted}
 

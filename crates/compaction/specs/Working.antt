@@ -1,9 +1,9 @@
 -- What the functions of the crate hand to one another; a caller needs none of it. Assumes nothing.
-use Prim.Native.Nat.{ℕ, zero, suc, _+_, _*_, _≤_, _<_}
+use Prim.Native.Nat.{ℕ, _+_, _*_, _≤_, _<_}
 use mathlib.Core.Path.{_≡_}
-use mathlib.Core.Bool.{Bool, true, false, cond}
+use mathlib.Core.Bool.{false, cond}
 use mathlib.Core.List.{List, [], _∷_, map}
-use lib.ListN.{length, getD, take, drop, set}
+use lib.ListN.{length, getD, take, set}
 use lib.Seq.{sets}
 use lib.Ieee.{Float}
 use Rattle.lists.specs.Lists.{some, has, joined}
@@ -15,6 +15,10 @@ use Rattle.compaction.specs.declared.Compacted.{Compacted}
 -- column q of the corners: the positions for 0, the texture points for 1, the normals for 2
 abbrev pub column : ℕ → List ℕ → List ℕ
 column q cs = map (λ (c : Corner). getD c q 0) (threes cs)
+
+-- the index that corner k has in column q
+abbrev pub indexAt : List ℕ → ℕ → ℕ → ℕ
+indexAt cs k q = getD cs (3 * k + q) 0
 
 -- what the first k corners use in column q
 abbrev pub usesTo : ℕ → List ℕ → ℕ → List ℕ
@@ -43,7 +47,9 @@ pub record Tables (us old2new : List ℕ) (used : ℕ) : Type 0 where
   pub mapped : (i : ℕ) → i < 2048 → getD old2new i 0 ≡ cond (has i us) (place us i) missing
 
 -- before the turn of corner k in column q
-pub record Before (attrs : List Float) (w : ℕ) (cs : List ℕ) (k q : ℕ) (old2new : List ℕ) (used : ℕ) (fresh : List Float) (out : List ℕ) : Type 0 where
+pub record Before
+    (attrs : List Float) (w : ℕ) (cs : List ℕ) (k q : ℕ) (old2new : List ℕ) (used : ℕ) (fresh : List Float)
+    (out : List ℕ) : Type 0 where
   pub pointed : Pointed attrs w cs q
   pub corner : 3 * k + 3 ≤ length cs
   pub tables : Tables (usesTo q cs k) old2new used
@@ -51,10 +57,14 @@ pub record Before (attrs : List Float) (w : ℕ) (cs : List ℕ) (k q : ℕ) (ol
   pub corners-room : length cs ≤ length out
 
 -- and after it: one index more is used, its entry stands behind the others, and the corner has the new number
-pub record Taken (attrs : List Float) (w : ℕ) (cs : List ℕ) (k q : ℕ) (old2new : List ℕ) (used : ℕ) (fresh fresh′ : List Float) (out out′ : List ℕ) : Type 0 where
+pub record Taken
+    (attrs : List Float) (w : ℕ) (cs : List ℕ) (k q : ℕ) (old2new : List ℕ) (used : ℕ) (fresh fresh′ : List Float)
+    (out out′ : List ℕ) : Type 0 where
   pub tables : Tables (usesTo q cs (k + 1)) old2new used
-  pub grown : (l : List Float) → fresh ≡ sets l 0 (entries w attrs (usesTo q cs k)) → fresh′ ≡ sets l 0 (entries w attrs (usesTo q cs (k + 1)))
-  pub numbered : out′ ≡ set out (3 * k + q) (renumber (firstUses (column q cs)) (getD cs (3 * k + q) 0))
+  pub grown :
+      (l : List Float) → fresh ≡ sets l 0 (entries w attrs (usesTo q cs k))
+      → fresh′ ≡ sets l 0 (entries w attrs (usesTo q cs (k + 1)))
+  pub numbered : out′ ≡ set out (3 * k + q) (renumber (firstUses (column q cs)) (indexAt cs k q))
 
 -- a corner with its three numbers renumbered, each by its column
 abbrev pub newCorner : List ℕ → Corner → Corner

@@ -1,14 +1,14 @@
 -- Numbers that pass a test, and the numbers other than one: which stand there, and that each stands at most once. Assumes nothing.
-use mathlib.Core.Path.{_≡_, refl, sym, ap, ap₂, _∙_}
-use mathlib.Core.Bool.{Bool, true, false, not, _&&_, _||_}
-use mathlib.Core.List.{List, [], _∷_, _++_}
-use Prim.Native.Nat.{ℕ, zero, suc, _+_, _≤_, _<_}
+use mathlib.Core.Path.{_≡_, refl, sym, ap, _∙_}
+use mathlib.Core.Bool.{Bool, true, false, not, _&&_}
+use mathlib.Core.List.{List, [], _∷_}
+use Prim.Native.Nat.{ℕ, suc, _+_, _≤_}
 use native.Mathlib.Omega.{arith}
 use lib.ListN.{length}
 use lib.Dec.{ltb, eqb}
 use borrow.Author.Tests.{ltb-true, eqb-true, eqb-false, eq-eqb, ne-eqb}
 use Rattle.lists.specs.Lists.{every, only, keepIf, bump, count, has, others}
-use Rattle.lists.proofs.Bools.{by-cases, true-false, and-both, and-left, and-right, and-false-right, or-right}
+use Rattle.lists.proofs.Bools.{by-cases, true-false, and-both, and-left, and-right, and-false-right}
 use Rattle.lists.proofs.Counting.{bump-plus, pos, some-count, count-none}
 use Rattle.lists.proofs.Members.{Once, free, once-free, in-head, in-tail}
 
@@ -26,21 +26,6 @@ eqb-flip x y =
     (λ e. e ∙ sym (ne-eqb y x (λ q. eqb-false x y e (sym q))))
 
 -- ---- those that pass a test
-
-module _ {A : Type 0} where
-  -- two tests that agree keep the same
-  pub only-cong : (p q : A → Bool) → ((x : A) → p x ≡ q x) → (l : List A) → only p l ≡ only q l
-  only-cong p q h [] = refl
-  only-cong p q h (x ∷ l) = ap₂ (λ b t. keepIf b x t) (h x) (only-cong p q h l)
-
-  only-keep : (p q : A → Bool) (x : A) (l : List A) (b : Bool) → q x ≡ b → only p (keepIf b x (only q l)) ≡ keepIf (b && p x) x (only p (only q l))
-  only-keep p q x l true e = refl
-  only-keep p q x l false e = refl
-
-  -- one test after the other is both at once
-  pub only-only : (p q : A → Bool) (l : List A) → only p (only q l) ≡ only (λ x. q x && p x) l
-  only-only p q [] = refl
-  only-only p q (x ∷ l) = only-keep p q x l (q x) refl ∙ ap (keepIf (q x && p x) x) (only-only p q l)
 
 -- a number stands among those that pass where it passes and was there
 pub has-only : (p : ℕ → Bool) (x : ℕ) (l : List ℕ) → has x (only p l) ≡ (p x && has x l)
@@ -97,7 +82,8 @@ once-only p l o x = let c : count (eqb x) l ≤ 1 = o x in let a : count (eqb x)
     fewer [] = omega arith
     fewer (y ∷ k) =
         let a : count (eqb x) (keepIf (p y) y (only p k)) ≤ bump (eqb x y) (count (eqb x) (only p k)) = kept (p y) y (only p k) in
-        let b : bump (eqb x y) (count (eqb x) (only p k)) ≤ bump (eqb x y) (count (eqb x) k) = keep (eqb x y) y (count (eqb x) (only p k)) (count (eqb x) k) (fewer k) in
+        let b : bump (eqb x y) (count (eqb x) (only p k)) ≤ bump (eqb x y) (count (eqb x) k) =
+        keep (eqb x y) y (count (eqb x) (only p k)) (count (eqb x) k) (fewer k) in
         omega arith
 
 -- one in front of the others

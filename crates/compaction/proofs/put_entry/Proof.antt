@@ -1,5 +1,4 @@
 -- `compaction::put_entry` meets its contract: two stores, and a third where the width is 3, are what `sets` does with the entry.
-use mathlib.Core.Path.{_≡_, ap, _∙_}
 use lib.ListN.{length-set}
 use Rattle.compaction.proofs.Entries.{copy-two, copy-three}
 use native.Mathlib.Omega.{arith}
