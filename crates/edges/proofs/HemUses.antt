@@ -201,7 +201,7 @@ map-runs f d (x ∷ l) h =
     go false p false q true r ih = ih ∙ rw r
     go false p false q false r ih = ih ∙ rw r
 
-some-only : (q p : Edge → Bool) (l : List Edge) → some q (only p l) ≡ true → some q l ≡ true
+pub some-only : (q p : Edge → Bool) (l : List Edge) → some q (only p l) ≡ true → some q l ≡ true
 some-only q p [] h = h
 some-only q p (x ∷ l) h = go (p x) h (some-only q p l)
   where

@@ -4,3 +4,4 @@ pub mod HemUses
 pub mod OnlyHems
 pub mod Reordered
 pub mod Rings
+pub mod HemBounds

@@ -253,7 +253,7 @@ pub fn box_of(positions: &[f64]) -> Bounds
 }
 
 // A point goes to place i of a flat list.
-fn put_point(p: Point, out: &mut [f64], i: usize)
+pub fn put_point(p: Point, out: &mut [f64], i: usize)
     requires { ⌜ 3 * i + 3 ≤ length (now out) ⌝ }
     ensures { λ _. ⌜ now (out .exit) ≡ sets (now (out .entry)) (3 * i) (coordinates p) ⌝ }
 {

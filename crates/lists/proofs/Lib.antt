@@ -1,9 +1,13 @@
 pub mod Alike
 pub mod Bools
+pub mod Buckets
 pub mod Cases
+pub mod Copies
 pub mod Counting
 pub mod Members
 pub mod Numbers
-pub mod Parts
 pub mod Only
+pub mod Parts
+pub mod Seeking
 pub mod Writing
+pub mod Others

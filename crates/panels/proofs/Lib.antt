@@ -3,3 +3,7 @@ pub mod Looking
 pub mod Parting
 pub mod Sharing
 pub mod Panelled
+pub mod Using
+pub mod Sorted
+pub mod Marking
+pub mod Recording

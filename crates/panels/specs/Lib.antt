@@ -1,1 +1,4 @@
 pub mod Panels
+pub mod Columns
+pub mod Firsts
+pub mod Joins

@@ -15,8 +15,9 @@ use Rattle.lists.specs.Lists.{some as has-some}
 use Rattle.lists.proofs.Bools.{by-cases, or-left, or-right}
 use Rattle.lists.proofs.Counting.{bump-plus, bump-up, count-append, count-all, count-length}
 use Rattle.edges.specs.Edges.{runEdges, ringEdges, meshEdges, Edge, same, verdict, Irregular, Regular, hems}
+use Rattle.wires.specs.Hems.{Balanced, ins, outs}
 use Rattle.wires.specs.House.{lesser, leastStart, leastEnd, without, Walk, longer, walk, wiresIn, houseWires}
-use Rattle.wires.proofs.Balance.{outs, ins, at, Balanced, without-count, hems-balanced}
+use Rattle.wires.proofs.Balance.{at, without-count, hems-balanced}
 
 -- a walk that began at f stands at c: what is left goes out as often as it comes in, but for those two
 abbrev pub Left : ℕ → ℕ → List Edge → Type 0
@@ -189,7 +190,7 @@ used-one s h w ws r u =
       wires = omega arith;
     }
 
-left-home : (s : ℕ) (h : List Edge) → Balanced h → Left s s h
+pub left-home : (s : ℕ) (h : List Edge) → Balanced h → Left s s h
 left-home s h b v = let e : _ = b v in omega arith
 
 pub wires-used : (n m : ℕ) (h : List Edge) → length h ≤ n → length h ≤ m → Balanced h → Used h (wiresIn n m h)

@@ -1,2 +1,4 @@
 pub mod Ported
 pub mod House
+pub mod Hems
+pub mod Tracing

@@ -1,0 +1,5 @@
+pub mod Flat
+pub mod OneFace
+pub mod Passing
+pub mod Result
+pub mod Accepted

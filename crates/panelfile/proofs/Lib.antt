@@ -1,0 +1,4 @@
+pub mod Recorded
+pub mod Ringing
+pub mod Fitting
+pub mod Stepping

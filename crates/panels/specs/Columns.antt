@@ -1,0 +1,58 @@
+-- The steps of the code, and no rules of document 01: the uses of edge keys as columns of numbers, one number for each use, in
+-- the order of the faces and of their edges. specs/Panels.antt has the rules. Assumes nothing.
+use mathlib.Core.Path.{_≡_}
+use mathlib.Core.Bool.{Bool, cond}
+use mathlib.Core.List.{List, map}
+use Prim.Native.Nat.{ℕ, zero, suc, _+_, _/_, _%_, _≤_, _<_}
+use lib.Dec.{ltb, eqb}
+use lib.ListN.{length}
+use Rattle.mesh.specs.Mesh.{Corner, Ring, missing, cornerAt}
+use Rattle.mesh.specs.Face.{Sound}
+use Rattle.panels.specs.Panels.{Use, faceKeys, usesFrom}
+
+-- a normal index as a digit: missing is one more than any other
+unfoldable pub normalDigit : ℕ → ℕ
+normalDigit n = cond (eqb n missing) 2048 n
+
+-- the columns: 0 the lower position, 1 the higher, 2 and 3 the normals there, 4 the face
+unfoldable pub chosen : ℕ → ℕ → ℕ → ℕ → ℕ → ℕ → ℕ
+chosen zero lower higher n m face = lower
+chosen (suc zero) lower higher n m face = higher
+chosen (suc (suc zero)) lower higher n m face = n
+chosen (suc (suc (suc zero))) lower higher n m face = m
+chosen (suc (suc (suc (suc which)))) lower higher n m face = face
+
+abbrev pub entryOf : ℕ → Use → ℕ
+entryOf which u = chosen which (u .1 .0) (u .1 .1) (normalDigit (u .1 .2)) (normalDigit (u .1 .3)) (u .0)
+
+unfoldable pub column : Bool → ℕ → List Ring → List ℕ
+column normals which fs = map (entryOf which) (usesFrom normals 0 fs)
+
+-- the corner behind corner j of n: the next, or the first
+abbrev pub nextOf : ℕ → ℕ → ℕ
+nextOf n j = cond (ltb (j + 1) n) (j + 1) 0
+
+-- the edge from corner j of a face, a part of the list of corners, to the one behind it
+unfoldable pub edgeAt : List ℕ → ℕ → Corner × Corner
+edgeAt part j = (cornerAt part j, cornerAt part (nextOf (length part / 3) j))
+
+-- the uses of face k
+abbrev pub faceUses : Bool → ℕ → Ring → List Use
+faceUses normals k f = map (λ key. (k, key)) (faceKeys normals f)
+
+-- whole corners, and corner j one of them
+pub record AtCorner (part : List ℕ) (j : ℕ) : Type 0 where
+  pub whole : length part % 3 ≡ 0
+  pub few : length part ≤ 12288
+  pub inside : j < length part / 3
+
+-- whole corners, and room for one number for each from `at` on
+pub record FaceRoom (part out : List ℕ) (at : ℕ) : Type 0 where
+  pub whole : length part % 3 ≡ 0
+  pub few : length part ≤ 12288
+  pub room : at + length part / 3 ≤ length out
+
+-- sizes that add up to the corners, and room for one number for each corner
+pub record ColumnRoom (cs s out : List ℕ) : Type 0 where
+  pub sound : Sound cs s
+  pub room : length out ≡ length cs / 3

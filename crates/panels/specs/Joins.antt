@@ -1,0 +1,50 @@
+-- The steps of the code, and no rules of document 01: the joins as a flat list, two faces each, in the order they are recorded.
+-- Assumes nothing.
+use mathlib.Core.Path.{_≡_}
+use mathlib.Core.Bool.{Bool, cond}
+use mathlib.Core.List.{List, [], _∷_}
+use Prim.Native.Nat.{ℕ, _+_, _*_, _≤_, _<_}
+use lib.Dec.{eqb}
+use lib.ListN.{length, getD}
+use lib.Seq.{sets}
+use Rattle.lists.specs.Lists.{each, span}
+use Rattle.panels.specs.Panels.{Join}
+
+-- the joins, flat, and back
+abbrev pub flatJoin : Join → List ℕ
+flatJoin j = j .0 ∷ j .1 ∷ []
+
+unfoldable pub flatJoins : List Join → List ℕ
+flatJoins js = each flatJoin js
+
+unfoldable pub joinsOf : List ℕ → List Join
+joinsOf [] = []
+joinsOf (i ∷ []) = []
+joinsOf (i ∷ j ∷ l) = (i, j) ∷ joinsOf l
+
+-- use u joins its face to the face of the first use of its key, unless it is that use
+unfoldable pub joinAt : List ℕ → List ℕ → ℕ → List ℕ
+joinAt faces firsts u = cond (eqb (getD firsts u 0) u) [] (getD faces u 0 ∷ getD faces (getD firsts u 0) 0 ∷ [])
+
+unfoldable pub joinsBy : List ℕ → List ℕ → ℕ → List ℕ
+joinsBy faces firsts u = each (joinAt faces firsts) (span 0 u)
+
+-- a face and a first use for each of at most 4,096 uses, and room for two numbers for each
+pub record Joinable (faces firsts out : List ℕ) : Type 0 where
+  pub few : length firsts ≤ 4096
+  pub faces-long : length faces ≡ length firsts
+  pub named : (u : ℕ) → u < length firsts → getD firsts u 0 < length firsts
+  pub room : 2 * length firsts ≤ length out
+
+-- use u, and room for two numbers from m on
+pub record JoinableAt (faces firsts : List ℕ) (u : ℕ) (out : List ℕ) (m : ℕ) : Type 0 where
+  pub few : m ≤ 8192
+  pub inside : u < length firsts
+  pub faces-long : length faces ≡ length firsts
+  pub named : getD firsts u 0 < length firsts
+  pub room : m + 2 ≤ length out
+
+-- `new` is written to `out` from m on, and r is behind it
+pub record Wrote (new out : List ℕ) (m : ℕ) (out′ : List ℕ) (r : ℕ) : Type 0 where
+  pub behind : r ≡ m + length new
+  pub written : out′ ≡ sets out m new
