@@ -35,6 +35,9 @@ scaledOf p c d = mul binary64 (power (pos 1)) (div binary64 (sub binary64 p c) d
 -- ---- each axis
 
 -- a rule of one axis, at each of the three
+abbrev pub axes1 : (Float → Float) → Point → Point
+axes1 f p = point (f (p .x)) (f (p .y)) (f (p .z))
+
 abbrev pub axes2 : (Float → Float → Float) → Point → Point → Point
 axes2 f p q = point (f (p .x) (q .x)) (f (p .y) (q .y)) (f (p .z) (q .z))
 

@@ -8,10 +8,10 @@ ghost use Prim.Native.Nat.{ℕ, _+_, _*_, _^_, _≤_, _<_, _/_, min};
 ghost use lib.Dec.{T};
 ghost use lib.ListN.{length, getD};
 ghost use lib.Seq.{sets};
-ghost use lib.Ieee.{Float, binary64, ofBits, nanBits};
+ghost use lib.Ieee.{Float, binary64, ofBits, nanBits, add, div};
 ghost use Rattle.floating.specs.Limits.{unfit, boundless, far, distant};
 ghost use Rattle.floating.specs.Points.{coordinates, leading, pointAt, texelAt, pointsOf, row, Whole};
-ghost use Rattle.floating.specs.Scaling.{lesser, greater, scaledOf, axes3, boxWith, boxOf, centre, divisor, scaledList};
+ghost use Rattle.floating.specs.Scaling.{lesser, greater, scaledOf, axes1, axes2, axes3, boxWith, boxOf, centre, divisor, scaledList};
 ghost use Rattle.floating.specs.Cells.{cut, place, beside};
 ghost use Rattle.floating.specs.Near.{squared};
 ghost use Rattle.floating.specs.Bits.{wholeOf};
@@ -140,6 +140,27 @@ pub fn distance2(w: usize, p: Point, q: Point) -> f64
         return two;
     }
     two + z * z
+}
+
+// The sum of two points, and a point divided by a number, on each axis.
+pub fn plus(p: Point, q: Point) -> Point
+    ensures { λ r. ⌜ r ≡ axes2 (add binary64) p q ⌝ }
+{
+    Point {
+        x: p.x + q.x,
+        y: p.y + q.y,
+        z: p.z + q.z,
+    }
+}
+
+pub fn over(p: Point, d: f64) -> Point
+    ensures { λ r. ⌜ r ≡ axes1 (λ x. div binary64 x d) p ⌝ }
+{
+    Point {
+        x: p.x / d,
+        y: p.y / d,
+        z: p.z / d,
+    }
 }
 
 // ---- the box, and scaling
