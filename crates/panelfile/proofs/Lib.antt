@@ -2,3 +2,5 @@ pub mod Recorded
 pub mod Ringing
 pub mod Fitting
 pub mod Stepping
+pub mod Sane
+pub mod Looping

@@ -94,3 +94,11 @@ pub record Stepped (file : List ℕ) (r : Record) (x y : Progress) (p p' t t' n 
   pub within : Within (length file) y
   pub moved : y .number ≡ 0 → y .ended ≡ false → x .at < y .at
   pub taken : (z : Reader) → Holds z x p t n c s → Holds (take1 file z r) y p' t' n' c' s'
+
+-- lent lists at the full limits at least
+pub record Full (p t n : List Float) (c s : List ℕ) : Type 0 where
+  pub positions : 6144 ≤ length p
+  pub textures : 4096 ≤ length t
+  pub normals : 6144 ≤ length n
+  pub corners : 12288 ≤ length c
+  pub sizes : 1365 ≤ length s

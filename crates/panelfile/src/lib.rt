@@ -6,6 +6,7 @@
 mod bytes;
 mod records;
 mod steps;
+mod reading;
 
 ghost use mathlib.Core.Path.{_≡_};
 
