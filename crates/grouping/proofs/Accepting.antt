@@ -2,20 +2,20 @@
 use mathlib.Core.Path.{_≡_, refl, sym, ap, _∙_}
 use mathlib.Core.Bool.{Bool, true, false, _&&_, _||_}
 use mathlib.Core.List.{List, [], _∷_, _++_, map}
-use Prim.Native.Nat.{ℕ, zero, suc, _+_, _*_, _%_, _≤_, _<_}
+use Prim.Native.Nat.{ℕ, _*_, _%_, _≤_, _<_}
 use native.Mathlib.Omega.{arith}
 use lib.ListN.{length, getD, length-map, List·getD-map}
 use lib.Dec.{leb}
 use lib.Ieee.{Float}
 use borrow.Author.Tests.{leb-true}
-use Rattle.lists.specs.Lists.{every, some, only, joined, each, sum}
-use Rattle.lists.proofs.Bools.{and-left, and-right, and-both, or-neither, or-false-left, or-false-right, by-cases, true-false}
+use Rattle.lists.specs.Lists.{every, some, only, joined, each}
+use Rattle.lists.proofs.Bools.{and-left, and-right, or-neither, or-false-left, or-false-right, by-cases}
 use Rattle.lists.proofs.Parts.{every-append, some-append, every-at, joined-append}
 use Rattle.mesh.specs.Mesh.{Mesh, Corner, Ring, meshOf, threes}
 use Rattle.mesh.specs.Table.{meshNumber, astray, astrayAt, ungrouped}
 use Rattle.mesh.proofs.Corners.{isCorner, threes-joined}
 use Rattle.mesh.proofs.Faces.{isRing}
-use Rattle.mesh.proofs.Numbers.{Clear, clear-0}
+use Rattle.mesh.proofs.Numbers.{clear-0}
 use Rattle.mesh.proofs.Accepted.{within-back, even-back, sizes-back}
 use Rattle.grouping.specs.Push.{pushed, cornerCount, isTriangle, isQuadrangle, isLarger}
 use Rattle.grouping.proofs.Placing.{length-flat}

@@ -36,9 +36,9 @@ face-fits s at n h l =
     let other = when (ltb 32 c) 3 ∷ [] in
     unless-fits (length s) at (firstOf (when (not (eqb (1 + 12 * c) n)) 12 ∷ other)) (Face (b + 1) c) h
     (λ e.
-      let i : 1 + 12 * c ≡ n = eqb-true (1 + 12 * c) n (not-false (eqb (1 + 12 * c) n) (when-not (not (eqb (1 + 12 * c) n)) 11 (first-head (when (not (eqb (1 + 12 * c) n)) 12) other e))) in
-      let j : c ≤ 32 = ltb-false 32 c (when-not (ltb 32 c) 2 (first-head (when (ltb 32 c) 3) [] (first-tail (when (not (eqb (1 + 12 * c) n)) 12) other e))) in
-      record { fits = omega arith; placed = (omega arith, j) })
+    let i : 1 + 12 * c ≡ n = eqb-true (1 + 12 * c) n (not-false (eqb (1 + 12 * c) n) (when-not (not (eqb (1 + 12 * c) n)) 11 (first-head (when (not (eqb (1 + 12 * c) n)) 12) other e))) in
+    let j : c ≤ 32 = ltb-false 32 c (when-not (ltb 32 c) 2 (first-head (when (ltb 32 c) 3) [] (first-tail (when (not (eqb (1 + 12 * c) n)) 12) other e))) in
+    record { fits = omega arith; placed = (omega arith, j) })
 
 body-fits : (s : List ℕ) (at n k : ℕ) → at ≤ length s → at + 4 + n ≤ length s → lengthFits k n ≡ true → Fitted (length s) at (bodyFrom s (at + 4) n k)
 unfolding bodyFrom lengthFits
@@ -59,12 +59,12 @@ record-fits s at h =
     let d = when (ltb (length s - (at + 4)) n) 11 in
     unless-fits (length s) at (firstOf (a ∷ b ∷ c ∷ d ∷ [])) (bodyFrom s (at + 4) n k) h
     (λ e.
-      let e1 = first-tail a (b ∷ c ∷ d ∷ []) e in
-      let e2 = first-tail b (c ∷ d ∷ []) e1 in
-      let e3 = first-tail c (d ∷ []) e2 in
-      let i : 4 ≤ length s - at = ltb-false (length s - at) 4 (when-not (ltb (length s - at) 4) 10 (first-head a (b ∷ c ∷ d ∷ []) e)) in
-      let j : n ≤ length s - (at + 4) = ltb-false (length s - (at + 4)) n (when-not (ltb (length s - (at + 4)) n) 10 (first-head d [] e3)) in
-      body-fits s at n k h (omega arith) (not-false (lengthFits k n) (when-not (not (lengthFits k n)) 11 (first-head c (d ∷ []) e2))))
+    let e1 = first-tail a (b ∷ c ∷ d ∷ []) e in
+    let e2 = first-tail b (c ∷ d ∷ []) e1 in
+    let e3 = first-tail c (d ∷ []) e2 in
+    let i : 4 ≤ length s - at = ltb-false (length s - at) 4 (when-not (ltb (length s - at) 4) 10 (first-head a (b ∷ c ∷ d ∷ []) e)) in
+    let j : n ≤ length s - (at + 4) = ltb-false (length s - (at + 4)) n (when-not (ltb (length s - (at + 4)) n) 10 (first-head d [] e3)) in
+    body-fits s at n k h (omega arith) (not-false (lengthFits k n) (when-not (not (lengthFits k n)) 11 (first-head c (d ∷ []) e2))))
 
 -- so a reader that goes on is able to take it
 pub able : (s : List ℕ) (r : Record) (x : Progress) → Within (length s) x → x .number ≡ 0 → x .ended ≡ false → r ≡ recordFrom s (x .at) → Able (length s) r x

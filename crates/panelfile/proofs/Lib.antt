@@ -4,3 +4,4 @@ pub mod Fitting
 pub mod Stepping
 pub mod Sane
 pub mod Looping
+pub mod Ending

@@ -98,24 +98,24 @@ take-sane s z (Face a n) f h =
     by-cases (ltb n 3)
     (λ e. rw e (record { place = f .fits; drawn = h .drawn }))
     (λ e.
-      let d = z .drawn in
-      let ring = ringFrom s n a in
-      rw e
-      (limited-sane (length s) (ltb 4096 (cornerCount (d .faces) + n)) z (reader (a + 12 * n) 0 false (withFace ring d)) h
-      (λ g. record {
-        place = f .fits;
-        drawn = record {
-          few-positions = h .drawn .few-positions;
-          few-textures = h .drawn .few-textures;
-          few-normals = h .drawn .few-normals;
-          whole-positions = h .drawn .whole-positions;
-          whole-textures = h .drawn .whole-textures;
-          whole-normals = h .drawn .whole-normals;
-          few-corners = omega (arith, ltb-false 4096 (cornerCount (d .faces) + n) g, count-append (d .faces) (ring ∷ []), ring-length s n a);
-          are-rings = every-more isRing (d .faces) ring (h .drawn .are-rings) (ring-corners s n a);
-          are-sized = every-more sized (d .faces) ring (h .drawn .are-sized) (face-sized s n a (ltb-false n 3 e) (f .placed .1));
-        };
-      })))
+    let d = z .drawn in
+    let ring = ringFrom s n a in
+    rw e
+    (limited-sane (length s) (ltb 4096 (cornerCount (d .faces) + n)) z (reader (a + 12 * n) 0 false (withFace ring d)) h
+    (λ g. record {
+      place = f .fits;
+      drawn = record {
+        few-positions = h .drawn .few-positions;
+        few-textures = h .drawn .few-textures;
+        few-normals = h .drawn .few-normals;
+        whole-positions = h .drawn .whole-positions;
+        whole-textures = h .drawn .whole-textures;
+        whole-normals = h .drawn .whole-normals;
+        few-corners = omega (arith, ltb-false 4096 (cornerCount (d .faces) + n) g, count-append (d .faces) (ring ∷ []), ring-length s n a);
+        are-rings = every-more isRing (d .faces) ring (h .drawn .are-rings) (ring-corners s n a);
+        are-sized = every-more sized (d .faces) ring (h .drawn .are-sized) (face-sized s n a (ltb-false n 3 e) (f .placed .1));
+      };
+    })))
 take-sane s z End f h = record { place = f .fits; drawn = h .drawn }
 take-sane s z (Refused n) f h = record { place = h .place; drawn = h .drawn }
 
@@ -143,8 +143,14 @@ all-sane s = read-sane (suc (length s)) s (reader 0 0 false nothing)
     (record {
       place = omega arith;
       drawn = record {
-        few-positions = omega arith; few-textures = omega arith; few-normals = omega arith;
-        whole-positions = refl; whole-textures = refl; whole-normals = refl;
-        few-corners = omega arith; are-rings = refl; are-sized = refl;
+        few-positions = omega arith;
+        few-textures = omega arith;
+        few-normals = omega arith;
+        whole-positions = refl;
+        whole-textures = refl;
+        whole-normals = refl;
+        few-corners = omega arith;
+        are-rings = refl;
+        are-sized = refl;
       };
     })

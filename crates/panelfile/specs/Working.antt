@@ -10,7 +10,7 @@ use Rattle.grouping.specs.Push.{cornerCount}
 use Rattle.panelfile.specs.declared.Record.{Record}
 use Rattle.panelfile.specs.declared.Record.the-variants.{Position, Texture, Normal, Face, End, Refused}
 use Rattle.panelfile.specs.declared.Progress.{Progress}
-use Rattle.panelfile.specs.Reading.{Reader, take1}
+use Rattle.panelfile.specs.Reading.{Reader, take1, readAll}
 
 -- the cases of a record, in the order in which the steps look for them
 abbrev pub caseOf : Record → ℕ
@@ -102,3 +102,9 @@ pub record Full (p t n : List Float) (c s : List ℕ) : Type 0 where
   pub normals : 6144 ≤ length n
   pub corners : 12288 ≤ length c
   pub sizes : 1365 ≤ length s
+
+-- the reader's own lists hold what the whole file draws
+pub record Drawing (file : List ℕ) (x : Progress) (p t n : List Float) (c s : List ℕ) : Type 0 where
+  pub within : Within (length file) x
+  pub long : Long p t n c s
+  pub holds : Holds (readAll file) x p t n c s

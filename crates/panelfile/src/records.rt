@@ -4,7 +4,6 @@ ghost use mathlib.Core.Bool.{true, false, not};
 ghost use Prim.Native.Nat.{_+_, _≤_, _<_};
 ghost use lib.ListN.{length};
 ghost use Rattle.panelfile.specs.Records as records;
-
 use crate::Record;
 
 // The record at a place of the file: header cut 11, kind 12, length 12, body cut 11, then its body.

@@ -10,7 +10,6 @@ ghost use Rattle.lists.specs.Lists.{joined};
 ghost use Rattle.panelfile.specs.Records.{recordFrom};
 ghost use Rattle.panelfile.specs.Reading.{ringFrom};
 ghost use Rattle.panelfile.specs.Working.{caseOf, stoppedWith, Within, Able, Long, Stepped};
-
 use crate::Progress;
 use crate::Record;
 
@@ -107,7 +106,13 @@ fn step_normal(
 }
 
 // A face, or one of the cases after it.
-fn step_face(file: &[u8], r: Record, corners: &mut [u32], sizes: &mut [u32], x: Progress) -> Progress
+fn step_face(
+    file: &[u8],
+    r: Record,
+    corners: &mut [u32],
+    sizes: &mut [u32],
+    x: Progress,
+) -> Progress
     requires { ⌜ Able (length (now file)) r x × ((3 ≤ caseOf r) × ((length (now corners) ≡ 12288) × (length (now sizes) ≡ 1365))) ⌝ }
     ensures { λ y. ⌜ ((p t n : List Float) → Stepped (now (file .entry)) r x y p p t t n n (now (corners .entry)) (now (corners .exit)) (now (sizes .entry)) (now (sizes .exit))) ⌝ }
 {

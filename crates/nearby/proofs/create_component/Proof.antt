@@ -123,7 +123,8 @@ same-length-4 c = c .before .loop .inv .1 .left-long ∙ simp length-set
 
 returns : tie.Need-returns Inv-loop μ-loop
 returns c = record {
-  taken = c .before .loop .inv .0 .held; lowest = c .before .loop .inv .0 .lowest;
+  taken = c .before .loop .inv .0 .held;
+  lowest = c .before .loop .inv .0 .lowest;
   list = ended (c .before .loop .inv .0) (omega (arith, c .loop-test .left)) ∙ ap (λ (b : List ℕ). b ++ groupFrom (nearBy (c .before .before .before .before .before .before .before .before .args .t) (c .before .before .before .before .before .before .before .before .args .w) (now (c .before .before .before .before .before .before .before .before .args .s)) (now (c .before .before .before .before .before .before .before .before .args .cells))) (c .before .before .before .before .before .before .before .before .args .n) b (c .before .before .before .before .before .before .before .before .args .start)) (take-set-le (c .before .before .before .before .before .before .before .before .args .done) (now (c .before .before .before .before .before .before .before .before .args .order)) (c .before .before .before .before .before .before .before .before .args .done) (c .before .before .before .before .before .before .before .before .args .start) (le-refl (c .before .before .before .before .before .before .before .before .args .done)));
 }
 

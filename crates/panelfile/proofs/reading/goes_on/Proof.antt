@@ -1,3 +1,4 @@
+-- `panelfile::reading::goes_on` meets its contract: test by test. Assumes nothing.
 use borrow.Author.Needs.{needs}
 use Rattle.panelfile.proofs.reading.goes_on.Statement.{statement}
 use Rattle.panelfile.proofs.reading.goes_on.Tie as tie

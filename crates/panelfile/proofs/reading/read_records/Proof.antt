@@ -1,3 +1,4 @@
+-- `panelfile::reading::read_records` meets its contract: what is left to be read gives what the whole file gives; each record that is taken leaves fewer bytes. Assumes nothing.
 use mathlib.Core.Path.{sym, _∙_}
 use lib.ListN.{length}
 use Rattle.panelfile.proofs.Looping.{Underway, left, reading-begins, reading-turns, reading-falls, reading-ends, unrefused, unended}
