@@ -10,7 +10,7 @@ use Rattle.grouping.specs.Push.{cornerCount}
 use Rattle.panelfile.specs.declared.Record.{Record}
 use Rattle.panelfile.specs.declared.Record.the-variants.{Position, Texture, Normal, Face, End, Refused}
 use Rattle.panelfile.specs.declared.Progress.{Progress}
-use Rattle.panelfile.specs.Reading.{Reader, take1}
+use Rattle.panelfile.specs.Reading.{Reader, take1, readAll}
 
 -- the cases of a record, in the order in which the steps look for them
 abbrev pub caseOf : Record → ℕ
@@ -94,3 +94,17 @@ pub record Stepped (file : List ℕ) (r : Record) (x y : Progress) (p p' t t' n 
   pub within : Within (length file) y
   pub moved : y .number ≡ 0 → y .ended ≡ false → x .at < y .at
   pub taken : (z : Reader) → Holds z x p t n c s → Holds (take1 file z r) y p' t' n' c' s'
+
+-- lent lists at the full limits at least
+pub record Full (p t n : List Float) (c s : List ℕ) : Type 0 where
+  pub positions : 6144 ≤ length p
+  pub textures : 4096 ≤ length t
+  pub normals : 6144 ≤ length n
+  pub corners : 12288 ≤ length c
+  pub sizes : 1365 ≤ length s
+
+-- the reader's own lists hold what the whole file draws
+pub record Drawing (file : List ℕ) (x : Progress) (p t n : List Float) (c s : List ℕ) : Type 0 where
+  pub within : Within (length file) x
+  pub long : Long p t n c s
+  pub holds : Holds (readAll file) x p t n c s

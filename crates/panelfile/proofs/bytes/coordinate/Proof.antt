@@ -1,3 +1,4 @@
+-- `panelfile::bytes::coordinate` meets its contract: the f64 that the eight bytes stand for. Assumes nothing.
 use mathlib.Core.Path.{ap, _∙_}
 use lib.Ieee.{ofBits, binary64}
 use Rattle.panelfile.specs.Records.{coordinate}

@@ -1,3 +1,4 @@
+-- `panelfile::bytes::half` meets its contract: two bytes, the lower first; a byte is below 256. Assumes nothing.
 use Rattle.panelfile.specs.Records.{half}
 use native.Mathlib.Omega.{arith}
 use borrow.Author.Needs.{needs}

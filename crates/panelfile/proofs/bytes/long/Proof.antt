@@ -1,3 +1,4 @@
+-- `panelfile::bytes::long` meets its contract: two words, the lower first, which fit 64 bits. Assumes nothing.
 use Rattle.panelfile.specs.Records.{long}
 use native.Mathlib.Omega.{arith}
 use borrow.Author.Needs.{needs}

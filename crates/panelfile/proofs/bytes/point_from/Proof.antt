@@ -1,3 +1,4 @@
+-- `panelfile::bytes::point_from` meets its contract: three coordinates, one behind the other. Assumes nothing.
 use Rattle.panelfile.specs.Records.{pointFrom}
 use borrow.Author.Needs.{needs}
 use Rattle.panelfile.proofs.bytes.point_from.Statement.{statement}

@@ -1,3 +1,4 @@
+-- `panelfile::bytes::texel_from` meets its contract: two coordinates, one behind the other. Assumes nothing.
 use Rattle.panelfile.specs.Records.{texelFrom}
 use borrow.Author.Needs.{needs}
 use Rattle.panelfile.proofs.bytes.texel_from.Statement.{statement}

@@ -1,3 +1,4 @@
+-- `panelfile::bytes::word` meets its contract: two halves, the lower first, which fit 32 bits. Assumes nothing.
 use Rattle.panelfile.specs.Records.{word}
 use native.Mathlib.Omega.{arith}
 use borrow.Author.Needs.{needs}

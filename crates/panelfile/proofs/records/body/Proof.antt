@@ -1,3 +1,4 @@
+-- `panelfile::records::body` meets its contract: kind by kind; the length says that the body's bytes are there. Assumes nothing.
 use mathlib.Core.Path.{ap, _∙_, refl}
 use Rattle.panelfile.specs.declared.Record.the-variants.{Position, Texture, Normal}
 use Rattle.panelfile.specs.Records.{bodyFrom, lengthFits}

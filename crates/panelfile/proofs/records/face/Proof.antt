@@ -1,3 +1,4 @@
+-- `panelfile::records::face` meets its contract: the count against the length, then against 32. Assumes nothing.
 use Rattle.panelfile.proofs.Recorded.{face-unlike, face-many, face-good}
 use borrow.Author.Needs.{needs}
 use Rattle.panelfile.proofs.records.face.Statement.{statement}

@@ -1,3 +1,4 @@
+-- `panelfile::records::misfits` meets its contract: kind by kind. Assumes nothing.
 use mathlib.Core.Path.{sym, ap}
 use mathlib.Core.Bool.{not}
 use borrow.Author.Tests.{le-leb, lt-leb}

@@ -1,3 +1,4 @@
+-- `panelfile::records::number_of` meets its contract: a refusal carries its number, every other answer stands for 0. Assumes nothing.
 use Rattle.panelfile.proofs.Recorded.{not-refused}
 use borrow.Author.Needs.{needs}
 use Rattle.panelfile.proofs.records.number_of.Statement.{statement}

@@ -1,3 +1,4 @@
+-- `panelfile::records::record_at` meets its contract: row by row: header, kind, length, body, and then the body's own answer. Assumes nothing.
 use mathlib.Core.Path.{sym, _∙_}
 use borrow.Author.Tests.{not-false}
 use Rattle.panelfile.proofs.Recorded.{header-cut, kind-unknown, length-wrong, body-cut, body-whole}

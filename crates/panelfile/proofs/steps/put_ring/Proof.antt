@@ -1,3 +1,4 @@
+-- `panelfile::steps::put_ring` meets its contract: of the n corners the first k are written, and k rises to all of them. Assumes nothing.
 use Prim.Native.Nat.{_-_}
 use lib.ListN.{length-set}
 use Rattle.panelfile.proofs.Ringing.{Ringing, ringing-begins, ringing-turns, ringing-ends}

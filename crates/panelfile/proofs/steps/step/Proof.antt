@@ -1,3 +1,4 @@
+-- `panelfile::steps::step` meets its contract: a position is drawn or stops at the limit; every other case is the next function's. Assumes nothing.
 use Rattle.panelfile.proofs.Stepping.{stepped-at, after-position, position-stop, position-step}
 use mathlib.Core.Path.{subst}
 use Prim.Native.Nat.{_≤_}

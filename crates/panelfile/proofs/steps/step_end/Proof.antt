@@ -1,3 +1,4 @@
+-- `panelfile::steps::step_end` meets its contract: the end record ends the reading, and what is left is a refusal, which stops it with its number. Assumes nothing.
 use mathlib.Core.Path.{subst}
 use Prim.Native.Nat.{_+_, _≤_}
 use Rattle.panelfile.specs.declared.Record.{Record}

@@ -1,3 +1,4 @@
+-- `panelfile::steps::step_face` meets its contract: a face is dropped, stops at the limit or is drawn; every other case is the next function's. Assumes nothing.
 use mathlib.Core.Path.{refl, subst}
 use Prim.Native.Nat.{_≤_}
 use lib.ListN.{length}

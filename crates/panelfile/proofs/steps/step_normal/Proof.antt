@@ -1,3 +1,4 @@
+-- `panelfile::steps::step_normal` meets its contract: a normal is drawn or stops at the limit; every other case is the next function's. Assumes nothing.
 use mathlib.Core.Path.{subst}
 use Prim.Native.Nat.{_≤_}
 use lib.ListN.{length}
