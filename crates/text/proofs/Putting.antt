@@ -1,6 +1,6 @@
 -- Texts that are put one behind the other. Assumes nothing.
 use mathlib.Core.Path.{_≡_, refl, sym, ap, _∙_}
-use mathlib.Core.List.{List, [], _∷_, _++_, map, map-append, append-nil}
+use mathlib.Core.List.{List, [], _∷_, _++_, map, append-nil}
 use Prim.Native.Nat.{ℕ, _+_, _/_, _%_, _≤_, _<_}
 use native.Mathlib.Nat.{add-zero}
 use native.Mathlib.Numerals.{add-one}
@@ -39,6 +39,13 @@ room-first a b o at r = record { fits = omega (arith, r .fits, length-append a b
 pub room-then : (a b o o1 : List ℕ) (at m : ℕ) → Room (a ++ b) o at → Written a o o1 at m → Room b o1 m
 room-then a b o o1 at m r w = record { fits = omega (arith, r .fits, length-append a b, w .next-is, written-long a o o1 at m w) }
 
+-- the same of an equal text
+pub room-as : {a b o : List ℕ} {at : ℕ} → a ≡ b → Room a o at → Room b o at
+room-as e r = rw e at r
+
+pub written-as : {a b o o′ : List ℕ} {at next : ℕ} → a ≡ b → Written b o o′ at next → Written a o o′ at next
+written-as e w = rw e w
+
 -- one byte
 pub written-one : (x : ℕ) (o : List ℕ) (at : ℕ) → Written (x ∷ []) o (set o at x) at (at + 1)
 written-one x o at = record { text-is = refl; next-is = refl }
@@ -73,44 +80,67 @@ pub written-number :
     (n : ℕ) (o o1 : List ℕ) (at next : ℕ) → Written (decimal n) (set o at 32) o1 (at + 1) next → Written (32 ∷ decimal n) o o1 at next
 written-number n o o1 at next w = written-then (32 ∷ []) (decimal n) o (set o at 32) o1 at (at + 1) next (written-one 32 o at) w
 
--- numbers, each behind a space: the first i of them are put
-abbrev spacedNumbers : List ℕ → List ℕ
-spacedNumbers ns = spaced (map decimal ns)
+-- a list whose elements are put one behind the other, each as the text f gives: the first i of them are there
+pub record Listing {A : Type 0} (f : A → List ℕ) (l : List A) (o o′ : List ℕ) (at to i : ℕ) : Type 0 where
+  pub within : i ≤ length l
+  pub put : Written (each f (take i l)) o o′ at to
 
-pub record Numbering (ns o o′ : List ℕ) (at to i : ℕ) : Type 0 where
-  pub within : i ≤ length ns
-  pub put : Written (spacedNumbers (take i ns)) o o′ at to
+module _ {A : Type 0} (d : A) (f : A → List ℕ) (l : List A) (o : List ℕ) (at : ℕ) where
+  pub listing-begins : Listing f l o o at at 0
+  listing-begins = record { within = omega arith; put = written-none o at }
 
-pub numbering-begins : (ns o : List ℕ) (at : ℕ) → Numbering ns o o at at 0
-numbering-begins ns o at = record { within = omega arith; put = written-none o at }
+  one-more : (i : ℕ) → i < length l → each f (take (i + 1) l) ≡ each f (take i l) ++ f (getD l i d)
+  one-more i h =
+      rw (add-one i, take-suc l i d h)
+      (each-append f (take i l) (getD l i d ∷ []) ∙ ap (λ (t : List ℕ). each f (take i l) ++ t) (append-nil (f (getD l i d))))
 
-spaced-step : (ns : List ℕ) (i : ℕ) → i < length ns → spacedNumbers (take (i + 1) ns) ≡ spacedNumbers (take i ns) ++ (32 ∷ decimal (getD ns i 0))
-spaced-step ns i h =
-    rw (add-one i, take-suc ns i 0 h, map-append)
-    (each-append (λ (w : List ℕ). 32 ∷ w) (map decimal (take i ns)) (decimal (getD ns i 0) ∷ [])
-    ∙ ap (λ (l : List ℕ). spacedNumbers (take i ns) ++ (32 ∷ l)) (append-nil (decimal (getD ns i 0))))
+  two-parts : (i : ℕ) → each f l ≡ each f (take i l) ++ each f (drop i l)
+  two-parts i = ap (each f) (sym (take-append-drop i l)) ∙ each-append f (take i l) (drop i l)
 
-spaced-split : (ns : List ℕ) (i : ℕ) → spacedNumbers ns ≡ spacedNumbers (take i ns) ++ spacedNumbers (drop i ns)
-spaced-split ns i =
-    ap spacedNumbers (sym (take-append-drop i ns))
-    ∙ ap spaced (map-append decimal (take i ns) (drop i ns))
-    ∙ each-append (λ (w : List ℕ). 32 ∷ w) (map decimal (take i ns)) (map decimal (drop i ns))
+  -- there is room for the next element
+  pub listing-room : (o′ : List ℕ) (to i : ℕ) → i < length l → Room (each f l) o at → Listing f l o o′ at to i → Room (f (getD l i d)) o′ to
+  listing-room o′ to i h r n =
+      room-then (each f (take i l)) (f (getD l i d)) o o′ at to
+      (rw (one-more i h) at (room-first (each f (take (i + 1) l)) (each f (drop (i + 1) l)) o at (rw (two-parts (i + 1)) at r)))
+      (n .put)
 
-pub numbering-room :
-    (ns o o′ : List ℕ) (at to i : ℕ) → i < length ns → Room (spacedNumbers ns) o at → Numbering ns o o′ at to i
-    → Room (32 ∷ decimal (getD ns i 0)) o′ to
-numbering-room ns o o′ at to i h r n =
-    room-then (spacedNumbers (take i ns)) (32 ∷ decimal (getD ns i 0)) o o′ at to
-    (rw (spaced-step ns i h) at (room-first (spacedNumbers (take (i + 1) ns)) (spacedNumbers (drop (i + 1) ns)) o at (rw (spaced-split ns (i + 1)) at r)))
-    (n .put)
+  pub listing-turns :
+      (o′ o″ : List ℕ) (to next i : ℕ) → i < length l → Listing f l o o′ at to i → Written (f (getD l i d)) o′ o″ to next
+      → Listing f l o o″ at next (i + 1)
+  listing-turns o′ o″ to next i h n w = record {
+    within = omega arith;
+    put = rw (one-more i h) (written-then (each f (take i l)) (f (getD l i d)) o o′ o″ at to next (n .put) w);
+  }
 
-pub numbering-turns :
-    (ns o o′ o″ : List ℕ) (at to next i : ℕ) → i < length ns → Numbering ns o o′ at to i
-    → Written (32 ∷ decimal (getD ns i 0)) o′ o″ to next → Numbering ns o o″ at next (i + 1)
-numbering-turns ns o o′ o″ at to next i h n w = record {
-  within = omega arith;
-  put = rw (spaced-step ns i h) (written-then (spacedNumbers (take i ns)) (32 ∷ decimal (getD ns i 0)) o o′ o″ at to next (n .put) w);
-}
+  pub listing-ends : (o′ : List ℕ) (to i : ℕ) → length l ≤ i → Listing f l o o′ at to i → Written (each f l) o o′ at to
+  listing-ends o′ to i h n = rw (take-all i l h) at (n .put)
 
-pub numbering-ends : (ns o o′ : List ℕ) (at to i : ℕ) → length ns ≤ i → Numbering ns o o′ at to i → Written (spacedNumbers ns) o o′ at to
-numbering-ends ns o o′ at to i h n = rw (take-all i ns h) at (n .put)
+-- numbers, each behind a space
+abbrev pub numberText : ℕ → List ℕ
+numberText n = 32 ∷ decimal n
+
+pub spaced-numbers : (ns : List ℕ) → spaced (map decimal ns) ≡ each numberText ns
+spaced-numbers [] = refl
+spaced-numbers (n ∷ ns) = ap (λ (l : List ℕ). numberText n ++ l) (spaced-numbers ns)
+
+-- a line: a word a, what follows it, b, and the line feed
+pub room-word : (a b o : List ℕ) (at : ℕ) → Room (a ++ b ++ 10 ∷ []) o at → Room a o at
+room-word a b o at r = room-first a b o at (room-first (a ++ b) (10 ∷ []) o at r)
+
+pub room-rest : (a b o o1 : List ℕ) (at m : ℕ) → Room (a ++ b ++ 10 ∷ []) o at → Written a o o1 at m → Room b o1 m
+room-rest a b o o1 at m r w = room-then a b o o1 at m (room-first (a ++ b) (10 ∷ []) o at r) w
+
+pub room-feed :
+    (a b o o1 o2 : List ℕ) (at m next : ℕ) → Room (a ++ b ++ 10 ∷ []) o at → Written a o o1 at m → Written b o1 o2 m next
+    → (next + 1 ≤ length o) × (length o2 ≡ length o)
+room-feed a b o o1 o2 at m next r v w =
+    let both : Written (a ++ b) o o2 at next = written-then a b o o1 o2 at m next v w in
+    let l : Room (10 ∷ []) o2 next = room-then (a ++ b) (10 ∷ []) o o2 at next r both in
+    let n : length o2 ≡ length o = written-long (a ++ b) o o2 at next both in
+    (omega (arith, l .fits), n)
+
+pub written-line :
+    (a b o o1 o2 : List ℕ) (at m next : ℕ) → Written a o o1 at m → Written b o1 o2 m next
+    → Written (a ++ b ++ 10 ∷ []) o (set o2 next 10) at (next + 1)
+written-line a b o o1 o2 at m next v w =
+    written-then (a ++ b) (10 ∷ []) o o2 (set o2 next 10) at next (next + 1) (written-then a b o o1 o2 at m next v w) (written-one 10 o2 next)

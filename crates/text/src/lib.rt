@@ -1,11 +1,22 @@
-// Text written to a lent list of bytes: words, decimal numbers and the ends of lines.
+// Text written to a lent list of bytes: words, decimal numbers and lines of them.
 //
 // Each call takes the place to write at and answers the place behind what it wrote, so that texts are put one behind the other.
 // The definitions that a caller cites stand in specs/Text.antt.
 ghost use mathlib.Core.Path.{_≡_};
-ghost use mathlib.Core.List.{[], _∷_, map};
+ghost use mathlib.Core.List.{[], _∷_, _++_, map};
 ghost use Prim.Native.Nat.{_<_};
 ghost use Rattle.text.specs.Text.{digitByte, decimal, spaced, Room, Written};
+
+// A line: a word, the numbers `ns`, each behind a space, and a line feed.
+pub fn put_line(word: &[u8], ns: &[u32], out: &mut [u8], at: usize) -> usize
+    requires { ⌜ Room (now word ++ spaced (map decimal (now ns)) ++ 10 ∷ []) (now out) at ⌝ }
+    ensures { λ r. ⌜ Written (now (word .entry) ++ spaced (map decimal (now (ns .entry))) ++ 10 ∷ []) (now (out .entry)) (now (out .exit)) at r ⌝ }
+{
+    let start = put_bytes(word, out, at);
+    let end = put_numbers(ns, out, start);
+    out[end] = 10;
+    end + 1
+}
 
 // The bytes of `text`.
 pub fn put_bytes(text: &[u8], out: &mut [u8], at: usize) -> usize
@@ -21,21 +32,21 @@ pub fn put_bytes(text: &[u8], out: &mut [u8], at: usize) -> usize
 }
 
 // The numbers `ns`, each behind a space.
-pub fn put_numbers(ns: &[u32], out: &mut [u8], at: usize) -> usize
+fn put_numbers(ns: &[u32], out: &mut [u8], at: usize) -> usize
     requires { ⌜ Room (spaced (map decimal (now ns))) (now out) at ⌝ }
     ensures { λ r. ⌜ Written (spaced (map decimal (now (ns .entry)))) (now (out .entry)) (now (out .exit)) at r ⌝ }
 {
     let mut to = at;
     let mut i: usize = 0;
     while i < ns.len() {
-        to = put_number(wide(ns[i]), out, to);
+        to = put_number(ns[i], out, to);
         i += 1;
     }
     to
 }
 
 // A number behind a space.
-pub fn put_number(n: usize, out: &mut [u8], at: usize) -> usize
+fn put_number(n: u32, out: &mut [u8], at: usize) -> usize
     requires { ⌜ Room (32 ∷ decimal n) (now out) at ⌝ }
     ensures { λ r. ⌜ Written (32 ∷ decimal n) (now (out .entry)) (now (out .exit)) at r ⌝ }
 {
@@ -43,8 +54,8 @@ pub fn put_number(n: usize, out: &mut [u8], at: usize) -> usize
     put_decimal(n, out, at + 1)
 }
 
-// The decimal digits of n: those of a tenth of it, cut, and then its last one.
-pub fn put_decimal(n: usize, out: &mut [u8], at: usize) -> usize
+// The decimal digits of n: those of its tenth, cut, and then its last one.
+fn put_decimal(n: u32, out: &mut [u8], at: usize) -> usize
     requires { ⌜ Room (decimal n) (now out) at ⌝ }
     ensures { λ r. ⌜ Written (decimal n) (now (out .entry)) (now (out .exit)) at r ⌝ }
 {
@@ -57,24 +68,9 @@ pub fn put_decimal(n: usize, out: &mut [u8], at: usize) -> usize
     last + 1
 }
 
-// The end of a line.
-pub fn end_line(out: &mut [u8], at: usize) -> usize
-    requires { ⌜ Room (10 ∷ []) (now out) at ⌝ }
-    ensures { λ r. ⌜ Written (10 ∷ []) (now (out .entry)) (now (out .exit)) at r ⌝ }
-{
-    out[at] = 10;
-    at + 1
-}
-
-fn digit(d: usize) -> u8
+fn digit(d: u32) -> u8
     requires { ⌜ d < 10 ⌝ }
     ensures { λ r. ⌜ r ≡ digitByte d ⌝ }
 {
     48 + d as u8
-}
-
-fn wide(x: u32) -> usize
-    ensures { λ r. ⌜ r ≡ x ⌝ }
-{
-    x as usize
 }
