@@ -37,17 +37,19 @@ fn merged<const WIDTH: usize>(points: &[[f64; WIDTH]], tolerance: f64) -> (Vec<u
     let mut near = vec![vec![]; points.len()];
     let mut pairs = 0;
     for i in 0..points.len() {
-        for j in 0..points.len() {
-            if i == j || !are_compared(&cells[i], &cells[j]) {
+        for j in i + 1..points.len() {
+            if !are_compared(&cells[i], &cells[j]) {
                 continue;
             }
             pairs += 1;
             if squared_distance(&points[i], &points[j]) < tolerance * tolerance {
                 near[i].push(j);
+                near[j].push(i);
             }
         }
     }
-    (representatives(points, &near), pairs / 2)
+    // Each list of near points is ascending: those below i came while i was the higher of the two.
+    (representatives(points, &near), pairs)
 }
 
 /// Two points are compared when their cells differ by at most 2 on every axis.
