@@ -6,23 +6,33 @@ use judge::{reading, rust, Answer, Call, Count, Numbers, Question};
 /// A change to what the product answered, before it is compared: see `slips`.
 pub type Slip<'a> = &'a dyn Fn(&mut Asked, &Question, &Answer);
 
-/// What is wrong, in words; none where all agree. The answer of document 01's reading comes with it.
-pub fn compare(product: &dyn Product, call: Call, question: &Question, slip: Option<Slip>) -> (Answer, Option<String>) {
+/// How a comparison came out.
+pub struct Compared {
+    /// What document 01's reading answers.
+    pub right: Answer,
+    /// Whether the Rust, untouched or ascending, was asked too.
+    pub with_rust: bool,
+    /// What is wrong, in words; none where all agree.
+    pub difference: Option<String>,
+}
+
+/// Asks the reading, the Rust and the product.
+pub fn compare(product: &dyn Product, call: Call, question: &Question, slip: Option<Slip>) -> Compared {
     let right = reading::answer(call, question);
-    for (name, other) in rust_answers(call, question, &right) {
+    let rust = rust_answers(call, question, &right);
+    let with_rust = !rust.is_empty();
+    for (name, other) in rust {
         if let Some(difference) = between(&right, &other) {
-            return (right, Some(format!("{name} and document 01 differ: {difference}")));
+            let difference = Some(format!("{name} and document 01 differ: {difference}"));
+            return Compared { right, with_rust, difference };
         }
-    }
-    if !product.has(call) {
-        return (right, None);
     }
     let mut asked = product.ask(call, question);
     if let Some(slip) = slip {
         slip(&mut asked, question, &right);
     }
     let difference = difference(&asked, &right).map(|difference| format!("the product differs: {difference}"));
-    (right, difference)
+    Compared { right, with_rust, difference }
 }
 
 /// The Rust's answers, where it has one.
@@ -37,7 +47,7 @@ fn rust_answers(call: Call, question: &Question, right: &Answer) -> Vec<(&'stati
 
 /// Whether the Rust is asked: it knows no refusal but an index out of range, and its merging takes so long where many points lie close
 /// that it is asked the less often the more there are.
-pub fn rust_is_asked(call: Call, question: &Question, right: &Answer) -> bool {
+fn rust_is_asked(call: Call, question: &Question, right: &Answer) -> bool {
     match call {
         Call::MeshNumber => [0, 5].contains(&right.number),
         Call::Face => reading::numbers::mesh_number(&question.mesh) == 0,

@@ -79,7 +79,7 @@ fn anything_ordinary(random: &Random) -> f64 {
 /// Numbers at the edges of the table.
 fn edge(random: &Random, step: f64) -> f64 {
     let (most, cells) = (2f64.powi(60), 2f64.powi(53));
-    let next = |x: f64, by: i64| f64::from_bits((x.to_bits() as i64 + by) as u64);
+    let next = |x: f64, by: i64| f64::from_bits(x.to_bits().wrapping_add(by as u64));
     let edges = [
         0.0,
         5e-324,

@@ -48,6 +48,9 @@ fn records(random: &Random, mesh: &Mesh) -> Vec<Vec<u8>> {
             records.push(face(&[random.pick(&[0, 1, MISSING, 2_048]); 6][..3 * few]));
         }
     }
+    if random.once_in(16) {
+        records.push(face(&vec![0; 3 * random.pick(&[31, 32, 33, 34, 255])]));
+    }
     records
 }
 

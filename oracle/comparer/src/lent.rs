@@ -87,14 +87,6 @@ impl Lent {
         }
     }
 
-    pub fn room(&self) -> usize {
-        match self {
-            Lent::Floats(list) => list.room(),
-            Lent::Words(list) => list.room(),
-            Lent::Bytes(list) => list.room(),
-        }
-    }
-
     /// Pointer and length, as the C interface takes them.
     pub fn floats(&mut self) -> (*mut f64, usize) {
         match self {

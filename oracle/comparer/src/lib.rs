@@ -2,7 +2,7 @@
 //!
 //! `library` asks the product, with lent lists that are filled with a pattern (`lent`); `check` holds what came back to the judge's
 //! answer. `meshes`, `shapes`, `coordinates`, `damage` and `files` make what is asked. A difference is made small by `shrink` and
-//! printed by `show`. `slips` and `wrong` show that the comparer can fail.
+//! printed by `show`. `slips`, `wrong` and `wrong_merging` show that the comparer can fail.
 
 mod check;
 mod coordinates;
@@ -19,7 +19,10 @@ mod show;
 mod shrink;
 mod slips;
 mod tally;
+#[cfg(test)]
+mod tests;
 mod wrong;
+mod wrong_merging;
 
 pub use library::{Library, Watch};
 pub use run::run;

@@ -3,15 +3,7 @@
 use judge::Call;
 use std::time::{SystemTime, UNIX_EPOCH};
 
-pub const USAGE: &str = "\
-./compare [COUNT]      every small mesh, and COUNT random ones (100,000), by every call that the library has
-./compare --files N    N random, damaged and cut panel files to the reader and to the sheet
-./compare --self-test  plants slips in the product's answers, and reports each one found
-  --seed N             the seed, as printed by an earlier run
-  --only CALL          one call, by its name in the C interface without bh_
-  --at I               only the mesh (or file) with this index, as printed beside a difference
-  --random             leave out the small meshes that are gone through one by one
-  --reading            document 01's reading in the place of the product's library";
+pub const USAGE: &str = include_str!("../usage.txt");
 
 pub struct Options {
     pub count: u64,

@@ -17,7 +17,7 @@ pub fn run(library: Option<&Library>, watch: Watch, words: Vec<String>) -> i32 {
     let options = match Options::read(words) {
         Ok(options) => options,
         Err(why) => {
-            eprintln!("compare: {why}\n{USAGE}");
+            eprint!("compare: {why}\n{USAGE}");
             return 2;
         }
     };
@@ -34,8 +34,9 @@ pub fn run(library: Option<&Library>, watch: Watch, words: Vec<String>) -> i32 {
     if options.self_test {
         return slips::run(product, &calls, options.seed);
     }
-    let mut tally = Tally::default();
+    let mut tally = Tally::new();
     for index in indices(&options) {
+        tell_progress(index, &indices(&options));
         if let Err(report) = one(product, watch, &calls, &options, index, &mut tally) {
             println!("{report}");
             return 1;
@@ -66,6 +67,14 @@ fn indices(options: &Options) -> std::ops::Range<u64> {
     options.at.map_or(from..small + options.count, |at| at..at + 1)
 }
 
+/// Says on standard error how far a long run is.
+fn tell_progress(index: u64, all: &std::ops::Range<u64>) {
+    let (done, tenth) = (index - all.start, (all.end - all.start) / 10);
+    if tenth >= 1_000 && done > 0 && done % tenth == 0 {
+        eprintln!("{}0% compared", done / tenth);
+    }
+}
+
 /// Puts one mesh or one file to all calls.
 fn one(
     product: &dyn Product, watch: Watch, calls: &[Call], options: &Options, index: u64, tally: &mut Tally,
@@ -78,9 +87,9 @@ fn one(
             None => continue,
         };
         tell(watch, *call, index);
-        let (answer, difference) = compare(product, *call, &question, None);
-        tally.add(*call, &question, &answer);
-        if let Some(difference) = difference {
+        let compared = compare(product, *call, &question, None);
+        tally.add(*call, &question, &compared);
+        if let Some(difference) = compared.difference {
             return Err(report(product, *call, &question, index, &difference));
         }
     }
@@ -134,8 +143,8 @@ fn tell(watch: Watch, call: Call, index: u64) {
 
 /// A difference in words, with the smallest question that shows it.
 fn report(product: &dyn Product, call: Call, question: &Question, index: u64, difference: &str) -> String {
-    let smallest = shrink::shrink(call, question, &|candidate| compare(product, call, candidate, None).1.is_some());
-    let why = compare(product, call, &smallest, None).1.unwrap_or_default();
+    let smallest = shrink::shrink(call, question, &|candidate| compare(product, call, candidate, None).difference.is_some());
+    let why = compare(product, call, &smallest, None).difference.unwrap_or_default();
     format!(
         "DIFFERENCE in {}, found at index {index}: {difference}\nthe smallest that shows one: {why}\n{}",
         call.name(),

@@ -27,6 +27,7 @@ pub fn shrink(call: Call, question: &Question, differs: &dyn Fn(&Question) -> bo
             shrinker.faces();
             shrinker.corners();
             shrinker.raw_lists();
+            shrinker.sizes();
             shrinker.entries();
             shrinker.indices();
             shrinker.numbers();
@@ -146,6 +147,30 @@ impl Shrinker<'_> {
         list!(normals);
         list!(corners);
         list!(sizes);
+    }
+
+    /// Joins two sizes, and takes corners from a size and from the corners alike.
+    fn sizes(&mut self) {
+        let mut i = 0;
+        while i < self.best.mesh.sizes.len() {
+            let mut mesh = self.best.mesh.clone();
+            let size = mesh.sizes.remove(i);
+            if let Some(before) = mesh.sizes.get_mut(i.wrapping_sub(1)) {
+                *before = before.wrapping_add(size);
+                if self.attempt_mesh(mesh) {
+                    continue;
+                }
+            }
+            let mut less = (size as usize).min(self.best.mesh.corner_count());
+            while less > 0 {
+                let mut mesh = self.best.mesh.clone();
+                mesh.sizes[i] -= less.min(mesh.sizes[i] as usize) as u32;
+                mesh.corners.truncate(mesh.corners.len().saturating_sub(3 * less));
+                self.attempt_mesh(mesh);
+                less /= 2;
+            }
+            i += 1;
+        }
     }
 
     /// Leaves out entries; an index of one of them becomes missing, or 0 for a position.

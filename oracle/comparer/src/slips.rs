@@ -105,6 +105,6 @@ fn found(product: &dyn Product, call: Call, seed: u64, slip: Option<Slip>, patie
     (1..=patience).find(|count| {
         let random = Random::of(seed, *count);
         let subject = subject(&random, call.reads_a_file(), meshes::exhaustive_count() + count);
-        question(&random, call, &subject).map_or(false, |question| compare(product, call, &question, slip).1.is_some())
+        question(&random, call, &subject).map_or(false, |question| compare(product, call, &question, slip).difference.is_some())
     })
 }

@@ -1,78 +1,99 @@
 //! What was compared, in numbers.
 
-use judge::{Answer, Call, Count, Numbers, Question};
+use crate::check::Compared;
+use judge::{Call, Count, Numbers, Question};
 
 /// The numbers of the table.
 const NUMBERS: usize = 14;
 
-#[derive(Default)]
+/// What one call was asked.
+#[derive(Clone, Default)]
+struct Asked {
+    by_number: [u64; NUMBERS],
+    /// Questions that the Rust was asked too.
+    with_rust: u64,
+    /// Questions whose answer shows something: see `shows`.
+    telling: u64,
+    /// The most corners and the most points of a mesh that the Rust was asked about.
+    corners: usize,
+    points: usize,
+}
+
 pub struct Tally {
-    by_number: Vec<(Call, [u64; NUMBERS])>,
+    calls: Vec<Asked>,
     verdicts: [u64; 4],
-    compacted: u64,
-    unfolded: u64,
-    merged: u64,
-    several_wires: u64,
-    several_panels: u64,
-    largest: usize,
 }
 
 impl Tally {
-    pub fn add(&mut self, call: Call, question: &Question, answer: &Answer) {
-        if !self.by_number.iter().any(|(known, _)| *known == call) {
-            self.by_number.push((call, [0; NUMBERS]));
+    pub fn new() -> Tally { Tally { calls: vec![Asked::default(); Call::ALL.len()], verdicts: [0; 4] } }
+
+    pub fn add(&mut self, call: Call, question: &Question, compared: &Compared) {
+        let asked = &mut self.calls[call as usize];
+        let mesh = &question.mesh;
+        asked.by_number[compared.right.number as usize] += 1;
+        asked.with_rust += compared.with_rust as u64;
+        if compared.with_rust {
+            asked.corners = asked.corners.max(mesh.corner_count());
+            asked.points = asked.points.max(mesh.positions.len() / 3 + mesh.textures.len() / 2 + mesh.normals.len() / 3);
         }
-        let (_, numbers) = self.by_number.iter_mut().find(|(known, _)| *known == call).unwrap();
-        numbers[answer.number as usize] += 1;
-        if answer.number != 0 || call == Call::Face || call.reads_a_file() {
+        if compared.right.number != 0 {
             return;
         }
-        self.largest = self.largest.max(question.mesh.corner_count());
-        let count = |i: usize| match answer.counts[i] {
-            Count::Is(count) => count as usize,
-            Count::Untouched => 0,
-        };
-        let changes = |corners: &[u32]| answer.lists.first().map_or(false, |list| matches!(list, Numbers::Words(new) if new != corners));
-        match call {
-            Call::RemoveUnusedAttrs => self.compacted += changes(&question.mesh.corners) as u64,
-            Call::RemoveDegenerateFaces => self.unfolded += changes(&question.mesh.corners) as u64,
-            Call::PutTogetherSameAttrs => self.merged += changes(&question.mesh.corners) as u64,
-            Call::ShellCondition => self.verdicts[count(0)] += 1,
-            Call::HouseWires => self.several_wires += (count(1) > 1) as u64,
-            Call::Components => self.several_panels += (count(1) > 1) as u64,
-            _ => {}
+        asked.telling += is_telling(call, question, compared) as u64;
+        if call == Call::ShellCondition {
+            self.verdicts[count(compared, 0) as usize] += 1;
         }
     }
 
-    pub fn questions(&self) -> u64 { self.by_number.iter().map(|(_, numbers)| numbers.iter().sum::<u64>()).sum() }
+    pub fn questions(&self) -> u64 { self.calls.iter().map(|asked| asked.by_number.iter().sum::<u64>()).sum() }
 
     pub fn print(&self) {
         println!("questions, by the number answered:");
-        for (call, numbers) in &self.by_number {
+        for (call, asked) in Call::ALL.iter().zip(&self.calls).filter(|(_, asked)| asked.by_number.iter().sum::<u64>() > 0) {
             let answered: Vec<String> =
-                (0..NUMBERS).filter(|n| numbers[*n] > 0).map(|n| format!("{n}: {}", grouped(numbers[n]))).collect();
+                (0..NUMBERS).filter(|n| asked.by_number[*n] > 0).map(|n| format!("{n}: {}", grouped(asked.by_number[n]))).collect();
             println!("  {:<24}{}", call.name(), answered.join("  "));
-        }
-        let [irregular, regular, oriented, closed] = self.verdicts.map(grouped);
-        let asked = |call: Call| self.by_number.iter().any(|(known, _)| *known == call);
-        if asked(Call::ShellCondition) {
-            println!("verdicts: Irregular {irregular}, Regular {regular}, Oriented {oriented}, Closed {closed}");
-        }
-        let rest = [
-            (Call::RemoveUnusedAttrs, "compactions that renumbered", self.compacted),
-            (Call::RemoveDegenerateFaces, "removals that removed", self.unfolded),
-            (Call::PutTogetherSameAttrs, "mergings that merged", self.merged),
-            (Call::HouseWires, "meshes with several house wires", self.several_wires),
-            (Call::Components, "meshes with several panels", self.several_panels),
-        ];
-        for (call, what, count) in rest {
-            if asked(call) {
-                println!("{what}: {}", grouped(count));
+            if asked.with_rust > 0 {
+                let (corners, points) = (grouped(asked.corners as u64), grouped(asked.points as u64));
+                println!("  {:<26}the Rust asked too: {}; up to {corners} corners and {points} points", "", grouped(asked.with_rust));
+            }
+            if let Some(what) = shows(*call) {
+                println!("  {:<26}{what}: {}", "", grouped(asked.telling));
+            }
+            if *call == Call::ShellCondition {
+                let [irregular, regular, oriented, closed] = self.verdicts.map(grouped);
+                println!("  {:<26}Irregular {irregular}, Regular {regular}, Oriented {oriented}, Closed {closed}", "");
             }
         }
-        if self.largest > 0 {
-            println!("corners of the largest accepted mesh: {}", grouped(self.largest as u64));
+    }
+}
+
+fn count(compared: &Compared, i: usize) -> u64 {
+    match compared.right.counts[i] {
+        Count::Is(count) => count,
+        Count::Untouched => 0,
+    }
+}
+
+/// What an answer may show, in words.
+fn shows(call: Call) -> Option<&'static str> {
+    match call {
+        Call::RemoveUnusedAttrs => Some("renumbered"),
+        Call::RemoveDegenerateFaces => Some("removed or split"),
+        Call::PutTogetherSameAttrs => Some("merged"),
+        Call::ExtractBoundaries | Call::HouseWires => Some("several wires"),
+        Call::Components => Some("several panels"),
+        _ => None,
+    }
+}
+
+fn is_telling(call: Call, question: &Question, compared: &Compared) -> bool {
+    match call {
+        Call::RemoveUnusedAttrs | Call::RemoveDegenerateFaces | Call::PutTogetherSameAttrs => {
+            matches!(&compared.right.lists[0], Numbers::Words(corners) if *corners != question.mesh.corners)
         }
+        Call::ExtractBoundaries | Call::HouseWires | Call::Components => count(compared, 1) > 1,
+        _ => false,
     }
 }
 

@@ -1,7 +1,9 @@
 //! Wrong answers that look right: what a product with one misreading of document 01 would say.
 
 use judge::mesh::{Corner, Merged, Unfolded, Verdict};
-use judge::reading::{cleaning, edges, merging, numbers, panel_file, panels};
+use crate::wrong_merging::{merging, Misread};
+use judge::reading::merging::put_together_same_attrs;
+use judge::reading::{cleaning, edges, numbers, panel_file, panels};
 use judge::{Answer, Call, Count, Mesh, Numbers, Question, MISSING};
 use std::collections::{BTreeMap, BTreeSet};
 
@@ -27,6 +29,12 @@ pub fn answers(call: Call) -> &'static [(&'static str, Wrong)] {
             ("positions merged raw", raw_positions),
             ("texture points passed over", textures_kept),
             ("cells rounded to the nearest", rounded_cells),
+            ("cells rounded down", |q, right| accepted(right, || merging(q, Misread::CellRoundedDown))),
+            ("points at the tolerance are near", |q, right| accepted(right, || merging(q, Misread::NearAtTheTolerance))),
+            ("the last of equal distances", |q, right| accepted(right, || merging(q, Misread::LastOfEquals))),
+            ("a walk without a stack", |q, right| accepted(right, || merging(q, Misread::WalkInOrder))),
+            ("groups that are not connected", |q, right| accepted(right, || merging(q, Misread::NotConnected))),
+            ("distances to the lowest point", |q, right| accepted(right, || merging(q, Misread::NoCentre))),
         ],
         Call::ShellCondition => &[
             ("uses counted modulo two", |q, right| accepted(right, || Answer::verdict(verdict_modulo_two(&q.mesh)))),
@@ -45,7 +53,8 @@ pub fn answers(call: Call) -> &'static [(&'static str, Wrong)] {
         Call::Components => &[
             ("normals looked at without the setting", |q, right| accepted(right, || Answer::rows(&panels::components(&q.mesh, true)))),
             ("a missing normal like normal 0", missing_normal_is_0),
-            ("neighbours in ascending order", |q, right| accepted(right, || ascending_panels(right))),
+            ("a panel's faces in ascending order", |_, right| accepted(right, || ascending_panels(right))),
+            ("joined to the last face that had the key", |q, right| accepted(right, || joined_to_the_last(q))),
         ],
         Call::ReadPanel => &[
             ("an index asked before bytes after the end", index_before_13),
@@ -137,7 +146,7 @@ fn raw_positions(question: &Question, right: &Answer) -> Option<Answer> {
     if right.number != 0 || numbers::merging_number(&mesh, question.tolerance) != 0 {
         return None;
     }
-    let raw: Merged = merging::put_together_same_attrs(&mesh, question.tolerance);
+    let raw: Merged = put_together_same_attrs(&mesh, question.tolerance);
     let mut new = words(right).to_vec();
     (0..new.len()).step_by(3).for_each(|i| new[i] = raw.corners[i + 2]);
     let mut answer = right.clone();
@@ -193,11 +202,13 @@ fn verdict_modulo_two(mesh: &Mesh) -> Verdict {
 }
 
 fn opposite_self_edges(question: &Question, right: &Answer) -> Option<Answer> {
+    if right.number != 0 || right.counts[0] != Count::Is(Verdict::Regular as u64) {
+        return None;
+    }
     let uses = uses(&question.mesh);
     let is_same = |edge: &[[u32; 2]]| edge.len() == 2 && edge[0] == edge[1] && edge[0][0] != edge[0][1];
-    let is_regular = uses.values().any(|edge| is_same(edge));
     let verdict = if uses.values().any(|edge| edge.len() == 1) { Verdict::Oriented } else { Verdict::Closed };
-    (right.number == 0 && right.counts[0] == Count::Is(1) && !is_regular).then(|| Answer::verdict(verdict))
+    (!uses.values().any(|edge| is_same(edge))).then(|| Answer::verdict(verdict))
 }
 
 fn hems_by_first_use(mesh: &Mesh) -> Vec<[u32; 2]> {
@@ -262,6 +273,42 @@ fn ascending_panels(right: &Answer) -> Answer {
     let mut faces = words(right).iter().copied();
     let mut panels: Vec<Vec<u32>> = lengths.iter().map(|length| faces.by_ref().take(*length).collect()).collect();
     panels.iter_mut().for_each(|panel| panel.sort_unstable());
+    Answer::rows(&panels)
+}
+
+/// Each later use of a key joins its face to the last face that had the key, and takes its place. (Without normals.)
+fn joined_to_the_last(question: &Question) -> Answer {
+    let mesh = &question.mesh;
+    if question.use_normal {
+        return Answer::rows(&panels::components(mesh, true));
+    }
+    let mut neighbours = vec![vec![]; mesh.sizes.len()];
+    let mut last_with: BTreeMap<[u32; 2], usize> = BTreeMap::new();
+    for (this, face) in mesh.faces().iter().enumerate() {
+        for i in 0..face.len() {
+            let (start, end) = (face[i][0], face[(i + 1) % face.len()][0]);
+            if let Some(last) = last_with.insert([start.min(end), start.max(end)], this) {
+                neighbours[this].push(last);
+                neighbours[last].push(this);
+            }
+        }
+    }
+    let mut seen = vec![false; neighbours.len()];
+    let mut panels: Vec<Vec<u32>> = vec![];
+    for lowest in 0..neighbours.len() {
+        let (mut panel, mut stack) = (vec![], vec![]);
+        let mut see = |face: usize, stack: &mut Vec<usize>, panel: &mut Vec<u32>| {
+            if !std::mem::replace(&mut seen[face], true) {
+                panel.push(face as u32);
+                stack.push(face);
+            }
+        };
+        see(lowest, &mut stack, &mut panel);
+        while let Some(face) = stack.pop() {
+            neighbours[face].iter().for_each(|next| see(*next, &mut stack, &mut panel));
+        }
+        panels.extend(Some(panel).filter(|panel| !panel.is_empty()));
+    }
     Answer::rows(&panels)
 }
 
