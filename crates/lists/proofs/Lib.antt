@@ -3,6 +3,8 @@ pub mod Bools
 pub mod Buckets
 pub mod Cases
 pub mod Counting
+pub mod Growing
+pub mod Mapping
 pub mod Members
 pub mod Numbers
 pub mod Parts
