@@ -4,6 +4,8 @@ pub mod Buckets
 pub mod Cases
 pub mod Copies
 pub mod Counting
+pub mod Growing
+pub mod Mapping
 pub mod Members
 pub mod Numbers
 pub mod Only
