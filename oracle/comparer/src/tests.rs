@@ -1,10 +1,10 @@
 //! Tests of the comparer, and of what in the Rust rests on the order of its maps.
 
 use crate::check::compare;
-use crate::library::{Asked, Product, Reading};
+use crate::library::{Asked, Product};
 use crate::meshes;
 use crate::random::Random;
-use crate::run::{question, run, subject};
+use crate::run::{run, Subject};
 use crate::shrink::shrink;
 use crate::wrong::answers;
 use judge::reading::numbers::mesh_number;
@@ -48,8 +48,8 @@ fn smallest(call: Call, name: &'static str) -> Question {
     let differs = |question: &Question| compare(&product, call, question, None).difference.is_some();
     let first = (0..5_000).find_map(|i| {
         let random = Random::of(7, i);
-        let subject = subject(&random, call.reads_a_file(), meshes::exhaustive_count() + i);
-        question(&random, call, &subject).filter(|question| differs(question))
+        let mut subject = Subject::of(&random, call.reads_a_file(), meshes::exhaustive_count() + i);
+        subject.question(&random, call).filter(|question| differs(question)).cloned()
     });
     shrink(call, &first.unwrap(), &differs)
 }

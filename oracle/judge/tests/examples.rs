@@ -108,6 +108,17 @@ fn examples_10_and_11_merging() {
     }
 }
 
+/// The stack meets the third of these texture points before the second, and both lie at the centre.
+#[test]
+fn of_equal_distances_the_first_in_walk_order() {
+    let mut mesh = by_positions(&[&[0, 1, 2, 3]]);
+    mesh.textures = vec![-0.25, 0.0, 0.0, 0.0, 0.0, 0.0, 0.25, 0.0];
+    (0..4).for_each(|i| mesh.corners[3 * i + 1] = i as u32);
+    let answer = judged(Call::PutTogetherSameAttrs, Question { mesh, tolerance: 1.0, ..Question::default() });
+    let corners = format!("{:?}", answer.lists[0]);
+    assert_eq!(corners, format!("Words([0, 2, {0}, 1, 2, {0}, 2, 2, {0}, 3, 2, {0}])", MISSING));
+}
+
 #[test]
 fn example_12_ported_wires() {
     let mesh = by_positions(&[&[0, 1, 4], &[1, 2, 3]]);

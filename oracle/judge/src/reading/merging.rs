@@ -86,11 +86,11 @@ fn walk(lowest: usize, near: &[Vec<usize>]) -> Vec<usize> {
     let mut taken = vec![false; near.len()];
     let mut order = vec![];
     let mut stack = vec![lowest];
-    while let Some(i) = stack.pop() {
-        if !taken[i] {
-            taken[i] = true;
-            order.push(i);
-            stack.extend(&near[i]);
+    while let Some(point) = stack.pop() {
+        if !taken[point] {
+            taken[point] = true;
+            order.push(point);
+            stack.extend(&near[point]);
         }
     }
     order
