@@ -77,7 +77,12 @@ fn tell_progress(index: u64, all: &std::ops::Range<u64>) {
 
 /// Puts one mesh or one file to all calls.
 fn one(
-    product: &dyn Product, watch: Watch, calls: &[Call], options: &Options, index: u64, tally: &mut Tally,
+    product: &dyn Product,
+    watch: Watch,
+    calls: &[Call],
+    options: &Options,
+    index: u64,
+    tally: &mut Tally,
 ) -> Result<(), String> {
     let random = Random::of(options.seed, index);
     let mut subject = Subject::of(&random, options.files, index);

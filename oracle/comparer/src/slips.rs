@@ -2,10 +2,10 @@
 
 use crate::check::{compare, Slip};
 use crate::library::{Asked, Product, UNTOUCHED};
+use crate::meshes;
 use crate::random::Random;
 use crate::run::Subject;
 use crate::wrong::{self, Wrong};
-use crate::meshes;
 use judge::{Answer, Call, Numbers, Question};
 
 /// How many meshes or files a slip may take to be found.

@@ -11,16 +11,24 @@ use judge::reading::numbers::mesh_number;
 use judge::{reading, rust, Call, Mesh, Question};
 use std::collections::{BTreeMap, BTreeSet};
 
-fn words(words: &str) -> Vec<String> { words.split_whitespace().map(|word| word.to_string()).collect() }
+fn words(words: &str) -> Vec<String> {
+    words.split_whitespace().map(|word| word.to_string()).collect()
+}
 
 #[test]
-fn the_rust_is_document_01_on_some_meshes() { assert_eq!(run(None, None, words("600 --random --seed 1")), 0) }
+fn the_rust_is_document_01_on_some_meshes() {
+    assert_eq!(run(None, None, words("600 --random --seed 1")), 0)
+}
 
 #[test]
-fn files_are_compared() { assert_eq!(run(None, None, words("--files 200 --seed 1")), 0) }
+fn files_are_compared() {
+    assert_eq!(run(None, None, words("--files 200 --seed 1")), 0)
+}
 
 #[test]
-fn every_slip_is_found() { assert_eq!(run(None, None, words("--self-test --seed 1")), 0) }
+fn every_slip_is_found() {
+    assert_eq!(run(None, None, words("--self-test --seed 1")), 0)
+}
 
 #[test]
 fn bad_words_are_refused() {
@@ -33,7 +41,9 @@ fn bad_words_are_refused() {
 struct Misreading(Call, &'static str);
 
 impl Product for Misreading {
-    fn has(&self, call: Call) -> bool { call == self.0 }
+    fn has(&self, call: Call) -> bool {
+        call == self.0
+    }
 
     fn ask(&self, call: Call, question: &Question) -> Asked {
         let right = reading::answer(call, question);

@@ -71,7 +71,9 @@ fn column(list: &[f64], width: usize, tolerance: f64, misread: Misread) -> (Vec<
     (representatives, pairs / 2)
 }
 
-fn squared_distance(a: &[f64], b: &[f64]) -> f64 { a.iter().zip(b).map(|(a, b)| (a - b) * (a - b)).reduce(|sum, s| sum + s).unwrap() }
+fn squared_distance(a: &[f64], b: &[f64]) -> f64 {
+    a.iter().zip(b).map(|(a, b)| (a - b) * (a - b)).reduce(|sum, s| sum + s).unwrap()
+}
 
 fn group(lowest: usize, near: &[Vec<usize>], done: &[usize], misread: Misread) -> Vec<usize> {
     let (mut order, mut stack) = (vec![], vec![lowest]);

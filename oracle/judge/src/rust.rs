@@ -26,7 +26,9 @@ pub mod ascending {
     include!("rust_calls.rs");
 
     /// What the ascending Rust answers.
-    pub fn answer(call: Call, question: &Question) -> Option<Answer> { answered(call, question) }
+    pub fn answer(call: Call, question: &Question) -> Option<Answer> {
+        answered(call, question)
+    }
 }
 
 /// The product's lists as the Rust's mesh; none where the Rust finds an index out of range.

@@ -24,7 +24,9 @@ fn ask(call: Call, mesh: &Mesh) -> String {
     format!("{:?} {:?}", answer.lists, answer.counts)
 }
 
-fn verdict(faces: &[&[u32]]) -> String { format!("{:?}", reading::edges::verdict(&by_positions(faces))) }
+fn verdict(faces: &[&[u32]]) -> String {
+    format!("{:?}", reading::edges::verdict(&by_positions(faces)))
+}
 
 /// Where a face's corners come from: their texture index is their place.
 fn unfolded(face: &[u32]) -> Vec<Vec<u32>> {
@@ -183,7 +185,9 @@ fn tolerances_on_both_sides() {
     for accepted in [least, 0.5, 1.0] {
         assert_eq!(number(accepted), 0);
     }
-    for refused in [f64::NAN, f64::INFINITY, -1.0, 0.0, -0.0, f64::from_bits(least.to_bits() - 1), f64::from_bits(1f64.to_bits() + 1)] {
+    for refused in
+        [f64::NAN, f64::INFINITY, -1.0, 0.0, -0.0, f64::from_bits(least.to_bits() - 1), f64::from_bits(1f64.to_bits() + 1)]
+    {
         assert_eq!(number(refused), 6);
     }
 }

@@ -53,7 +53,9 @@ fn merged<const WIDTH: usize>(points: &[[f64; WIDTH]], tolerance: f64) -> (Vec<u
 }
 
 /// Two points are compared when their cells differ by at most 2 on every axis.
-fn are_compared(a: &[i64], b: &[i64]) -> bool { a.iter().zip(b).all(|(a, b)| (a - b).abs() <= 2) }
+fn are_compared(a: &[i64], b: &[i64]) -> bool {
+    a.iter().zip(b).all(|(a, b)| (a - b).abs() <= 2)
+}
 
 /// The squares are summed left to right.
 fn squared_distance(a: &[f64], b: &[f64]) -> f64 {
