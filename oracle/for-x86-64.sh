@@ -1,3 +1,4 @@
+# shellcheck shell=bash disable=SC2034
 # Sourced by the scripts that link the Rust with the product's library, which is x86-64 only. It sets
 #   cargo, RUSTC   a Rust that has the x86-64 standard library
 #   cc, link       a C compiler for x86-64, and what it needs to link

@@ -8,12 +8,13 @@ use native.Mathlib.Omega.{arith}
 use lib.ListN.{length, getD, take, drop, length-append, take-append-drop}
 use Rattle.lists.specs.Lists.{each}
 use Rattle.edges.specs.Edges.{Verdict, Irregular, Regular, Oriented, Closed}
+use Rattle.edges.specs.Answers.{verdictOf}
 use Rattle.text.specs.Text.{bytes, decimal, decimalIn, spaced, line, Room, Written}
 use Rattle.text.proofs.Decimals.{few-digits}
 use Rattle.text.proofs.Putting.{numberText, spaced-numbers, room-first, room-then, written-then}
 use Rattle.sheet.specs.declared.Findings.{Findings}
 use Rattle.sheet.specs.Sheet.{meshLine, verdictLine, panelsLine, hemLine, hemLines, sheetText}
-use Rattle.sheet.specs.Working.{parts, verdictOf, wiresBy, foundBy, Ready}
+use Rattle.sheet.specs.Working.{parts, wiresBy, foundBy, Ready}
 
 -- numbers of 32 bits
 abbrev Small : List ℕ → Type 0

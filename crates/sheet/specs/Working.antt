@@ -5,17 +5,10 @@ use mathlib.Core.List.{List, [], _∷_}
 use lib.ListN.{length, take, drop}
 use Rattle.lists.specs.Lists.{sum}
 use Rattle.mesh.specs.Table.{after}
-use Rattle.edges.specs.Edges.{Verdict}
+use Rattle.edges.specs.Answers.{verdictOf}
 use Rattle.text.specs.Text.{Room}
-use Rattle.sheet.specs.declared.ShellCondition.{ShellCondition}
 use Rattle.sheet.specs.declared.Findings.{Findings}
 use Rattle.sheet.specs.Sheet.{Found, hemLines}
-
-unfoldable pub verdictOf : ShellCondition → Verdict
-verdictOf ShellCondition.Irregular = Verdict.Irregular
-verdictOf ShellCondition.Regular = Verdict.Regular
-verdictOf ShellCondition.Oriented = Verdict.Oriented
-verdictOf ShellCondition.Closed = Verdict.Closed
 
 -- the wires of a flat list: each takes as many numbers as its length says
 abbrev pub parts : List ℕ → List ℕ → List (List ℕ)

@@ -1,16 +1,11 @@
 // The sheet of a mesh: its lines as bytes, in a lent list.
 ghost use mathlib.Core.Path.{_≡_};
 ghost use mathlib.Core.Option.{some, none};
+ghost use Rattle.edges.specs.Answers.{verdictOf};
 ghost use Rattle.text.specs.Text.{Room, Written};
 ghost use Rattle.sheet.specs.Sheet.{meshLine, verdictLine, panelsLine, hemLine, hemLines, sheetText, refusal};
-ghost use Rattle.sheet.specs.Working.{parts, wiresBy, verdictOf, foundBy, Wired, Ready};
-
-pub enum ShellCondition {
-    Irregular,
-    Regular,
-    Oriented,
-    Closed,
-}
+ghost use Rattle.sheet.specs.Working.{parts, wiresBy, foundBy, Wired, Ready};
+use edges::ShellCondition;
 
 // What was found in a mesh, but for its wires: how many positions, texture points, normals, faces and panels there are, the verdict,
 // and the number that house wires answered.

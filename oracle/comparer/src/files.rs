@@ -1,7 +1,7 @@
 //! Panel files: made from random meshes, with records in any order, and then cut, lengthened and changed.
 
-use crate::random::Random;
 use crate::meshes;
+use crate::random::Random;
 use judge::{Mesh, MISSING};
 
 /// A random file.
@@ -28,7 +28,9 @@ pub fn random(random: &Random) -> Vec<u8> {
     file
 }
 
-fn record(kind: u16, body: &[u8]) -> Vec<u8> { [&(body.len() as u16).to_le_bytes(), &kind.to_le_bytes(), body].concat() }
+fn record(kind: u16, body: &[u8]) -> Vec<u8> {
+    [&(body.len() as u16).to_le_bytes(), &kind.to_le_bytes(), body].concat()
+}
 
 /// The records of a mesh, with some faces of 0, 1 or 2 corners among them.
 fn records(random: &Random, mesh: &Mesh) -> Vec<Vec<u8>> {
@@ -107,7 +109,8 @@ fn change_a_header(random: &Random, file: &mut [u8]) {
     }
     let place = at + random.below(5);
     if place < file.len() {
-        file[place] = random.pick(&[0, 1, 2, 3, 4, 5, 16, 24, 25, 33, 37, file[place].wrapping_add(12), file[place].wrapping_sub(12)]);
+        file[place] =
+            random.pick(&[0, 1, 2, 3, 4, 5, 16, 24, 25, 33, 37, file[place].wrapping_add(12), file[place].wrapping_sub(12)]);
     }
 }
 

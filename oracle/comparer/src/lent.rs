@@ -16,21 +16,39 @@ pub trait Number: Copy + std::fmt::Debug {
 }
 
 impl Number for f64 {
-    fn pattern(i: usize) -> f64 { f64::from_bits(0x4321_8765_0000_0000 + i as u64) }
-    fn same(self, other: f64) -> bool { self.to_bits() == other.to_bits() || self.is_nan() && other.is_nan() }
-    fn other(self) -> f64 { f64::from_bits(self.to_bits() ^ 0x8000_0000_0000_0000) }
+    fn pattern(i: usize) -> f64 {
+        f64::from_bits(0x4321_8765_0000_0000 + i as u64)
+    }
+    fn same(self, other: f64) -> bool {
+        self.to_bits() == other.to_bits() || self.is_nan() && other.is_nan()
+    }
+    fn other(self) -> f64 {
+        f64::from_bits(self.to_bits() ^ 0x8000_0000_0000_0000)
+    }
 }
 
 impl Number for u32 {
-    fn pattern(i: usize) -> u32 { 0xa5a5_0000 + i as u32 }
-    fn same(self, other: u32) -> bool { self == other }
-    fn other(self) -> u32 { self ^ 1 }
+    fn pattern(i: usize) -> u32 {
+        0xa5a5_0000 + i as u32
+    }
+    fn same(self, other: u32) -> bool {
+        self == other
+    }
+    fn other(self) -> u32 {
+        self ^ 1
+    }
 }
 
 impl Number for u8 {
-    fn pattern(i: usize) -> u8 { 0x80 | i as u8 }
-    fn same(self, other: u8) -> bool { self == other }
-    fn other(self) -> u8 { self ^ 1 }
+    fn pattern(i: usize) -> u8 {
+        0x80 | i as u8
+    }
+    fn same(self, other: u8) -> bool {
+        self == other
+    }
+    fn other(self) -> u8 {
+        self ^ 1
+    }
 }
 
 /// A list of the product's, of some room.
@@ -39,9 +57,15 @@ pub struct List<T> {
 }
 
 impl<T: Number> List<T> {
-    pub fn of_room(room: usize) -> List<T> { List { numbers: (0..room + 2 * GUARD).map(T::pattern).collect() } }
-    pub fn room(&self) -> usize { self.numbers.len() - 2 * GUARD }
-    pub fn lend(&mut self) -> (*mut T, usize) { (self.numbers[GUARD..].as_mut_ptr(), self.room()) }
+    pub fn of_room(room: usize) -> List<T> {
+        List { numbers: (0..room + 2 * GUARD).map(T::pattern).collect() }
+    }
+    pub fn room(&self) -> usize {
+        self.numbers.len() - 2 * GUARD
+    }
+    pub fn lend(&mut self) -> (*mut T, usize) {
+        (self.numbers[GUARD..].as_mut_ptr(), self.room())
+    }
     pub fn in_room(&mut self) -> &mut [T] {
         let end = self.numbers.len() - GUARD;
         &mut self.numbers[GUARD..end]

@@ -33,8 +33,23 @@ pub struct Library {
     pub components: on_mesh!(bool, *mut u32, usize, *mut u32, usize, *mut u64, *mut u64 => u32),
     pub read_panel: Option<
         unsafe extern "C" fn(
-            *const u8, usize, *mut f64, usize, *mut f64, usize, *mut f64, usize, *mut u32, usize, *mut u32, usize,
-            *mut u64, *mut u64, *mut u64, *mut u64, *mut u64,
+            *const u8,
+            usize,
+            *mut f64,
+            usize,
+            *mut f64,
+            usize,
+            *mut f64,
+            usize,
+            *mut u32,
+            usize,
+            *mut u32,
+            usize,
+            *mut u64,
+            *mut u64,
+            *mut u64,
+            *mut u64,
+            *mut u64,
         ) -> u32,
     >,
     pub sheet: Option<unsafe extern "C" fn(*const u8, usize, *mut u8, usize, *mut u64) -> u32>,
@@ -92,7 +107,9 @@ pub trait Product {
 pub struct Reading;
 
 impl Product for Reading {
-    fn has(&self, _: Call) -> bool { true }
+    fn has(&self, _: Call) -> bool {
+        true
+    }
 
     fn ask(&self, call: Call, question: &Question) -> Asked {
         Asked::answering(call, question, &reading::answer(call, question))
@@ -164,8 +181,18 @@ impl Library {
                 let (textures, textures_room) = asked.lists[2].floats();
                 let (normals, normals_room) = asked.lists[3].floats();
                 asked.number = on!(
-                    remove_unused_attrs, corners, corners_room, positions, positions_room, textures, textures_room,
-                    normals, normals_room, counts, counts.add(1), counts.add(2)
+                    remove_unused_attrs,
+                    corners,
+                    corners_room,
+                    positions,
+                    positions_room,
+                    textures,
+                    textures_room,
+                    normals,
+                    normals_room,
+                    counts,
+                    counts.add(1),
+                    counts.add(2)
                 );
             }
             Call::RemoveDegenerateFaces => rows!(remove_degenerate_faces),
@@ -204,9 +231,23 @@ impl Library {
         let (corners, corners_room) = asked.lists[3].words();
         let (sizes, sizes_room) = asked.lists[4].words();
         asked.number = self.read_panel.unwrap()(
-            file.as_ptr(), file.len(), positions, positions_room, textures, textures_room, normals, normals_room,
-            corners, corners_room, sizes, sizes_room,
-            counts, counts.add(1), counts.add(2), counts.add(3), counts.add(4),
+            file.as_ptr(),
+            file.len(),
+            positions,
+            positions_room,
+            textures,
+            textures_room,
+            normals,
+            normals_room,
+            corners,
+            corners_room,
+            sizes,
+            sizes_room,
+            counts,
+            counts.add(1),
+            counts.add(2),
+            counts.add(3),
+            counts.add(4),
         );
     }
 }

@@ -15,10 +15,14 @@ pub struct Case {
 /// The shapes that are gone through one by one: how many corners a face has, how many positions there are, how many faces.
 const EXHAUSTIVE: [(usize, usize, usize); 7] = [(3, 4, 0), (3, 4, 1), (3, 4, 2), (3, 4, 3), (4, 4, 1), (5, 5, 1), (6, 6, 1)];
 
-fn variants((corners, positions, faces): (usize, usize, usize)) -> u64 { (positions as u64).pow((corners * faces) as u32) }
+fn variants((corners, positions, faces): (usize, usize, usize)) -> u64 {
+    (positions as u64).pow((corners * faces) as u32)
+}
 
 /// How many meshes `exhaustive` has.
-pub fn exhaustive_count() -> u64 { EXHAUSTIVE.iter().map(|shape| variants(*shape)).sum() }
+pub fn exhaustive_count() -> u64 {
+    EXHAUSTIVE.iter().map(|shape| variants(*shape)).sum()
+}
 
 /// Up to three triangles over four positions, and single faces of 4 to 6 corners over that many positions: the one with this index. A
 /// corner's texture point is its place in its face; its normal goes by the seed.
@@ -92,7 +96,9 @@ fn corners(random: &Random) -> usize {
 }
 
 /// Positions are scaled to twice their size where their box is small.
-fn random_half(random: &Random) -> f64 { random.pick(&[0.5, 0.5, 0.5, 1.0]) }
+fn random_half(random: &Random) -> f64 {
+    random.pick(&[0.5, 0.5, 0.5, 1.0])
+}
 
 /// So many entries, or some more that no corner uses.
 fn with_unused(random: &Random, used: usize) -> usize {

@@ -21,18 +21,28 @@ impl Random {
     }
 
     /// A number below n; 0 where n is 0.
-    pub fn below(&self, n: usize) -> usize { (self.bits() % n.max(1) as u64) as usize }
+    pub fn below(&self, n: usize) -> usize {
+        (self.bits() % n.max(1) as u64) as usize
+    }
 
     /// A number from `least` to `most`.
-    pub fn within(&self, least: usize, most: usize) -> usize { least + self.below(most - least + 1) }
+    pub fn within(&self, least: usize, most: usize) -> usize {
+        least + self.below(most - least + 1)
+    }
 
     /// True once in n.
-    pub fn once_in(&self, n: usize) -> bool { self.below(n) == 0 }
+    pub fn once_in(&self, n: usize) -> bool {
+        self.below(n) == 0
+    }
 
     /// From 0 up to, not including, 1.
-    pub fn unit(&self) -> f64 { (self.bits() >> 11) as f64 / 2f64.powi(53) }
+    pub fn unit(&self) -> f64 {
+        (self.bits() >> 11) as f64 / 2f64.powi(53)
+    }
 
-    pub fn pick<T: Copy>(&self, from: &[T]) -> T { from[self.below(from.len())] }
+    pub fn pick<T: Copy>(&self, from: &[T]) -> T {
+        from[self.below(from.len())]
+    }
 
     pub fn shuffle<T>(&self, list: &mut [T]) {
         for i in (1..list.len()).rev() {

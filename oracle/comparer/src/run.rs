@@ -1,4 +1,4 @@
-//! The runs: meshes, files, and the trial of the comparer itself.
+//! The runs: meshes, files, and the test of the comparer itself.
 
 use crate::check::compare;
 use crate::library::{Library, Product, Reading, Watch};
@@ -70,27 +70,30 @@ fn indices(options: &Options) -> std::ops::Range<u64> {
 /// Says on standard error how far a long run is.
 fn tell_progress(index: u64, all: &std::ops::Range<u64>) {
     let (done, tenth) = (index - all.start, (all.end - all.start) / 10);
-    if tenth >= 1_000 && done > 0 && done % tenth == 0 {
+    if tenth >= 1_000 && done % tenth == 0 && (1..10).contains(&(done / tenth)) {
         eprintln!("{}0% compared", done / tenth);
     }
 }
 
 /// Puts one mesh or one file to all calls.
 fn one(
-    product: &dyn Product, watch: Watch, calls: &[Call], options: &Options, index: u64, tally: &mut Tally,
+    product: &dyn Product,
+    watch: Watch,
+    calls: &[Call],
+    options: &Options,
+    index: u64,
+    tally: &mut Tally,
 ) -> Result<(), String> {
     let random = Random::of(options.seed, index);
-    let subject = subject(&random, options.files, index);
+    let mut subject = Subject::of(&random, options.files, index);
     for call in calls {
-        let question = match question(&random, *call, &subject) {
-            Some(question) => question,
-            None => continue,
-        };
-        tell(watch, *call, index);
-        let compared = compare(product, *call, &question, None);
-        tally.add(*call, &question, &compared);
-        if let Some(difference) = compared.difference {
-            return Err(report(product, *call, &question, index, &difference));
+        if let Some(question) = subject.question(&random, *call) {
+            tell(watch, *call, index);
+            let compared = compare(product, *call, question, None);
+            tally.add(*call, question, &compared);
+            if let Some(difference) = compared.difference {
+                return Err(report(product, *call, question, index, &difference));
+            }
         }
     }
     Ok(())
@@ -98,40 +101,37 @@ fn one(
 
 /// What is asked about: a mesh, or a file.
 pub struct Subject {
-    case: Case,
-    file: Vec<u8>,
+    question: Question,
     is_small: bool,
 }
 
-/// The mesh, or the file, with this index.
-pub fn subject(random: &Random, is_file: bool, index: u64) -> Subject {
-    let is_small = !is_file && index < meshes::exhaustive_count();
-    if is_file {
-        let file = files::random(random);
-        return Subject { case: Case::default(), file, is_small };
-    }
-    let case = if is_small { meshes::exhaustive(index, random) } else { meshes::random(random) };
-    Subject { case, file: vec![], is_small }
-}
-
-/// The question that a call is asked about a subject. Merging takes long where there are many points, so it is not asked every time.
-pub fn question(random: &Random, call: Call, subject: &Subject) -> Option<Question> {
-    let mesh = &subject.case.mesh;
-    if call == Call::PutTogetherSameAttrs {
-        let points = mesh.positions.len() / 3 + mesh.textures.len() / 2 + mesh.normals.len() / 3;
-        if random.below(if subject.is_small { 32 } else { 1 + points / 200 }) != 0 {
-            return None;
+impl Subject {
+    /// The mesh, or the file, with this index.
+    pub fn of(random: &Random, is_file: bool, index: u64) -> Subject {
+        if is_file {
+            return Subject { question: Question { file: files::random(random), ..Question::default() }, is_small: false };
         }
+        let is_small = index < meshes::exhaustive_count();
+        let Case { mesh, tolerance } = if is_small { meshes::exhaustive(index, random) } else { meshes::random(random) };
+        Subject { question: Question { mesh, tolerance, ..Question::default() }, is_small }
     }
-    let faces = mesh.sizes.len();
-    Some(Question {
-        face: if random.once_in(8) { random.pick(&[faces, faces + 1, usize::MAX, 1 << 32]) } else { random.below(faces) },
-        tolerance: subject.case.tolerance,
-        use_normal: random.once_in(2),
-        file: subject.file.clone(),
-        rooms: if subject.is_small { stated_rooms(call, mesh) } else { damage::rooms(random, stated_rooms(call, mesh)) },
-        mesh: mesh.clone(),
-    })
+
+    /// The question that a call is asked. Merging takes long where there are many points, so it is not asked every time.
+    pub fn question(&mut self, random: &Random, call: Call) -> Option<&Question> {
+        let mesh = &self.question.mesh;
+        if call == Call::PutTogetherSameAttrs {
+            let points = mesh.positions.len() / 3 + mesh.textures.len() / 2 + mesh.normals.len() / 3;
+            if random.below(if self.is_small { 32 } else { 1 + points / 200 }) != 0 {
+                return None;
+            }
+        }
+        let (stated, faces) = (stated_rooms(call, mesh), mesh.sizes.len());
+        self.question.face =
+            if random.once_in(8) { random.pick(&[faces, faces + 1, usize::MAX, 1 << 32]) } else { random.below(faces) };
+        self.question.use_normal = random.once_in(2);
+        self.question.rooms = if self.is_small { stated } else { damage::rooms(random, stated) };
+        Some(&self.question)
+    }
 }
 
 fn tell(watch: Watch, call: Call, index: u64) {

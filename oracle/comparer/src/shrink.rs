@@ -94,7 +94,9 @@ impl Shrinker<'_> {
     }
 
     /// Whether the faces can be told from the lists.
-    fn has_faces(question: &Question) -> bool { ![1, 2].contains(&mesh_number(&question.mesh)) }
+    fn has_faces(question: &Question) -> bool {
+        ![1, 2].contains(&mesh_number(&question.mesh))
+    }
 
     fn faces(&mut self) {
         self.leave_out(

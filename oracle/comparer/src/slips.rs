@@ -1,11 +1,11 @@
-//! The trial of the comparer itself: slips are planted in the product's answers, one at a time, and each must be found.
+//! The test of the comparer itself: slips are planted in the product's answers, one at a time, and each must be found.
 
 use crate::check::{compare, Slip};
 use crate::library::{Asked, Product, UNTOUCHED};
-use crate::random::Random;
-use crate::run::{question, subject};
-use crate::wrong::{self, Wrong};
 use crate::meshes;
+use crate::random::Random;
+use crate::run::Subject;
+use crate::wrong::{self, Wrong};
 use judge::{Answer, Call, Numbers, Question};
 
 /// How many meshes or files a slip may take to be found.
@@ -104,7 +104,8 @@ fn report(call: Call, name: &str, found: Option<u64>) -> i32 {
 fn found(product: &dyn Product, call: Call, seed: u64, slip: Option<Slip>, patience: u64) -> Option<u64> {
     (1..=patience).find(|count| {
         let random = Random::of(seed, *count);
-        let subject = subject(&random, call.reads_a_file(), meshes::exhaustive_count() + count);
-        question(&random, call, &subject).map_or(false, |question| compare(product, call, &question, slip).difference.is_some())
+        let mut subject = Subject::of(&random, call.reads_a_file(), meshes::exhaustive_count() + count);
+        let question = subject.question(&random, call);
+        question.map_or(false, |question| compare(product, call, question, slip).difference.is_some())
     })
 }

@@ -25,7 +25,9 @@ pub struct Tally {
 }
 
 impl Tally {
-    pub fn new() -> Tally { Tally { calls: vec![Asked::default(); Call::ALL.len()], verdicts: [0; 4] } }
+    pub fn new() -> Tally {
+        Tally { calls: vec![Asked::default(); Call::ALL.len()], verdicts: [0; 4] }
+    }
 
     pub fn add(&mut self, call: Call, question: &Question, compared: &Compared) {
         let asked = &mut self.calls[call as usize];
@@ -45,17 +47,25 @@ impl Tally {
         }
     }
 
-    pub fn questions(&self) -> u64 { self.calls.iter().map(|asked| asked.by_number.iter().sum::<u64>()).sum() }
+    pub fn questions(&self) -> u64 {
+        self.calls.iter().map(|asked| asked.by_number.iter().sum::<u64>()).sum()
+    }
 
     pub fn print(&self) {
         println!("questions, by the number answered:");
         for (call, asked) in Call::ALL.iter().zip(&self.calls).filter(|(_, asked)| asked.by_number.iter().sum::<u64>() > 0) {
-            let answered: Vec<String> =
-                (0..NUMBERS).filter(|n| asked.by_number[*n] > 0).map(|n| format!("{n}: {}", grouped(asked.by_number[n]))).collect();
+            let answered: Vec<String> = (0..NUMBERS)
+                .filter(|n| asked.by_number[*n] > 0)
+                .map(|n| format!("{n}: {}", grouped(asked.by_number[n])))
+                .collect();
             println!("  {:<24}{}", call.name(), answered.join("  "));
             if asked.with_rust > 0 {
                 let (corners, points) = (grouped(asked.corners as u64), grouped(asked.points as u64));
-                println!("  {:<26}the Rust asked too: {}; up to {corners} corners and {points} points", "", grouped(asked.with_rust));
+                println!(
+                    "  {:<26}the Rust asked too: {}; up to {corners} corners and {points} points",
+                    "",
+                    grouped(asked.with_rust)
+                );
             }
             if let Some(what) = shows(*call) {
                 println!("  {:<26}{what}: {}", "", grouped(asked.telling));

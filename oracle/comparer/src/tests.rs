@@ -1,26 +1,34 @@
 //! Tests of the comparer, and of what in the Rust rests on the order of its maps.
 
 use crate::check::compare;
-use crate::library::{Asked, Product, Reading};
+use crate::library::{Asked, Product};
 use crate::meshes;
 use crate::random::Random;
-use crate::run::{question, run, subject};
+use crate::run::{run, Subject};
 use crate::shrink::shrink;
 use crate::wrong::answers;
 use judge::reading::numbers::mesh_number;
 use judge::{reading, rust, Call, Mesh, Question};
 use std::collections::{BTreeMap, BTreeSet};
 
-fn words(words: &str) -> Vec<String> { words.split_whitespace().map(|word| word.to_string()).collect() }
+fn words(words: &str) -> Vec<String> {
+    words.split_whitespace().map(|word| word.to_string()).collect()
+}
 
 #[test]
-fn the_rust_is_document_01_on_some_meshes() { assert_eq!(run(None, None, words("600 --random --seed 1")), 0) }
+fn the_rust_is_document_01_on_some_meshes() {
+    assert_eq!(run(None, None, words("600 --random --seed 1")), 0)
+}
 
 #[test]
-fn files_are_compared() { assert_eq!(run(None, None, words("--files 200 --seed 1")), 0) }
+fn files_are_compared() {
+    assert_eq!(run(None, None, words("--files 200 --seed 1")), 0)
+}
 
 #[test]
-fn every_slip_is_found() { assert_eq!(run(None, None, words("--self-test --seed 1")), 0) }
+fn every_slip_is_found() {
+    assert_eq!(run(None, None, words("--self-test --seed 1")), 0)
+}
 
 #[test]
 fn bad_words_are_refused() {
@@ -33,7 +41,9 @@ fn bad_words_are_refused() {
 struct Misreading(Call, &'static str);
 
 impl Product for Misreading {
-    fn has(&self, call: Call) -> bool { call == self.0 }
+    fn has(&self, call: Call) -> bool {
+        call == self.0
+    }
 
     fn ask(&self, call: Call, question: &Question) -> Asked {
         let right = reading::answer(call, question);
@@ -48,8 +58,8 @@ fn smallest(call: Call, name: &'static str) -> Question {
     let differs = |question: &Question| compare(&product, call, question, None).difference.is_some();
     let first = (0..5_000).find_map(|i| {
         let random = Random::of(7, i);
-        let subject = subject(&random, call.reads_a_file(), meshes::exhaustive_count() + i);
-        question(&random, call, &subject).filter(|question| differs(question))
+        let mut subject = Subject::of(&random, call.reads_a_file(), meshes::exhaustive_count() + i);
+        subject.question(&random, call).filter(|question| differs(question)).cloned()
     });
     shrink(call, &first.unwrap(), &differs)
 }

@@ -1,7 +1,7 @@
 //! Wrong answers that look right: what a product with one misreading of document 01 would say.
 
-use judge::mesh::{Corner, Merged, Unfolded, Verdict};
 use crate::wrong_merging::{merging, Misread};
+use judge::mesh::{Corner, Merged, Unfolded, Verdict};
 use judge::reading::merging::put_together_same_attrs;
 use judge::reading::{cleaning, edges, numbers, panel_file, panels};
 use judge::{Answer, Call, Count, Mesh, Numbers, Question, MISSING};
@@ -51,22 +51,27 @@ pub fn answers(call: Call) -> &'static [(&'static str, Wrong)] {
             ("room asked after the verdict", verdict_before_room),
         ],
         Call::Components => &[
-            ("normals looked at without the setting", |q, right| accepted(right, || Answer::rows(&panels::components(&q.mesh, true)))),
+            ("normals looked at without the setting", |q, right| {
+                accepted(right, || Answer::rows(&panels::components(&q.mesh, true)))
+            }),
             ("a missing normal like normal 0", missing_normal_is_0),
             ("a panel's faces in ascending order", |_, right| accepted(right, || ascending_panels(right))),
             ("joined to the last face that had the key", |q, right| accepted(right, || joined_to_the_last(q))),
         ],
-        Call::ReadPanel => &[
-            ("an index asked before bytes after the end", index_before_13),
-            ("a negative zero read as zero", no_negative_zero),
-        ],
+        Call::ReadPanel => {
+            &[("an index asked before bytes after the end", index_before_13), ("a negative zero read as zero", no_negative_zero)]
+        }
         Call::Sheet => &[("panels by normals", panels_by_normals)],
     }
 }
 
-fn accepted(right: &Answer, wrong: impl Fn() -> Answer) -> Option<Answer> { (right.number == 0).then(wrong) }
+fn accepted(right: &Answer, wrong: impl Fn() -> Answer) -> Option<Answer> {
+    (right.number == 0).then(wrong)
+}
 
-fn number(question: &Question) -> u32 { numbers::mesh_number(&question.mesh) }
+fn number(question: &Question) -> u32 {
+    numbers::mesh_number(&question.mesh)
+}
 
 fn order_before_range(question: &Question, right: &Answer) -> Option<Answer> {
     let is_off = question.mesh.sizes.windows(2).any(|pair| pair[0].min(5) > pair[1].min(5));
@@ -91,7 +96,8 @@ fn old_order(question: &Question, right: &Answer) -> Option<Answer> {
         let corners = &question.mesh.corners;
         let used = |column: usize| -> BTreeSet<u32> { corners.iter().skip(column).step_by(3).copied().collect() };
         let ranks = [used(0), used(1), used(2)];
-        let rank = |(i, index): (usize, &u32)| if *index == MISSING { MISSING } else { ranks[i % 3].range(..index).count() as u32 };
+        let rank =
+            |(i, index): (usize, &u32)| if *index == MISSING { MISSING } else { ranks[i % 3].range(..index).count() as u32 };
         let mut answer = right.clone();
         answer.lists[0] = Numbers::Words(corners.iter().enumerate().map(rank).collect());
         answer
@@ -108,7 +114,12 @@ fn unfolded(question: &Question, ring: fn(Vec<Corner>) -> Vec<Vec<Corner>>) -> A
     Answer::unfolded(Unfolded { corners: mesh.corners, sizes: mesh.sizes })
 }
 
-fn split(r: Vec<Corner>, from: usize, again: fn(Vec<Corner>) -> Vec<Vec<Corner>>, other: fn(&[Corner], usize, usize) -> Vec<Corner>) -> Vec<Vec<Corner>> {
+fn split(
+    r: Vec<Corner>,
+    from: usize,
+    again: fn(Vec<Corner>) -> Vec<Vec<Corner>>,
+    other: fn(&[Corner], usize, usize) -> Vec<Corner>,
+) -> Vec<Vec<Corner>> {
     let pairs = (from..r.len()).flat_map(|i| (i + 1..r.len()).map(move |j| (i, j)));
     let found = pairs.into_iter().find(|(i, j)| r[*i][0] == r[*j][0]);
     found.map_or(vec![r.clone()], |(i, j)| [again(r[i..j].to_vec()), again(other(&r, i, j))].concat())
@@ -118,7 +129,9 @@ fn ring_with_corner_i(r: Vec<Corner>) -> Vec<Vec<Corner>> {
     split(r, 0, ring_with_corner_i, |r, i, j| [&[r[i]], &r[j + 1..], &r[..i]].concat())
 }
 
-fn ring_from_1(r: Vec<Corner>) -> Vec<Vec<Corner>> { split(r, 1, ring_from_1, |r, i, j| [&r[j..], &r[..i]].concat()) }
+fn ring_from_1(r: Vec<Corner>) -> Vec<Vec<Corner>> {
+    split(r, 1, ring_from_1, |r, i, j| [&r[j..], &r[..i]].concat())
+}
 
 fn words(answer: &Answer) -> &[u32] {
     match &answer.lists[0] {

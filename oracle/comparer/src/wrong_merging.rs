@@ -71,19 +71,21 @@ fn column(list: &[f64], width: usize, tolerance: f64, misread: Misread) -> (Vec<
     (representatives, pairs / 2)
 }
 
-fn squared_distance(a: &[f64], b: &[f64]) -> f64 { a.iter().zip(b).map(|(a, b)| (a - b) * (a - b)).reduce(|sum, s| sum + s).unwrap() }
+fn squared_distance(a: &[f64], b: &[f64]) -> f64 {
+    a.iter().zip(b).map(|(a, b)| (a - b) * (a - b)).reduce(|sum, s| sum + s).unwrap()
+}
 
 fn group(lowest: usize, near: &[Vec<usize>], done: &[usize], misread: Misread) -> Vec<usize> {
     let (mut order, mut stack) = (vec![], vec![lowest]);
-    while let Some(i) = stack.pop() {
-        if order.contains(&i) || done[i] != usize::MAX {
+    while let Some(point) = stack.pop() {
+        if order.contains(&point) || done[point] != usize::MAX {
             continue;
         }
-        order.push(i);
+        order.push(point);
         if misread == Misread::WalkInOrder {
-            stack.extend(near[i].iter().rev());
-        } else if misread != Misread::NotConnected || i == lowest {
-            stack.extend(&near[i]);
+            stack.extend(near[point].iter().rev());
+        } else if misread != Misread::NotConnected || point == lowest {
+            stack.extend(&near[point]);
         }
     }
     order

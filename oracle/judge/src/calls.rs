@@ -54,7 +54,9 @@ impl Call {
     }
 
     /// Whether the call reads a panel file in the place of a mesh.
-    pub fn reads_a_file(self) -> bool { matches!(self, Call::ReadPanel | Call::Sheet) }
+    pub fn reads_a_file(self) -> bool {
+        matches!(self, Call::ReadPanel | Call::Sheet)
+    }
 }
 
 /// All that a call can be given. A call looks at its own part: `face`, `tolerance` and `use_normal` belong to one call each, `file` to
@@ -116,9 +118,13 @@ impl Answer {
         Answer { number: 0, lists, counts: counts.iter().map(|count| Count::Is(*count as u64)).collect() }
     }
 
-    pub fn mesh_number(number: u32) -> Answer { Answer { number, lists: vec![], counts: vec![] } }
+    pub fn mesh_number(number: u32) -> Answer {
+        Answer { number, lists: vec![], counts: vec![] }
+    }
 
-    pub fn face(start: usize, len: usize) -> Answer { Answer::done(vec![], &[start, len]) }
+    pub fn face(start: usize, len: usize) -> Answer {
+        Answer::done(vec![], &[start, len])
+    }
 
     pub fn compacted(made: Compacted) -> Answer {
         let counts = [made.positions.len() / 3, made.textures.len() / 2, made.normals.len() / 3];
@@ -141,7 +147,9 @@ impl Answer {
         Answer { number: 0, lists: vec![Numbers::Words(made.corners)], counts }
     }
 
-    pub fn verdict(verdict: Verdict) -> Answer { Answer::done(vec![], &[verdict as usize]) }
+    pub fn verdict(verdict: Verdict) -> Answer {
+        Answer::done(vec![], &[verdict as usize])
+    }
 
     pub fn hem_edges(hems: &[[u32; 2]]) -> Answer {
         let column = |end: usize| Numbers::Words(hems.iter().map(|hem| hem[end]).collect());

@@ -17,7 +17,9 @@ pub struct Mesh {
 pub type Corner = [u32; 3];
 
 impl Mesh {
-    pub fn corner_count(&self) -> usize { self.corners.len() / 3 }
+    pub fn corner_count(&self) -> usize {
+        self.corners.len() / 3
+    }
 
     /// The faces of a mesh whose sizes add up to its corners.
     pub fn faces(&self) -> Vec<Vec<Corner>> {

@@ -26,7 +26,9 @@ pub mod ascending {
     include!("rust_calls.rs");
 
     /// What the ascending Rust answers.
-    pub fn answer(call: Call, question: &Question) -> Option<Answer> { answered(call, question) }
+    pub fn answer(call: Call, question: &Question) -> Option<Answer> {
+        answered(call, question)
+    }
 }
 
 /// The product's lists as the Rust's mesh; none where the Rust finds an index out of range.
@@ -37,13 +39,13 @@ pub fn into_rust(mesh: &Mesh) -> Option<PolygonMesh> {
         normals: mesh.normals.chunks(3).map(|p| Vector3::new(p[0], p[1], p[2])).collect(),
     };
     let index = |number: u32| if number == MISSING { None } else { Some(number as usize) };
-    let mut faces = Faces::default();
+    let mut pushed = Faces::default();
     for face in mesh.faces() {
         let corners: Vec<StandardVertex> =
             face.iter().map(|c| StandardVertex { pos: c[0] as usize, uv: index(c[1]), nor: index(c[2]) }).collect();
-        faces.push(&corners);
+        pushed.push(&corners);
     }
-    PolygonMesh::try_new(attributes, faces).ok()
+    PolygonMesh::try_new(attributes, pushed).ok()
 }
 
 fn flat_corners(faces: &Faces) -> Vec<u32> {

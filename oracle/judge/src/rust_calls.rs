@@ -14,10 +14,7 @@ pub fn remove_unused_attrs(mesh: &Mesh) -> Compacted {
 pub fn remove_degenerate_faces(mesh: &Mesh) -> Unfolded {
     let mut rust = into_rust(mesh).unwrap();
     rust.remove_degenerate_faces();
-    Unfolded {
-        corners: flat_corners(rust.faces()),
-        sizes: rust.face_iter().map(|face| face.len() as u32).collect(),
-    }
+    Unfolded { corners: flat_corners(rust.faces()), sizes: rust.face_iter().map(|face| face.len() as u32).collect() }
 }
 
 pub fn put_together_same_attrs(mesh: &Mesh, tolerance: f64) -> Merged {
@@ -41,9 +38,13 @@ pub fn hem_edges(mesh: &Mesh) -> Vec<[u32; 2]> {
     boundary(into_rust(mesh).unwrap().faces()).into_iter().map(|[start, end]| [start as u32, end as u32]).collect()
 }
 
-pub fn extract_boundaries(mesh: &Mesh) -> Vec<Vec<u32>> { narrow(into_rust(mesh).unwrap().extract_boundaries()) }
+pub fn extract_boundaries(mesh: &Mesh) -> Vec<Vec<u32>> {
+    narrow(into_rust(mesh).unwrap().extract_boundaries())
+}
 
-pub fn components(mesh: &Mesh, use_normal: bool) -> Vec<Vec<u32>> { narrow(into_rust(mesh).unwrap().components(use_normal)) }
+pub fn components(mesh: &Mesh, use_normal: bool) -> Vec<Vec<u32>> {
+    narrow(into_rust(mesh).unwrap().components(use_normal))
+}
 
 /// The start and the length of face k in the flat corners, by the Rust's own order of its faces.
 fn face(mesh: &Mesh, k: usize) -> Answer {

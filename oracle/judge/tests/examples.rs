@@ -24,7 +24,9 @@ fn ask(call: Call, mesh: &Mesh) -> String {
     format!("{:?} {:?}", answer.lists, answer.counts)
 }
 
-fn verdict(faces: &[&[u32]]) -> String { format!("{:?}", reading::edges::verdict(&by_positions(faces))) }
+fn verdict(faces: &[&[u32]]) -> String {
+    format!("{:?}", reading::edges::verdict(&by_positions(faces)))
+}
 
 /// Where a face's corners come from: their texture index is their place.
 fn unfolded(face: &[u32]) -> Vec<Vec<u32>> {
@@ -108,6 +110,17 @@ fn examples_10_and_11_merging() {
     }
 }
 
+/// The stack meets the third of these texture points before the second, and both lie at the centre.
+#[test]
+fn of_equal_distances_the_first_in_walk_order() {
+    let mut mesh = by_positions(&[&[0, 1, 2, 3]]);
+    mesh.textures = vec![-0.25, 0.0, 0.0, 0.0, 0.0, 0.0, 0.25, 0.0];
+    (0..4).for_each(|i| mesh.corners[3 * i + 1] = i as u32);
+    let answer = judged(Call::PutTogetherSameAttrs, Question { mesh, tolerance: 1.0, ..Question::default() });
+    let corners = format!("{:?}", answer.lists[0]);
+    assert_eq!(corners, format!("Words([0, 2, {0}, 1, 2, {0}, 2, 2, {0}, 3, 2, {0}])", MISSING));
+}
+
 #[test]
 fn example_12_ported_wires() {
     let mesh = by_positions(&[&[0, 1, 4], &[1, 2, 3]]);
@@ -172,7 +185,9 @@ fn tolerances_on_both_sides() {
     for accepted in [least, 0.5, 1.0] {
         assert_eq!(number(accepted), 0);
     }
-    for refused in [f64::NAN, f64::INFINITY, -1.0, 0.0, -0.0, f64::from_bits(least.to_bits() - 1), f64::from_bits(1f64.to_bits() + 1)] {
+    for refused in
+        [f64::NAN, f64::INFINITY, -1.0, 0.0, -0.0, f64::from_bits(least.to_bits() - 1), f64::from_bits(1f64.to_bits() + 1)]
+    {
         assert_eq!(number(refused), 6);
     }
 }

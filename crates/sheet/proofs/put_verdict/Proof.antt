@@ -4,9 +4,9 @@ use mathlib.Core.List.{List}
 use Prim.Native.Nat.{ℕ}
 use Rattle.text.specs.Text.{line}
 use Rattle.text.proofs.Putting.{room-as, written-as}
-use Rattle.sheet.specs.declared.ShellCondition.{ShellCondition}
+use Rattle.edges.specs.declared.ShellCondition.{ShellCondition}
 use Rattle.sheet.specs.Sheet.{verdictLine}
-use Rattle.sheet.specs.Working.{verdictOf}
+use Rattle.edges.specs.Answers.{verdictOf}
 use borrow.Author.Needs.{needs}
 use Rattle.sheet.proofs.put_verdict.Statement.{statement}
 use Rattle.sheet.proofs.put_verdict.Tie as tie

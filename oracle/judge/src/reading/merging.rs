@@ -53,7 +53,9 @@ fn merged<const WIDTH: usize>(points: &[[f64; WIDTH]], tolerance: f64) -> (Vec<u
 }
 
 /// Two points are compared when their cells differ by at most 2 on every axis.
-fn are_compared(a: &[i64], b: &[i64]) -> bool { a.iter().zip(b).all(|(a, b)| (a - b).abs() <= 2) }
+fn are_compared(a: &[i64], b: &[i64]) -> bool {
+    a.iter().zip(b).all(|(a, b)| (a - b).abs() <= 2)
+}
 
 /// The squares are summed left to right.
 fn squared_distance(a: &[f64], b: &[f64]) -> f64 {
@@ -86,11 +88,11 @@ fn walk(lowest: usize, near: &[Vec<usize>]) -> Vec<usize> {
     let mut taken = vec![false; near.len()];
     let mut order = vec![];
     let mut stack = vec![lowest];
-    while let Some(i) = stack.pop() {
-        if !taken[i] {
-            taken[i] = true;
-            order.push(i);
-            stack.extend(&near[i]);
+    while let Some(point) = stack.pop() {
+        if !taken[point] {
+            taken[point] = true;
+            order.push(point);
+            stack.extend(&near[point]);
         }
     }
     order

@@ -33,7 +33,9 @@ pub fn number(call: Call, question: &Question) -> u32 {
 }
 
 /// The first number that is not 0.
-fn first(numbers: &[u32]) -> u32 { numbers.iter().copied().find(|number| *number != 0).unwrap_or(0) }
+fn first(numbers: &[u32]) -> u32 {
+    numbers.iter().copied().find(|number| *number != 0).unwrap_or(0)
+}
 
 /// Numbers 0 to 5.
 pub fn mesh_number(mesh: &Mesh) -> u32 {

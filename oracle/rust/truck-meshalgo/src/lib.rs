@@ -2,9 +2,8 @@
 //! are not in docs/src; this file stands for them. Each of the Rust's files is included whole; what follows it in its module is ours
 //! and opens what the file keeps to itself.
 
+use truck_polymesh::StandardVertex as Vertex;
 use truck_polymesh::*;
-
-type Vertex = StandardVertex;
 
 /// The Rust's macro of this name is not in docs/src; the part that calls it is not judged by.
 macro_rules! nonpositive_tolerance {

@@ -3,7 +3,9 @@
 pub trait Itertools: Iterator + Sized {
     /// Each element with the one after it, and the last with the first.
     fn circular_tuple_windows(mut self) -> CircularPairs<Self>
-    where Self::Item: Copy {
+    where
+        Self::Item: Copy,
+    {
         let first = self.next();
         CircularPairs { first, before: first, rest: self }
     }
@@ -18,7 +20,8 @@ pub struct CircularPairs<I: Iterator> {
 }
 
 impl<I: Iterator> Iterator for CircularPairs<I>
-where I::Item: Copy
+where
+    I::Item: Copy,
 {
     type Item = (I::Item, I::Item);
     fn next(&mut self) -> Option<Self::Item> {

@@ -3,7 +3,9 @@
 use proc_macro::TokenStream;
 
 #[proc_macro_derive(Serialize)]
-pub fn serialize(_: TokenStream) -> TokenStream { TokenStream::new() }
+pub fn serialize(_: TokenStream) -> TokenStream {
+    TokenStream::new()
+}
 
 #[proc_macro_derive(Deserialize)]
 pub fn deserialize(item: TokenStream) -> TokenStream {

@@ -11,10 +11,14 @@ pub struct BoundingBox<P> {
 
 impl BoundingBox<Point3> {
     /// On each axis: least + (greatest - least)/2.
-    pub fn center(self) -> Point3 { self.least + self.diagonal() / 2.0 }
+    pub fn center(self) -> Point3 {
+        self.least + self.diagonal() / 2.0
+    }
 
     /// On each axis: greatest - least.
-    pub fn diagonal(self) -> Vector3 { self.greatest - self.least }
+    pub fn diagonal(self) -> Vector3 {
+        self.greatest - self.least
+    }
 }
 
 impl<'a> FromIterator<&'a Point3> for BoundingBox<Point3> {

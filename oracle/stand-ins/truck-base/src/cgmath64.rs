@@ -78,53 +78,83 @@ coordinates!(Point3, 3, x y z);
 
 impl Mul<Vector3> for f64 {
     type Output = Vector3;
-    fn mul(self, vector: Vector3) -> Vector3 { vector.map(|a| self * a) }
+    fn mul(self, vector: Vector3) -> Vector3 {
+        vector.map(|a| self * a)
+    }
 }
 
 impl Add for Vector3 {
     type Output = Vector3;
-    fn add(self, other: Vector3) -> Vector3 { self.zip(other, |a, b| a + b) }
+    fn add(self, other: Vector3) -> Vector3 {
+        self.zip(other, |a, b| a + b)
+    }
 }
 
 impl Sub for Vector3 {
     type Output = Vector3;
-    fn sub(self, other: Vector3) -> Vector3 { self.zip(other, |a, b| a - b) }
+    fn sub(self, other: Vector3) -> Vector3 {
+        self.zip(other, |a, b| a - b)
+    }
 }
 
 impl Neg for Vector3 {
     type Output = Vector3;
-    fn neg(self) -> Vector3 { self.map(|a| -a) }
+    fn neg(self) -> Vector3 {
+        self.map(|a| -a)
+    }
 }
 
 impl Add<Vector3> for Point3 {
     type Output = Point3;
-    fn add(self, by: Vector3) -> Point3 { Point3::new(self.x + by.x, self.y + by.y, self.z + by.z) }
+    fn add(self, by: Vector3) -> Point3 {
+        Point3::new(self.x + by.x, self.y + by.y, self.z + by.z)
+    }
 }
 
 impl Sub for Point3 {
     type Output = Vector3;
-    fn sub(self, from: Point3) -> Vector3 { Vector3::new(self.x - from.x, self.y - from.y, self.z - from.z) }
+    fn sub(self, from: Point3) -> Vector3 {
+        Vector3::new(self.x - from.x, self.y - from.y, self.z - from.z)
+    }
 }
 
 impl Sub<Point3> for &Point3 {
     type Output = Vector3;
-    fn sub(self, from: Point3) -> Vector3 { *self - from }
+    fn sub(self, from: Point3) -> Vector3 {
+        *self - from
+    }
 }
 
 // The rest is for the parts of the Rust that are compiled and not judged by: planes, curvature, transformations.
 
 impl Point3 {
-    pub const fn origin() -> Point3 { Point3::new(0.0, 0.0, 0.0) }
-    pub fn to_vec(self) -> Vector3 { self - Point3::origin() }
+    pub const fn origin() -> Point3 {
+        Point3::new(0.0, 0.0, 0.0)
+    }
+    pub fn to_vec(self) -> Vector3 {
+        self - Point3::origin()
+    }
 }
 
 impl Vector3 {
-    pub const fn zero() -> Vector3 { Vector3::new(0.0, 0.0, 0.0) }
-    pub const fn unit_x() -> Vector3 { Vector3::new(1.0, 0.0, 0.0) }
-    pub fn dot(self, other: Vector3) -> f64 { self.x * other.x + self.y * other.y + self.z * other.z }
-    pub fn magnitude(self) -> f64 { self.squares().sqrt() }
-    pub fn normalize(self) -> Vector3 { self / self.magnitude() }
-    pub fn angle(self, other: Vector3) -> Rad { Rad(self.cross(other).magnitude().atan2(self.dot(other))) }
+    pub const fn zero() -> Vector3 {
+        Vector3::new(0.0, 0.0, 0.0)
+    }
+    pub const fn unit_x() -> Vector3 {
+        Vector3::new(1.0, 0.0, 0.0)
+    }
+    pub fn dot(self, other: Vector3) -> f64 {
+        self.x * other.x + self.y * other.y + self.z * other.z
+    }
+    pub fn magnitude(self) -> f64 {
+        self.squares().sqrt()
+    }
+    pub fn normalize(self) -> Vector3 {
+        self / self.magnitude()
+    }
+    pub fn angle(self, other: Vector3) -> Rad {
+        Rad(self.cross(other).magnitude().atan2(self.dot(other)))
+    }
     pub fn cross(self, other: Vector3) -> Vector3 {
         let (a, b) = (self, other);
         Vector3::new(a.y * b.z - a.z * b.y, a.z * b.x - a.x * b.z, a.x * b.y - a.y * b.x)
@@ -138,6 +168,10 @@ pub struct Rad(pub f64);
 pub enum Matrix4 {}
 
 impl Matrix4 {
-    pub fn transform_point(&self, _: Point3) -> Point3 { match *self {} }
-    pub fn transform_vector(&self, _: Vector3) -> Vector3 { match *self {} }
+    pub fn transform_point(&self, _: Point3) -> Point3 {
+        match *self {}
+    }
+    pub fn transform_vector(&self, _: Vector3) -> Vector3 {
+        match *self {}
+    }
 }

@@ -13,6 +13,8 @@ pub mod shell {
     /// The weaker of the two, as document 01 takes it.
     impl std::ops::BitAnd for ShellCondition {
         type Output = Self;
-        fn bitand(self, other: Self) -> Self { self.min(other) }
+        fn bitand(self, other: Self) -> Self {
+            self.min(other)
+        }
     }
 }
