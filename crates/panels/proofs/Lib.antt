@@ -11,3 +11,4 @@ pub mod Valid
 pub mod Walking
 pub mod Nearby
 pub mod Popping
+pub mod Listed
