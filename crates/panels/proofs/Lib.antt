@@ -12,3 +12,4 @@ pub mod Walking
 pub mod Nearby
 pub mod Popping
 pub mod Listed
+pub mod Whole

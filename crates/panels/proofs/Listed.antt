@@ -236,9 +236,10 @@ front-rest : (l l₀ vs : List ℕ) (n : ℕ) → length l ≡ length l₀ → n
 front-rest l l₀ vs n g h t d =
     let a : length (take n l) ≡ n = length-take-le n l h in
     let b : length (take n l) ≡ length vs = ap length t in
-    let e : n ≡ length vs = omega arith in
-    (e,
-    sym (take-append-drop n l) ∙ ap₂ (λ (x y : List ℕ). x ++ y) t (d ∙ ap (λ (k : ℕ). drop k l₀) e) ∙ sym (sets-front l₀ vs (omega arith)))
+    let e : n ≡ length vs = omega arith in (
+      e,
+      sym (take-append-drop n l) ∙ ap₂ (λ (x y : List ℕ). x ++ y) t (d ∙ ap (λ (k : ℕ). drop k l₀) e) ∙ sym (sets-front l₀ vs (omega arith)),
+    )
 
 pub list-ends :
     (joins ends flat₀ lengths₀ seen stack flat lengths : List ℕ) (n k i : ℕ) → length ends ≤ i

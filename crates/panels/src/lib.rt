@@ -1,18 +1,117 @@
-// Panels: the faces that hang together. The definitions stand in specs/.
+// Panels: the faces that hang together. Two faces are neighbours when they share an edge key: both positions, and with the normals
+// setting also both normals. `components` lists the panels as the Rust's `components` does.
+//
+// The uses of edge keys are columns of numbers (keys.rt). A stable sort puts uses of one key together, the first one first
+// (firsts.rt); so each use knows the first face that had its key, and joins are recorded in the order of the uses (joins.rt). The
+// same sort puts the entries of the joins by face, in the order they were recorded; a search with a stack lists the panels
+// (search.rt). All of it is linear: no use and no face is looked for.
 ghost use mathlib.Core.Path.{_≡_};
 ghost use Prim.Native.Nat.{_≤_};
 ghost use lib.ListN.{length};
 ghost use Rattle.lists.specs.Lists.{span};
+ghost use Rattle.mesh.specs.Mesh.{meshOf, rings};
+ghost use Rattle.panels.specs.Panels.{joins};
+ghost use Rattle.panels.specs.Contract.{Answered};
+ghost use Rattle.panels.specs.Joins.{flatJoins, Wrote};
+ghost use Rattle.panels.specs.Walk.{panelsBelow, Parted};
+ghost use Rattle.panels.specs.Rows.{JoinRoom, KeyRows, Divisible, PartRows};
 
 mod firsts;
 mod joins;
 mod keys;
 mod search;
 
-fn wide(x: u32) -> usize
-    ensures { λ r. ⌜ r ≡ x ⌝ }
+// The joins of a mesh, flat, in the order they are recorded: how many numbers they are.
+fn find_joins(corners: &[u32], sizes: &[u32], normals: bool, out: &mut [u32]) -> usize
+    requires { ⌜ JoinRoom (now corners) (now sizes) (now out) ⌝ }
+    ensures { λ r. ⌜ Wrote (flatJoins (joins normals (rings (now (sizes .entry)) (now (corners .entry))))) (now (out .entry)) 0 (now (out .exit)) r ⌝ }
 {
-    x as usize
+    let mut lower = [0u32; 4096];
+    let mut higher = [0u32; 4096];
+    let mut n = [0u32; 4096];
+    let mut m = [0u32; 4096];
+    let mut order = [0u32; 4096];
+    let mut firsts = [0u32; 4096];
+    let mut faces = [0u32; 4096];
+    let u = corners.len() / 3;
+    record_joins(
+        corners,
+        sizes,
+        normals,
+        &mut lower[..u],
+        &mut higher[..u],
+        &mut n[..u],
+        &mut m[..u],
+        &mut order[..u],
+        &mut firsts[..u],
+        &mut faces[..u],
+        out,
+    )
+}
+
+// The same, in rows of one number for each use: four for the digits of the keys, n and m those of the normals.
+fn record_joins(
+    corners: &[u32],
+    sizes: &[u32],
+    normals: bool,
+    lower: &mut [u32],
+    higher: &mut [u32],
+    n: &mut [u32],
+    m: &mut [u32],
+    order: &mut [u32],
+    firsts: &mut [u32],
+    faces: &mut [u32],
+    out: &mut [u32],
+) -> usize
+    requires { ⌜ KeyRows (now corners) (now sizes) (now lower) (now higher) (now n) (now m) (now order) (now firsts) (now faces) (now out) ⌝ }
+    ensures { λ r. ⌜ Wrote (flatJoins (joins normals (rings (now (sizes .entry)) (now (corners .entry))))) (now (out .entry)) 0 (now (out .exit)) r ⌝ }
+{
+    keys::put_digits(corners, sizes, normals, lower, higher, n, m);
+    firsts::first_uses(lower, higher, n, m, order, firsts);
+    keys::put_column(corners, sizes, normals, keys::FACE, faces);
+    joins::put_joins(faces, firsts, out)
+}
+
+// The panels of `faces` faces that the joins connect.
+fn part(joins: &[u32], faces: usize, flat: &mut [u32], lengths: &mut [u32]) -> search::Counts
+    requires { ⌜ Divisible (now joins) faces (now flat) (now lengths) ⌝ }
+    ensures { λ r. ⌜ Parted (panelsBelow faces faces (now (joins .entry))) (now (flat .entry)) (now (lengths .entry)) (now (flat .exit)) (now (lengths .exit)) (r .faces) (r .panels) ⌝ }
+{
+    let mut entries = [0u32; 8192];
+    let mut order = [0u32; 8192];
+    let mut ends = [0u32; 1365];
+    let mut seen = [0u32; 1365];
+    let mut stack = [0u32; 1365];
+    let n = joins.len();
+    part_in(
+        joins,
+        &mut entries[..n],
+        &mut order[..n],
+        &mut ends[..faces],
+        &mut seen[..faces],
+        &mut stack[..faces],
+        flat,
+        lengths,
+    )
+}
+
+// The same, in rows of one number for each entry of the joins and of one for each face.
+fn part_in(
+    joins: &[u32],
+    entries: &mut [u32],
+    order: &mut [u32],
+    ends: &mut [u32],
+    seen: &mut [u32],
+    stack: &mut [u32],
+    flat: &mut [u32],
+    lengths: &mut [u32],
+) -> search::Counts
+    requires { ⌜ PartRows (now joins) (now entries) (now order) (now ends) (now seen) (now stack) (now flat) (now lengths) ⌝ }
+    ensures { λ r. ⌜ Parted (panelsBelow (length (now (ends .entry))) (length (now (ends .entry))) (now (joins .entry))) (now (flat .entry)) (now (lengths .entry)) (now (flat .exit)) (now (lengths .exit)) (r .faces) (r .panels) ⌝ }
+{
+    count_up(entries);
+    sorting::sort_ends(joins, entries, ends, order);
+    search::list_panels(joins, order, ends, seen, stack, flat, lengths)
 }
 
 // 0, 1, 2, ..
@@ -25,4 +124,10 @@ fn count_up(out: &mut [u32])
         out[i] = i as u32;
         i += 1;
     }
+}
+
+fn wide(x: u32) -> usize
+    ensures { λ r. ⌜ r ≡ x ⌝ }
+{
+    x as usize
 }

@@ -60,7 +60,10 @@ fn list_panel(
     ensures { λ r. ⌜ walk.PanelledMore (i + 1) (now (joins .entry)) (now (ends .entry)) (now (flat .entry)) (now (lengths .entry)) n k (now (seen .exit)) (now (stack .exit)) (now (flat .exit)) (now (lengths .exit)) (r .faces) (r .panels) ⌝ }
 {
     if seen[i] != 0 {
-        return Counts { faces: n, panels: k };
+        return Counts {
+            faces: n,
+            panels: k,
+        };
     }
     let m = search(joins, order, ends, i as u32, seen, stack, flat, n);
     lengths[k] = (m - n) as u32;

@@ -18,12 +18,12 @@ loop-holds c = record-begins _ _ _
 
 put-join-requires : tie.Need-put-join-requires Inv-loop μ-loop
 put-join-requires c κs = record {
-      few = omega (arith, c .before .before .loop .inv .few, c .before .before .before .before .before .before .pre .few, c .before .loop-test .taken);
-      inside = c .before .loop-test .taken;
-      faces-long = c .before .before .before .before .before .before .pre .faces-long;
-      named = c .before .before .before .before .before .before .pre .named _ (c .before .loop-test .taken);
-      room = omega (arith, c .before .before .loop .inv .few, c .before .before .loop .inv .long, c .before .before .before .before .before .before .pre .room, c .before .loop-test .taken);
-    }
+  few = omega (arith, c .before .before .loop .inv .few, c .before .before .before .before .before .before .pre .few, c .before .loop-test .taken);
+  inside = c .before .loop-test .taken;
+  faces-long = c .before .before .before .before .before .before .pre .faces-long;
+  named = c .before .before .before .before .before .before .pre .named _ (c .before .loop-test .taken);
+  room = omega (arith, c .before .before .loop .inv .few, c .before .before .loop .inv .long, c .before .before .before .before .before .before .pre .room, c .before .loop-test .taken);
+}
 
 add-u : tie.Need-add-u Inv-loop μ-loop
 add-u c = search needs

@@ -18,11 +18,11 @@ cast-search c = search needs
 
 search-requires : tie.Need-search-requires
 search-requires c κs = record {
-      adjacent = c .before .before .before .before .before .before .before .before .before .before .before .before .pre .adjacent;
-      listing = c .before .before .before .before .before .before .before .before .before .before .before .before .pre .panelling .listing;
-      is-face = c .before .before .before .before .before .before .before .before .before .before .before .before .pre .is-face;
-      new = panel-new _ _ _ _ _ _ _ _ _ (c .before .before .before .before .before .before .before .before .before .before .before .before .pre .panelling) (c .before .before .before .before .before .before .before .before .before .before .before .before .pre .is-face) (c .before .before .before .if1 .left);
-    }
+  adjacent = c .before .before .before .before .before .before .before .before .before .before .before .before .pre .adjacent;
+  listing = c .before .before .before .before .before .before .before .before .before .before .before .before .pre .panelling .listing;
+  is-face = c .before .before .before .before .before .before .before .before .before .before .before .before .pre .is-face;
+  new = panel-new _ _ _ _ _ _ _ _ _ (c .before .before .before .before .before .before .before .before .before .before .before .before .pre .panelling) (c .before .before .before .before .before .before .before .before .before .before .before .before .pre .is-face) (c .before .before .before .if1 .left);
+}
 
 sub-lengths : tie.Need-sub-lengths
 sub-lengths c = search needs

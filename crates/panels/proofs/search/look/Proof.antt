@@ -32,9 +32,9 @@ other-end-requires c κs = record { whole = c .before .before .before .before .b
 
 visit-requires : tie.Need-visit-requires Inv-loop μ-loop
 visit-requires c κs = record {
-      listing = relisted _ _ _ _ _ _ (c .before .before .before .before .before .before .before .loop .inv .listing);
-      face = omega (arith, c .before .before .before .other-end .ensures, other-below _ (c .before .before .before .before .before .before .before .before .before .before .before .before .before .args .joins .now) (c .before .before .before .before .wide .result) (c .before .before .before .before .before .before .before .before .before .before .before .before .before .pre .whole) (c .before .before .before .before .before .before .before .before .before .before .before .before .before .pre .below) (omega (arith, c .before .before .before .before .wide .ensures, c .before .before .before .before .before .before .before .before .before .before .before .before .before .pre .entries (c .before .before .before .before .before .before .before .loop .p) (omega (arith, c .before .before .before .before .before .before .before .before .before .before .before .before .before .pre .within)))), c .before .before .before .before .before .before .before .loop .inv .listing .seen-long);
-    }
+  listing = relisted _ _ _ _ _ _ (c .before .before .before .before .before .before .before .loop .inv .listing);
+  face = omega (arith, c .before .before .before .other-end .ensures, other-below _ (c .before .before .before .before .before .before .before .before .before .before .before .before .before .args .joins .now) (c .before .before .before .before .wide .result) (c .before .before .before .before .before .before .before .before .before .before .before .before .before .pre .whole) (c .before .before .before .before .before .before .before .before .before .before .before .before .before .pre .below) (omega (arith, c .before .before .before .before .wide .ensures, c .before .before .before .before .before .before .before .before .before .before .before .before .before .pre .entries (c .before .before .before .before .before .before .before .loop .p) (omega (arith, c .before .before .before .before .before .before .before .before .before .before .before .before .before .pre .within)))), c .before .before .before .before .before .before .before .loop .inv .listing .seen-long);
+}
 
 add-p : tie.Need-add-p Inv-loop μ-loop
 add-p c = search needs
