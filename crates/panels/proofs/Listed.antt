@@ -1,22 +1,21 @@
 -- The panels of the faces below i, one face more, and all of them. Assumes nothing.
 use mathlib.Core.Path.{_≡_, refl, sym, ap, ap₂, _∙_, subst}
-use mathlib.Core.Bool.{Bool, true, false}
+use mathlib.Core.Bool.{true, false}
 use mathlib.Core.List.{List, [], _∷_, _++_, append-nil, map}
 use Prim.Native.Nat.{ℕ, zero, suc, _+_, _-_, _≤_, _<_}
 use native.Mathlib.Nat.{add-zero, zero-add}
 use native.Mathlib.Numerals.{add-one}
 use native.Mathlib.Omega.{arith}
-use lib.Dec.{eqb}
-use lib.ListN.{length, getD, take, drop, set, replicate, length-append, length-map, length-replicate, getD-replicate, take-append-drop}
+use lib.ListN.{length, getD, take, drop, set, length-append, length-map, length-replicate, getD-replicate, take-append-drop}
 use lib.Seq.{sets, length-take-le, take-suc-set, drop-set-lt}
 use Rattle.lists.specs.Lists.{has, joined}
-use Rattle.lists.proofs.Bools.{by-cases, true-false}
+use Rattle.lists.proofs.Bools.{by-cases}
 use Rattle.lists.proofs.Counting.{clash}
 use Rattle.lists.proofs.Parts.{joined-append}
 use Rattle.lists.proofs.Writing.{sets-front}
 use Rattle.panels.specs.Panels.{Join, search′, panelsFrom}
 use Rattle.panels.specs.Joins.{joinsOf}
-use Rattle.panels.specs.Walk.{Listing, markOf, Searched, panelsBelow, Panelling, PanelledMore, Partable, Parted}
+use Rattle.panels.specs.Walk.{markOf, Searched, panelsBelow, Panelling, PanelledMore, Partable, Parted}
 use Rattle.panels.proofs.Walking.{not-seen, drop-further}
 
 -- ---- one face more

@@ -3,17 +3,16 @@ use mathlib.Core.Path.{_≡_, refl, sym, ap, ap₂, _∙_, subst}
 use mathlib.Core.Bool.{Bool, true, false, cond, _&&_, _||_}
 use mathlib.Core.List.{List, [], _∷_, _++_, map}
 use Prim.Native.Nat.{ℕ, zero, suc, _+_, _*_, _/_, _≤_, _<_}
-use native.Mathlib.Nat.{not-suc-le-zero}
 use native.Mathlib.Omega.{arith}
 use lib.Dec.{ltb, eqb}
 use lib.ListN.{length, getD, take, drop, length-append, length-map, List·getD-map}
 use lib.Seq.{take-nil, drop-nil}
-use borrow.Author.Tests.{lt-ltb, ltb-true, eq-eqb, ne-eqb, eqb-true, eqb-false}
+use borrow.Author.Tests.{lt-ltb, ltb-true, eq-eqb, eqb-true, eqb-false}
 use Rattle.lists.specs.Lists.{every, sum}
 use Rattle.lists.proofs.Bools.{by-cases, and-both, and-left, and-right, or-left, or-right}
 use Rattle.lists.proofs.Cases.{iff}
 use Rattle.lists.proofs.Parts.{every-append, every-at}
-use Rattle.mesh.specs.Mesh.{Mesh, Corner, Ring, position, normal, missing, threes, rings, cornerAt, positionCount, normalCount}
+use Rattle.mesh.specs.Mesh.{Mesh, Corner, Ring, position, normal, missing, threes, rings}
 use Rattle.mesh.proofs.Corners.{length-threes, getD-threes}
 use Rattle.mesh.proofs.Faces.{sizes-back}
 use Rattle.mesh.proofs.Accepted.{Accepted, Found}

@@ -1,23 +1,23 @@
 -- The call as a whole: from the lists of an accepted mesh to columns, to joins, to the row of entries, to the panels of the rules;
 -- and its number. Assumes nothing.
 use mathlib.Core.Path.{_≡_, refl, sym, ap, ap₂, _∙_, subst}
-use mathlib.Core.Bool.{Bool, true, false, cond, _&&_, _||_}
+use mathlib.Core.Bool.{Bool, true, false, cond, _&&_}
 use mathlib.Core.Option.{Option, none, some}
-use mathlib.Core.List.{List, [], _∷_, _++_, append-nil, map}
+use mathlib.Core.List.{List, [], _∷_, _++_, map}
 use Prim.Native.Nat.{ℕ, zero, suc, _+_, _*_, _/_, _≤_, _<_}
-use native.Mathlib.Nat.{zero-add, suc-add, add-suc}
+use native.Mathlib.Nat.{le-of-eq}
 use native.Mathlib.Omega.{arith}
-use lib.Dec.{ltb, eqb}
-use lib.ListN.{length, getD, take, drop, replicate, length-append, length-map, length-replicate}
-use lib.Seq.{sets, length-sets, take-at}
-use borrow.Author.Tests.{lt-ltb, le-ltb, ltb-true, eq-eqb, ne-eqb, eqb-true, eqb-false}
+use lib.Dec.{ltb}
+use lib.ListN.{length, getD, take, drop, replicate, length-map, length-replicate}
+use lib.Seq.{sets, length-take-le, take-at}
+use borrow.Author.Tests.{lt-ltb, le-ltb, ltb-true}
 use Rattle.lists.specs.Lists.{every, joined, each, span, sum}
-use Rattle.lists.proofs.Bools.{by-cases, and-both, and-left, and-right}
+use Rattle.lists.proofs.Bools.{and-both, and-left, and-right}
 use Rattle.lists.proofs.Parts.{every-append, every-at}
 use Rattle.lists.proofs.Writing.{sets-front}
 use Rattle.lists.proofs.Buckets.{length-front, length-span, span-at}
 use Rattle.mesh.specs.Mesh.{Mesh, Ring, rings, faces}
-use Rattle.mesh.specs.Table.{firstOf, when, lent, short, meshNumber, after}
+use Rattle.mesh.specs.Table.{when, lent, short, meshNumber, after}
 use Rattle.mesh.proofs.Numbers.{first-is, first-on, row-given, row-passed}
 use Rattle.mesh.proofs.Faces.{length-rings}
 use Rattle.mesh.proofs.Accepted.{Accepted}
@@ -27,8 +27,8 @@ use Rattle.panels.specs.Panels.{Key, sameKey, faceKeys, Use, usesFrom, f
 use Rattle.panels.specs.Contract.{panelsNumber, panelsOf, Answered}
 use Rattle.panels.specs.Columns.{entryOf, column, faceUses, Digits}
 use Rattle.panels.specs.Firsts.{KeyColumns, TwoRows, Marked}
-use Rattle.panels.specs.Joins.{flatJoin, flatJoins, joinsOf, joinsBy, Joinable, Wrote}
-use Rattle.panels.specs.Walk.{Adjacent, panelsBelow, Partable, Parted}
+use Rattle.panels.specs.Joins.{flatJoin, flatJoins, joinsBy, Joinable, Wrote}
+use Rattle.panels.specs.Walk.{panelsBelow, Partable, Parted}
 use Rattle.panels.specs.Rows.{Keyable, JoinRoom, Divisible}
 use Rattle.panels.proofs.Valid.{goodKey, keyable, uses-good, faces-good, key-columns, uses-corners}
 use Rattle.panels.proofs.Sorted.{sets-whole}
@@ -317,8 +317,14 @@ module _ (m : Mesh) (normals : Bool) (a : Accepted m) where
   joins-room row h = record { keyable = keyable m a; room = h }
 
   module _ (row row′ : List ℕ) (n : ℕ) (w : Wrote (flatJoins (joins normals (rings (m .sizes) (m .corners)))) row 0 row′ n) (h : 8192 ≤ length row) where
-    pub row-within : n ≤ 8192
+    row-within : n ≤ 8192
     row-within = let b : n ≡ 0 + length (flatJoins (joins normals (rings (m .sizes) (m .corners)))) = w .behind in let c : length (flatJoins (joins normals (rings (m .sizes) (m .corners)))) ≤ 8192 = row-few in omega arith
+
+    pub row-inside : length row′ ≡ length row → n ≤ length row′
+    row-inside g = let b : n ≤ 8192 = row-within in omega arith
+
+    pub row-counts : length row′ ≡ length row → n ≡ length (take n row′)
+    row-counts g = sym (length-take-le n row′ (row-inside g))
 
     row-is : take n row′ ≡ flatJoins (joins normals (rings (m .sizes) (m .corners)))
     row-is =
@@ -385,3 +391,6 @@ module _ (joins : List ℕ) (f : ℕ) (flat lengths : List ℕ) (p : Divisible j
 
   pub clear-row : take {A = ℕ} f (replicate 1365 0) ≡ replicate (length (take {A = ℕ} f (replicate 1365 0))) 0
   clear-row = front-row f 1365 (p .small) ∙ ap (λ (n : ℕ). replicate n 0) (sym face-row)
+
+pub whole-row : 8192 ≤ length {A = ℕ} (replicate 8192 0)
+whole-row = le-of-eq (sym (length-replicate {A = ℕ} 8192 0))

@@ -9,7 +9,7 @@ use lib.ListN.{length, getD, take, drop, replicate}
 use lib.Seq.{slice, sets}
 use Rattle.lists.specs.Lists.{count, has, joined, span}
 use Rattle.sorting.specs.Sorting.{sortedBy, endsBy}
-use Rattle.panels.specs.Panels.{Search, neighbours, look, search′, panelsFrom}
+use Rattle.panels.specs.Panels.{Search, panelsFrom}
 use Rattle.panels.specs.Joins.{flatJoins, joinsOf}
 
 -- ---- neighbours in a row

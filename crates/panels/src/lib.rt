@@ -21,6 +21,62 @@ mod joins;
 mod keys;
 mod search;
 
+// What `components` answers: its number, how many faces it listed and in how many panels; both counts are 0 beside another number
+// than 0.
+pub struct Answer {
+    pub number: u32,
+    pub faces: usize,
+    pub panels: usize,
+}
+
+// The panels of a mesh.
+//
+// Lends: `flat`, the faces of all panels one after the other, and `lengths`, how many faces each panel has; room in each for one
+// number per corner. With `use_normal` two faces are neighbours only where the normals at their shared edge are the same too.
+// Numbers: 0 to 5, and 9.
+pub fn components(
+    positions: &[f64],
+    textures: &[f64],
+    normals: &[f64],
+    corners: &[u32],
+    sizes: &[u32],
+    use_normal: bool,
+    flat: &mut [u32],
+    lengths: &mut [u32],
+) -> Answer
+    ensures { λ r. ⌜ Answered (meshOf (now (positions .entry)) (now (textures .entry)) (now (normals .entry)) (now (corners .entry)) (now (sizes .entry))) «use_normal» (now (flat .entry)) (now (lengths .entry)) (r .number) (r .faces) (r .panels) (now (flat .exit)) (now (lengths .exit)) ⌝ }
+{
+    let number = mesh::number(positions, textures, normals, corners, sizes);
+    if number != 0 {
+        return refused(number);
+    }
+    let room = corners.len() / 3;
+    if flat.len() < room {
+        return refused(9);
+    }
+    if lengths.len() < room {
+        return refused(9);
+    }
+    let mut row = [0u32; 8192];
+    let n = find_joins(corners, sizes, use_normal, &mut row[..]);
+    let counts = part(&row[..n], sizes.len(), flat, lengths);
+    Answer {
+        number: 0,
+        faces: counts.faces,
+        panels: counts.panels,
+    }
+}
+
+fn refused(number: u32) -> Answer
+    ensures { λ r. ⌜ (r .number ≡ number) × (r .faces ≡ 0) × (r .panels ≡ 0) ⌝ }
+{
+    Answer {
+        number: number,
+        faces: 0,
+        panels: 0,
+    }
+}
+
 // The joins of a mesh, flat, in the order they are recorded: how many numbers they are.
 fn find_joins(corners: &[u32], sizes: &[u32], normals: bool, out: &mut [u32]) -> usize
     requires { ⌜ JoinRoom (now corners) (now sizes) (now out) ⌝ }
