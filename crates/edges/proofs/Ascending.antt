@@ -39,7 +39,10 @@ module _ (g : Edge → Edge) where
   -- x is not among the edges that it is before
   pub above-not : (x : Edge) (l : List Edge) → Above (g x) (map g l) → some (same x) l ≡ false
   above-not x l a =
-      by-cases (some (same x) l) (λ p. let k : Before (g x) (g x) = above-member x x l a p in absurd (before-asym (g x) (g x) k k)) (λ p. p)
+      by-cases
+      (some (same x) l)
+      (λ p. let k : Before (g x) (g x) = above-member x x l a p in absurd (before-asym (g x) (g x) k k))
+      (λ p. p)
 
   pub unique : (s t : List Edge) → Asc (map g s) → Asc (map g t) → ((x : Edge) → some (same x) s ≡ some (same x) t) → s ≡ t
   unique [] [] a b h = refl

@@ -87,7 +87,7 @@ last-key es k m =
     let r : (e : Edge) × (same k (key e) ≡ true) × (some (same e) es ≡ true) = found (λ e. same k (key e)) es (sym (keys-member k es) ∙ m) in
     key-last k k es (subst (λ j. key j ≡ j) (sym (same-true k (key (r .0)) (r .1))) (key-key (r .0)))
 
-last-none : (k d : Edge) (es : List Edge) → uses k es ≡ 0 → lastOr k d es ≡ d
+pub last-none : (k d : Edge) (es : List Edge) → uses k es ≡ 0 → lastOr k d es ≡ d
 last-none k d [] u = refl
 last-none k d (x ∷ es) u = go (same k (key x)) u (last-none k d es)
   where
@@ -201,7 +201,7 @@ map-runs f d (x ∷ l) h =
     go false p false q true r ih = ih ∙ rw r
     go false p false q false r ih = ih ∙ rw r
 
-some-only : (q p : Edge → Bool) (l : List Edge) → some q (only p l) ≡ true → some q l ≡ true
+pub some-only : (q p : Edge → Bool) (l : List Edge) → some q (only p l) ≡ true → some q l ≡ true
 some-only q p [] h = h
 some-only q p (x ∷ l) h = go (p x) h (some-only q p l)
   where

@@ -4,3 +4,16 @@ pub mod HemUses
 pub mod OnlyHems
 pub mod Reordered
 pub mod Rings
+pub mod HemBounds
+pub mod EachEdge
+pub mod Keys
+pub mod Grouped
+pub mod Scans
+pub mod Judging
+pub mod LastUses
+pub mod Uses
+pub mod Filling
+pub mod Facing
+pub mod Ordered
+pub mod Composed
+pub mod Answering

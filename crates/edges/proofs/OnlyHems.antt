@@ -1,13 +1,22 @@
 -- `hems` is the one list of the hem edges in ascending order: what the rule says of it leaves no other. Assumes nothing.
 use mathlib.Core.Path.{_≡_, refl, sym, ap, _∙_}
 use mathlib.Core.Bool.{Bool, true, false, cond, not, _&&_, and-false}
-use mathlib.Core.List.{List, map}
+use mathlib.Core.List.{List, [], _∷_, _++_, map}
 use Prim.Native.Nat.{ℕ, zero, suc}
 use Rattle.lists.specs.Lists.{some, bump}
 use Rattle.lists.proofs.Counting.{pos, some-count}
 use Rattle.edges.specs.Edges.{Edge, same, key, uses, odd, lastOr, hems}
+use Rattle.edges.proofs.SameEdge.{same-refl}
 use Rattle.edges.proofs.Ascending.{Asc, unique}
-use Rattle.edges.proofs.HemUses.{hem-count, hems-asc}
+use Rattle.edges.proofs.HemUses.{last-none, hem-count, hems-asc}
+
+-- the last use of an edge is the one behind which there is none
+last-append : (k d : Edge) (a b : List Edge) → lastOr k d (a ++ b) ≡ lastOr k (lastOr k d a) b
+last-append k d [] b = refl
+last-append k d (e ∷ a) b = last-append k (cond (same k (key e)) e d) a b
+
+pub last-is : (e d : Edge) (a b : List Edge) → uses (key e) b ≡ 0 → lastOr (key e) d (a ++ (e ∷ b)) ≡ e
+last-is e d a b u = last-append (key e) d a (e ∷ b) ∙ rw (same-refl (key e)) (last-none (key e) e b u)
 
 -- a hem edge: used an odd number of times, with the direction of its last use
 abbrev pub isHem : List Edge → Edge → Bool

@@ -2,8 +2,14 @@ pub mod Alike
 pub mod Bools
 pub mod Buckets
 pub mod Cases
+pub mod Copies
 pub mod Counting
+pub mod Growing
+pub mod Mapping
 pub mod Members
 pub mod Numbers
+pub mod Only
 pub mod Parts
+pub mod Seeking
 pub mod Writing
+pub mod Others

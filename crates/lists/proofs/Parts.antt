@@ -9,7 +9,7 @@ use native.Mathlib.Omega.{arith}
 use lib.ListN.{length, getD, take, drop, length-append}
 use lib.Seq.{take-suc, drop-cons, drop-length}
 use Rattle.lists.specs.Lists.{some, every, joined, each, sum}
-use Rattle.lists.proofs.Bools.{and-left, and-right, or-false-left, or-false-right, or-left, or-right}
+use Rattle.lists.proofs.Bools.{and-left, and-right, and-both, or-false-left, or-false-right, or-left, or-right}
 
 -- ---- sums
 
@@ -32,6 +32,11 @@ sum-take (n ∷ s) (suc k) = let e : sum (take k s) ≤ sum s = sum-take s k in 
 -- nor does one number, on top of those before it
 pub sum-at : (s : List ℕ) (k : ℕ) → k < length s → sum (take k s) + getD s k 0 ≤ sum s
 sum-at s k h = let e : sum (take (k + 1) s) ≡ sum (take k s) + getD s k 0 = sum-step s k h in let l : sum (take (k + 1) s) ≤ sum s = sum-take s (k + 1) in omega arith
+
+-- each counts for one
+pub sum-ones : {A : Type 0} (l : List A) → sum (map (λ x. 1) l) ≡ length l
+sum-ones [] = refl
+sum-ones (x ∷ l) = let e : sum (map (λ x. 1) l) ≡ length l = sum-ones l in omega arith
 
 -- ---- tests over a list
 
@@ -65,6 +70,17 @@ module _ {A : Type 0} (p : A → Bool) where
   every-at d [] k e h = absurd (not-suc-le-zero h)
   every-at d (x ∷ l) zero e h = and-left (p x) (every p l) e
   every-at d (x ∷ l) (suc k) e h = every-at d l k (and-right (p x) (every p l) e) (le-of-suc-le-suc h)
+
+  -- what every element passes, the first of them pass, and the rest
+  pub every-take : (k : ℕ) (l : List A) → every p l ≡ true → every p (take k l) ≡ true
+  every-take zero l h = refl
+  every-take (suc k) [] h = refl
+  every-take (suc k) (x ∷ l) h = and-both (p x) (every p (take k l)) (and-left (p x) (every p l) h) (every-take k l (and-right (p x) (every p l) h))
+
+  pub every-drop : (k : ℕ) (l : List A) → every p l ≡ true → every p (drop k l) ≡ true
+  every-drop zero l h = h
+  every-drop (suc k) [] h = refl
+  every-drop (suc k) (x ∷ l) h = every-drop k l (and-right (p x) (every p l) h)
 
 -- ---- a search from the front that has found nothing among the first k: the answer for the list is the answer for the rest
 

@@ -5,8 +5,8 @@ use Prim.Native.Nat.{ℕ, suc, _+_, _≤_, _<_}
 use native.Mathlib.Nat.{add-zero, add-suc, suc-add, zero-add}
 use native.Mathlib.Numerals.{add-one}
 use native.Mathlib.Omega.{arith}
-use lib.ListN.{length, getD, take, drop, set, length-set}
-use lib.Seq.{sets, take-suc, length-take-le, take-length, sets-eq}
+use lib.ListN.{length, getD, take, drop, set, length-set, length-append}
+use lib.Seq.{take-at, sets, take-suc, length-take-le, take-length, sets-eq}
 
 module _ {A : Type 0} where
   -- first a, then b behind it
@@ -27,6 +27,13 @@ module _ {A : Type 0} where
   -- what is written from 0 on stands in front of what was there
   pub sets-front : (l vs : List A) → length vs ≤ length l → sets l 0 vs ≡ vs ++ drop (length vs) l
   sets-front l vs h = sets-eq vs l 0 (omega arith) ∙ ap (λ (k : ℕ). vs ++ drop k l) (zero-add (length vs))
+
+  -- the front that ends with what is written
+  pub take-sets : (l : List A) (i : ℕ) (vs : List A) (n : ℕ) → n ≡ i + length vs → n ≤ length l → take n (sets l i vs) ≡ take i l ++ vs
+  take-sets l i vs n e h =
+      let a : length (take i l) ≡ i = length-take-le i l (omega arith) in
+      ap (take n) (sets-eq vs l i (omega arith))
+      ∙ take-at (take i l ++ vs) (drop (i + length vs) l) n (omega (arith, length-append (take i l) vs))
 
 -- A copy under way: l' is l with the first t elements of s written from b on.
 pub record Copying {A : Type 0} (s l l' : List A) (b t : ℕ) : Type 0 where

@@ -1,6 +1,6 @@
 -- Plain list functions that the rules are written with: one sentence each. Their laws stand in proofs/. Assumes nothing.
 use Prim.Native.Nat.{ℕ, zero, suc, _+_}
-use mathlib.Core.Bool.{Bool, true, false, cond, _&&_, _||_}
+use mathlib.Core.Bool.{Bool, true, false, cond, not, _&&_, _||_}
 use mathlib.Core.List.{List, [], _∷_, _++_}
 use lib.Dec.{eqb}
 
@@ -56,6 +56,10 @@ module _ {A : Type 0} where
 abbrev pub has : ℕ → List ℕ → Bool
 has x l = some (eqb x) l
 
+-- the numbers other than x, in their order
+abbrev pub others : ℕ → List ℕ → List ℕ
+others x l = only (λ (y : ℕ). not (eqb x y)) l
+
 -- the numbers a, a + 1, .., n of them
 abbrev pub span : ℕ → ℕ → List ℕ
 span a zero = []
@@ -65,3 +69,10 @@ span a (suc n) = a ∷ span (suc a) n
 abbrev pub sum : List ℕ → ℕ
 sum [] = 0
 sum (n ∷ l) = n + sum l
+
+-- whether two lists have the same numbers in the same places
+abbrev pub sameNumbers : List ℕ → List ℕ → Bool
+sameNumbers [] [] = true
+sameNumbers [] (y ∷ k) = false
+sameNumbers (x ∷ l) [] = false
+sameNumbers (x ∷ l) (y ∷ k) = eqb x y && sameNumbers l k

@@ -3,3 +3,4 @@ pub mod Faces
 pub mod Rows
 pub mod Numbers
 pub mod Accepted
+pub mod After

@@ -211,7 +211,7 @@ pub fn kind_of(n: u32) -> u32
 }
 
 // Row 5: a position index, or a texture or normal index that isn't missing, is not below its list's count.
-fn astray(
+pub fn astray(
     positions: &[f64],
     textures: &[f64],
     normals: &[f64],

@@ -12,12 +12,13 @@ use Rattle.mesh.specs.Mesh.{Mesh, Ring, rings, faces}
 use Rattle.mesh.specs.Table.{meshNumber}
 use Rattle.mesh.proofs.Faces.{length-rings, getD-rings, length-face}
 use Rattle.mesh.proofs.Accepted.{Accepted, accepted}
-use Rattle.edges.specs.Edges.{edgesOf, Verdict, Irregular, Oriented, Closed, verdict}
+use Rattle.edges.specs.Edges.{edgesOf, Verdict, Irregular, Oriented, Closed, verdict, hems}
 use Rattle.edges.proofs.HemUses.{not-irregular}
 use Rattle.edges.proofs.Reordered.{verdict-alike, hems-undirected, hems-alike}
 use Rattle.wires.specs.House.{houseWires}
+use Rattle.wires.specs.Ported.{portedWires}
 use Rattle.order.specs.Same.{Same, Matching}
-use Rattle.order.specs.Demand.{Demand3}
+use Rattle.order.specs.Demand.{Demand3, OrderIsFree}
 use Rattle.order.proofs.Matched.{same-matched}
 use Rattle.order.proofs.Counted.{edges-alike}
 use Rattle.order.proofs.Panelwise.{Full, panels-matched}
@@ -38,7 +39,8 @@ same-faces {m} {n} f g s =
       same-directions = λ v. hems-alike h (not-irregular (edgesOf m) v);
       same-wires = λ v. ap houseWires (hems-alike h (not-irregular (edgesOf m) (tame (verdict (edgesOf m)) v)));
       matching = r;
-      same-panels = λ k a b la lb. panels-matched k r f g a b (r .to a) (r .to b) la (r .to-face a la) (r .turned a la) (r .turned b lb);
+      same-panels = λ k a b la lb.
+          panels-matched k r f g a b (r .to a) (r .to b) la (r .to-face a la) (r .turned a la) (r .turned b lb);
       same-panels-of = λ k. panels-matched k r f g;
     }
 
@@ -55,5 +57,13 @@ accepted-full m e x l =
     omega arith
 
 -- of two accepted meshes
-pub demand3 : (m n : Mesh) → meshNumber m ≡ 0 → meshNumber n ≡ 0 → Same (faces m) (faces n) → Demand3 (faces m) (faces n)
+pub demand3 : OrderIsFree
 demand3 m n a b s = same-faces (accepted-full m a) (accepted-full n b) s
+
+-- ported wires go by the hem edges alone: they are the same too, unless the verdict is Irregular
+pub same-ported :
+    {m n : List Ring}
+    → Demand3 m n
+    → (verdict (edgesOf m) ≡ Irregular → ⊥)
+    → portedWires (hems (edgesOf m)) ≡ portedWires (hems (edgesOf n))
+same-ported d v = ap portedWires (d .same-directions v)

@@ -6,11 +6,12 @@ use mathlib.Core.Bool.{Bool}
 use mathlib.Core.List.{List, [], map}
 use Prim.Native.Nat.{ℕ, _<_}
 use lib.ListN.{length, getD}
-use Rattle.mesh.specs.Mesh.{Ring}
+use Rattle.mesh.specs.Mesh.{Mesh, Ring, faces}
+use Rattle.mesh.specs.Table.{meshNumber}
 use Rattle.edges.specs.Edges.{edgesOf, key, Irregular, Oriented, Closed, verdict, hems}
 use Rattle.wires.specs.House.{houseWires}
 use Rattle.panels.specs.Panels.{panels, together}
-use Rattle.order.specs.Same.{Turned, Matching}
+use Rattle.order.specs.Same.{Turned, Same, Matching}
 
 pub record Demand3 (m n : List Ring) : Type 0 where
   -- one verdict
@@ -35,3 +36,7 @@ pub record Demand3 (m n : List Ring) : Type 0 where
       → Turned (getD m a []) (getD n c [])
       → Turned (getD m b []) (getD n d [])
       → together a b (panels normals m) ≡ together c d (panels normals n)
+
+-- the demand: two accepted meshes with the same faces, in another order, each face begun at any corner of its ring
+abbrev pub OrderIsFree : Type 0
+OrderIsFree = (m n : Mesh) → meshNumber m ≡ 0 → meshNumber n ≡ 0 → Same (faces m) (faces n) → Demand3 (faces m) (faces n)

@@ -77,7 +77,9 @@ looked m old (y ∷ l) stack seen b =
     go :
         (t : Bool) → (has y old || has y seen) ≡ t
         → Looked m old l stack seen (look old l (stack, seen) .0) (look old l (stack, seen) .1)
-        → Looked m old l (y ∷ stack) (seen ++ (y ∷ [])) (look old l (y ∷ stack, seen ++ (y ∷ [])) .0) (look old l (y ∷ stack, seen ++ (y ∷ [])) .1)
+        → Looked m old l (y ∷ stack) (seen ++ (y ∷ []))
+        (look old l (y ∷ stack, seen ++ (y ∷ [])) .0)
+        (look old l (y ∷ stack, seen ++ (y ∷ [])) .1)
         → Looked m old (y ∷ l) stack seen
         (look old l (cond t (stack, seen) (y ∷ stack, seen ++ (y ∷ []))) .0)
         (look old l (cond t (stack, seen) (y ∷ stack, seen ++ (y ∷ []))) .1)

@@ -3,7 +3,7 @@
 use mathlib.Core.Path.{_≡_, refl, sym, ap, _∙_}
 use mathlib.Core.Bool.{Bool, true, false, cond, _||_, _&&_}
 use mathlib.Core.List.{List, [], _∷_, _++_, map}
-use Prim.Native.Nat.{ℕ, zero, suc, _+_, _≤_, _<_}
+use Prim.Native.Nat.{ℕ, suc, _+_, _<_}
 use native.Mathlib.Omega.{arith}
 use lib.Dec.{eqb}
 use borrow.Author.Tests.{eqb-true, eqb-false}
@@ -13,18 +13,8 @@ use Rattle.lists.proofs.Counting.{clash, bump-plus, bump-swap, bump-inj, count-
 use Rattle.edges.specs.Edges.{runEdges, ringEdges, meshEdges, Edge, same, flip, key, uses, runs, thrice, alike, verdict, Irregular, Regular, hems}
 use Rattle.edges.proofs.SameEdge.{same-true, same-refl}
 use Rattle.edges.proofs.HemUses.{key-flip, uses-split, below-two, hem-runs, not-irregular, not-regular}
+use Rattle.wires.specs.Hems.{outs, ins, Balanced}
 use Rattle.wires.specs.House.{without}
-
--- how many edges start at v, and how many end there
-abbrev pub outs : ℕ → List Edge → ℕ
-outs v h = count (λ e. eqb v (e .0)) h
-
-abbrev pub ins : ℕ → List Edge → ℕ
-ins v h = count (λ e. eqb v (e .1)) h
-
--- they go out of each position as often as they come in
-abbrev pub Balanced : List Edge → Type 0
-Balanced h = (v : ℕ) → outs v h ≡ ins v h
 
 -- 1 where the two are the same position
 abbrev pub at : ℕ → ℕ → ℕ

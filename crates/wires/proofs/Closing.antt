@@ -2,9 +2,9 @@
 -- elsewhere finds an unused edge there, since one more came in than went out. Assumes nothing.
 use mathlib.Core.Path.{_≡_, refl, sym, ap, _∙_}
 use mathlib.Core.Logic.{_⊎_, inl, inr, ⊎-elim}
-use mathlib.Core.Bool.{Bool, true, false, cond, _||_}
+use mathlib.Core.Bool.{Bool, true, false, cond}
 use mathlib.Core.Option.{Option, none, some}
-use mathlib.Core.List.{List, [], _∷_, _++_, map}
+use mathlib.Core.List.{List, [], _∷_, _++_}
 use Prim.Native.Nat.{ℕ, zero, suc, _+_, _≤_, _<_, min}
 use native.Mathlib.Omega.{arith}
 use lib.Dec.{eqb, leb}
@@ -15,8 +15,9 @@ use Rattle.lists.specs.Lists.{some as has-some}
 use Rattle.lists.proofs.Bools.{by-cases, or-left, or-right}
 use Rattle.lists.proofs.Counting.{bump-plus, bump-up, count-append, count-all, count-length}
 use Rattle.edges.specs.Edges.{runEdges, ringEdges, meshEdges, Edge, same, verdict, Irregular, Regular, hems}
+use Rattle.wires.specs.Hems.{Balanced, ins, outs}
 use Rattle.wires.specs.House.{lesser, leastStart, leastEnd, without, Walk, longer, walk, wiresIn, houseWires}
-use Rattle.wires.proofs.Balance.{outs, ins, at, Balanced, without-count, hems-balanced}
+use Rattle.wires.proofs.Balance.{at, without-count, hems-balanced}
 
 -- a walk that began at f stands at c: what is left goes out as often as it comes in, but for those two
 abbrev pub Left : ℕ → ℕ → List Edge → Type 0
@@ -49,8 +50,8 @@ end-some c (x ∷ h) e q = go (λ p. or-right (same (c, e) x) (has-some (same (c
     hit b p = or-left (same (c, e) x) (has-some (same (c, e)) h) (rw (b, eq-eqb e (x .1) (sym p)))
 
     go :
-        (leastEnd c h ≡ some e → has-some (same (c, e)) (x ∷ h) ≡ true) → (b : Bool) → eqb c (x .0) ≡ b → (o : Option ℕ) → leastEnd c h ≡ o → cond b (lesser (x .1) o) o ≡ some e
-        → has-some (same (c, e)) (x ∷ h) ≡ true
+        (leastEnd c h ≡ some e → has-some (same (c, e)) (x ∷ h) ≡ true) → (b : Bool) → eqb c (x .0) ≡ b
+        → (o : Option ℕ) → leastEnd c h ≡ o → cond b (lesser (x .1) o) o ≡ some e → has-some (same (c, e)) (x ∷ h) ≡ true
     go miss true b none o q = hit b (let f : x .1 ≡ e = cc in f)
     go miss true b (some k) o q =
         let f : min (x .1) k ≡ e = cc in
@@ -112,7 +113,8 @@ walked (suc n) f c h l b o =
   where
     go :
         (q : Option ℕ) → leastEnd c h ≡ q
-        → ((e : ℕ) → length (without (c, e) h) ≤ n → Left f e (without (c, e) h) → 0 < outs e (without (c, e) h) → Walked f e (without (c, e) h) (walk n f e (without (c, e) h)))
+        → ((e : ℕ) → length (without (c, e) h) ≤ n → Left f e (without (c, e) h) → 0 < outs e (without (c, e) h)
+        → Walked f e (without (c, e) h) (walk n f e (without (c, e) h)))
         → Walked f c h
         (elim q [
           | none ↦ (c ∷ [], h)
@@ -139,11 +141,16 @@ walked (suc n) f c h l b o =
                   λ p.
                   let w : count p h ≡ bump (p (c, e)) (count p (without (c, e) h)) = without-count p (c, e) h m in
                   rw fe (let y : _ = bump-plus (p (c, e)) (count p (without (c, e) h)) in omega arith);
-              left = λ v. let k : outs v (without (c, e) h) + at v f ≡ ins v (without (c, e) h) + at v e = t v in let k′ : outs v (without (c, e) h) + at v e ≡ ins v (without (c, e) h) + at v e = rw fe at k in omega arith;
+              left =
+                  λ v.
+                  let k : outs v (without (c, e) h) + at v f ≡ ins v (without (c, e) h) + at v e = t v in
+                  let k′ : outs v (without (c, e) h) + at v e ≡ ins v (without (c, e) h) + at v e = rw fe at k in
+                  omega arith;
             }
         close false z =
             let s : length h ≡ suc (length (without (c, e) h)) = taken-length (c, e) h m in
-            let r : Walked f e (without (c, e) h) (walk n f e (without (c, e) h)) = ih e (omega arith) t (some-out f e (without (c, e) h) (eqb-false f e z) t) in
+            let o′ : 0 < outs e (without (c, e) h) = some-out f e (without (c, e) h) (eqb-false f e z) t in
+            let r : Walked f e (without (c, e) h) (walk n f e (without (c, e) h)) = ih e (omega arith) t o′ in
             record {
               rest = e ∷ r .rest;
               shape = ap (λ y. c ∷ y) (r .shape);
@@ -189,7 +196,7 @@ used-one s h w ws r u =
       wires = omega arith;
     }
 
-left-home : (s : ℕ) (h : List Edge) → Balanced h → Left s s h
+pub left-home : (s : ℕ) (h : List Edge) → Balanced h → Left s s h
 left-home s h b v = let e : _ = b v in omega arith
 
 pub wires-used : (n m : ℕ) (h : List Edge) → length h ≤ n → length h ≤ m → Balanced h → Used h (wiresIn n m h)

@@ -1,2 +1,6 @@
 pub mod Ported
 pub mod House
+pub mod Hems
+pub mod Tables
+pub mod Tracing
+pub mod Answers

@@ -1,0 +1,363 @@
+-- What compaction gives, for those who go on with it: an accepted mesh with no more entries, all of them used, whose faces are those
+-- that were given with each corner renumbered one-to-one; and a second compaction changes nothing. Assumes nothing.
+use mathlib.Core.Path.{_≡_, refl, sym, ap, _∙_}
+use mathlib.Core.Bool.{true, false}
+use mathlib.Core.List.{List, [], _∷_, _++_, map, map-map, map-append}
+use Prim.Native.Nat.{ℕ, zero, suc, _*_, _/_, _≤_, _<_}
+use native.Mathlib.Nat.{not-suc-le-zero, le-of-suc-le-suc}
+use native.Mathlib.Omega.{arith}
+use lib.ListN.{length, getD, length-map, List·getD-map}
+use lib.Dec.{eqb}
+use lib.Ieee.{Float}
+use borrow.Author.Tests.{ne-eqb, lt-leb}
+use Rattle.lists.specs.Lists.{some, every, has, joined, each, span}
+use Rattle.lists.proofs.Bools.{and-both, and-left, and-right, or-neither}
+use Rattle.lists.proofs.Parts.{some-none, every-append, joined-append}
+use Rattle.lists.proofs.Members.{in-head, in-tail}
+use Rattle.mesh.specs.Mesh.{Mesh, meshOf, Corner, Ring, position, texture, normal, missing, threes, rings, faces, positionCount, textureCount, normalCount}
+use Rattle.mesh.specs.Table.{astray, astrayAt, misfit, ungrouped, meshNumber}
+use Rattle.mesh.proofs.Corners.{length-threes, getD-threes, isCorner, threes-joined, length-corners}
+use Rattle.mesh.proofs.Faces.{isRing, rings-are, rings-back, sizes-back, corners-back}
+use Rattle.mesh.proofs.Numbers.{clear, clear-0}
+use Rattle.mesh.proofs.Accepted.{Accepted, accepted, within-back, even-back}
+use Rattle.compaction.specs.Compaction.{firstUses, renumber, entries, usedPositions, usedTextures, usedNormals, renumbered, compacted}
+use Rattle.compaction.specs.Working.{column, Pointed}
+use Rattle.compaction.proofs.Uses.{uses-few, uses-below}
+use Rattle.compaction.proofs.Entries.{entries-again}
+use Rattle.compaction.proofs.Renumbering.{renumber-below, renumber-within, renumber-same, uses-again, renumber-again, renumber-uses, uses-numbered, every-number, map-same}
+use Rattle.compaction.proofs.Accepting.{pointed-positions, pointed-textures, pointed-normals, length-kept}
+
+-- ---- one column
+
+module _ {attrs : List Float} {w : ℕ} {cs : List ℕ} {q : ℕ} (p : Pointed attrs w cs q) where
+  used-few : length (firstUses (column q cs)) ≤ p .count
+  used-few = uses-few (p .count) (column q cs) (p .within)
+
+  used-small : length (firstUses (column q cs)) ≤ missing
+  used-small = omega (arith, used-few, p .few)
+
+  -- the entries that the renumbered column uses are those that there are
+  entries-twice :
+      (l : List ℕ) → l ≡ map (renumber (firstUses (column q cs))) (column q cs)
+      → entries w (entries w attrs (firstUses (column q cs))) (firstUses l) ≡ entries w attrs (firstUses (column q cs))
+  entries-twice l e =
+      let us = firstUses (column q cs) in
+      ap (λ (t : List ℕ). entries w (entries w attrs us) t)
+      (ap firstUses e ∙ uses-again (column q cs) used-small ∙ renumber-uses (column q cs))
+      ∙ entries-again attrs w (p .count) us (p .whole) (uses-below (p .count) (column q cs) (p .within)) us (λ v h. h)
+
+  -- and a corner that is renumbered keeps its number
+  number-twice :
+      (l : List ℕ) → l ≡ map (renumber (firstUses (column q cs))) (column q cs) → (i : ℕ) → has i (column q cs) ≡ true
+      → renumber (firstUses l) (renumber (firstUses (column q cs)) i) ≡ renumber (firstUses (column q cs)) i
+  number-twice l e i h =
+      ap (λ (t : List ℕ). renumber (firstUses t) (renumber (firstUses (column q cs)) i)) e
+      ∙ renumber-again (column q cs) used-small i h
+
+-- ---- the new corners
+
+module _ (m : Mesh) where
+  new-corners : (l : Ring) → every isCorner (map (renumbered m) l) ≡ true
+  unfolding renumbered
+  new-corners [] = refl
+  new-corners (c ∷ l) = new-corners l
+
+  new-rings : (fs : List Ring) → every isRing (map (map (renumbered m)) fs) ≡ true
+  new-rings [] = refl
+  new-rings (f ∷ fs) =
+      and-both (isRing (map (renumbered m) f)) (every isRing (map (map (renumbered m)) fs)) (new-corners f) (new-rings fs)
+
+  -- corner by corner they are those that were given, renumbered
+  pub corners-compacted : threes (compacted m .corners) ≡ map (renumbered m) (threes (m .corners))
+  unfolding compacted
+  corners-compacted = threes-joined (map (renumbered m) (threes (m .corners))) (new-corners (threes (m .corners)))
+
+  -- so each column is that column renumbered
+  pub positions-renumbered :
+      map position (threes (compacted m .corners)) ≡ map (renumber (usedPositions m)) (map position (threes (m .corners)))
+  unfolding renumbered
+  positions-renumbered =
+      ap (map position) corners-compacted
+      ∙ map-map position (renumbered m) (threes (m .corners))
+      ∙ sym (map-map (renumber (usedPositions m)) position (threes (m .corners)))
+
+  pub textures-renumbered :
+      map texture (threes (compacted m .corners)) ≡ map (renumber (usedTextures m)) (map texture (threes (m .corners)))
+  unfolding renumbered
+  textures-renumbered =
+      ap (map texture) corners-compacted
+      ∙ map-map texture (renumbered m) (threes (m .corners))
+      ∙ sym (map-map (renumber (usedTextures m)) texture (threes (m .corners)))
+
+  pub normals-renumbered :
+      map normal (threes (compacted m .corners)) ≡ map (renumber (usedNormals m)) (map normal (threes (m .corners)))
+  unfolding renumbered
+  normals-renumbered =
+      ap (map normal) corners-compacted
+      ∙ map-map normal (renumbered m) (threes (m .corners))
+      ∙ sym (map-map (renumber (usedNormals m)) normal (threes (m .corners)))
+
+-- what a column has of a corner stands in the column
+its-number : (f : Corner → ℕ) (l : Ring) (k : ℕ) → k < length l → has (f (getD l k [])) (map f l) ≡ true
+its-number f [] k h = absurd (not-suc-le-zero h)
+its-number f (c ∷ l) zero h = in-head (f c) (map f l)
+its-number f (c ∷ l) (suc k) h = in-tail (f (getD l k [])) (f c) (map f l) (its-number f l k (le-of-suc-le-suc h))
+
+-- ---- faces, one after the other
+
+each-joined : (fs : List Ring) → each joined fs ≡ joined (joined fs)
+each-joined [] = refl
+each-joined (f ∷ fs) = ap (λ (l : List ℕ). joined f ++ l) (each-joined fs) ∙ sym (joined-append f (joined fs))
+
+every-joined : (fs : List Ring) → every isRing fs ≡ true → every isCorner (joined fs) ≡ true
+every-joined [] h = refl
+every-joined (f ∷ fs) h =
+    every-append isCorner f (joined fs)
+    ∙ and-both (every isCorner f) (every isCorner (joined fs)) (and-left (isRing f) (every isRing fs) h)
+    (every-joined fs (and-right (isRing f) (every isRing fs) h))
+
+module _ (r : Corner → Corner) where
+  joined-map : (fs : List Ring) → joined (map (map r) fs) ≡ map r (joined fs)
+  joined-map [] = refl
+  joined-map (f ∷ fs) = ap (λ (l : Ring). map r f ++ l) (joined-map fs) ∙ sym (map-append r f (joined fs))
+
+  lengths-map : (fs : List Ring) → map length (map (map r) fs) ≡ map length fs
+  lengths-map [] = refl
+  lengths-map (f ∷ fs) =
+      ap (λ (n : ℕ). n ∷ map length (map (map r) fs)) (length-map f r) ∙ ap (λ (l : List ℕ). length f ∷ l) (lengths-map fs)
+
+-- ---- counts
+
+module _ (m : Mesh) (z : meshNumber m ≡ 0) where
+  -- as many entries as are used
+  pub positions-long : length (compacted m .positions) ≡ length (usedPositions m) * 3
+  unfolding compacted usedPositions
+  positions-long = length-kept (m .positions) 3 (m .corners) 0 (pointed-positions m z)
+
+  pub positions-counted : positionCount (compacted m) ≡ length (usedPositions m)
+  positions-counted = omega (arith, positions-long)
+
+  pub textures-long : length (compacted m .textures) ≡ length (usedTextures m) * 2
+  unfolding compacted usedTextures
+  textures-long = length-kept (m .textures) 2 (m .corners) 1 (pointed-textures m z)
+
+  pub textures-counted : textureCount (compacted m) ≡ length (usedTextures m)
+  textures-counted = omega (arith, textures-long)
+
+  pub normals-long : length (compacted m .normals) ≡ length (usedNormals m) * 3
+  unfolding compacted usedNormals
+  normals-long = length-kept (m .normals) 3 (m .corners) 2 (pointed-normals m z)
+
+  pub normals-counted : normalCount (compacted m) ≡ length (usedNormals m)
+  normals-counted = omega (arith, normals-long)
+
+  -- no more than were given
+  pub positions-fewer : positionCount (compacted m) ≤ positionCount m
+  unfolding usedPositions
+  positions-fewer = omega (arith, positions-counted, used-few (pointed-positions m z), pointed-positions m z .whole)
+
+  pub textures-fewer : textureCount (compacted m) ≤ textureCount m
+  unfolding usedTextures
+  textures-fewer = omega (arith, textures-counted, used-few (pointed-textures m z), pointed-textures m z .whole)
+
+  pub normals-fewer : normalCount (compacted m) ≤ normalCount m
+  unfolding usedNormals
+  normals-fewer = omega (arith, normals-counted, used-few (pointed-normals m z), pointed-normals m z .whole)
+
+  -- and as many corners
+  pub corners-kept : length (compacted m .corners) ≡ length (m .corners)
+  unfolding compacted
+  corners-kept =
+      let a : length (joined (map (renumbered m) (threes (m .corners)))) ≡ 3 * length (map (renumbered m) (threes (m .corners))) =
+      length-corners (map (renumbered m) (threes (m .corners))) (new-corners m (threes (m .corners))) in
+      let b : length (map (renumbered m) (threes (m .corners))) ≡ length (threes (m .corners)) =
+      length-map (threes (m .corners)) (renumbered m) in
+      let c : length (threes (m .corners)) ≡ length (m .corners) / 3 = length-threes (m .corners) in
+      omega (arith, accepted m z .whole .corners)
+
+  -- ---- the result is accepted
+
+  position-there : (k : ℕ) → k < length (threes (m .corners)) → eqb (position (getD (threes (m .corners)) k [])) missing ≡ false
+  position-there k h =
+      let l : k < length (m .corners) / 3 = rw (length-threes (m .corners)) at h in
+      let e : position (getD (threes (m .corners)) k []) ≡ getD (m .corners) (3 * k) 0 =
+      ap position (getD-threes (m .corners) k l) in
+      let b : getD (m .corners) (3 * k) 0 < positionCount m = accepted m z .corner k l .position in
+      ne-eqb (position (getD (threes (m .corners)) k [])) missing (λ g. omega (arith, accepted m z .limits .positions))
+
+  -- each index is below its new count, or missing
+  none-astray :
+      (k : ℕ) → k < length (threes (m .corners)) → astrayAt (compacted m) (renumbered m (getD (threes (m .corners)) k [])) ≡ false
+  unfolding renumbered usedPositions usedTextures usedNormals
+  none-astray k h =
+      let c = getD (threes (m .corners)) k [] in
+      or-neither _ _
+      (or-neither _ _
+      (lt-leb (positionCount (compacted m)) (renumber (usedPositions m) (position c))
+      (rw positions-counted
+      (renumber-below (column 0 (m .corners)) (used-small (pointed-positions m z)) (position c)
+      (its-number position (threes (m .corners)) k h) (position-there k h))))
+      (rw textures-counted (renumber-within (column 1 (m .corners)) (used-small (pointed-textures m z)) (texture c)
+      (its-number texture (threes (m .corners)) k h))))
+      (rw normals-counted (renumber-within (column 2 (m .corners)) (used-small (pointed-normals m z)) (normal c)
+      (its-number normal (threes (m .corners)) k h)))
+
+  all-found : astray (compacted m) ≡ false
+  unfolding astray
+  all-found =
+      ap (some (astrayAt (compacted m))) (corners-compacted m)
+      ∙ some-none (astrayAt (compacted m)) (renumbered m []) (map (renumbered m) (threes (m .corners)))
+      (λ k h.
+      ap (astrayAt (compacted m)) (List·getD-map (renumbered m) (threes (m .corners)) k [])
+      ∙ none-astray k (rw (length-map (threes (m .corners)) (renumbered m)) at h))
+
+  pub accepted-compacted : meshNumber (compacted m) ≡ 0
+  unfolding misfit ungrouped compacted
+  accepted-compacted =
+      let a : Accepted m = accepted m z in
+      clear-0 (compacted m) (record {
+        shaped = record {
+          within = within-back (compacted m) (record {
+            positions = omega (arith, a .limits .positions, positions-fewer, positions-long);
+            textures = omega (arith, a .limits .textures, textures-fewer, textures-long);
+            normals = omega (arith, a .limits .normals, normals-fewer, normals-long);
+            corners = omega (arith, a .limits .corners, corners-kept);
+            sizes = a .limits .sizes;
+          });
+          even = even-back (compacted m) (record {
+            positions = omega (arith, positions-long);
+            textures = omega (arith, textures-long);
+            normals = omega (arith, normals-long);
+            corners = omega (arith, a .whole .corners, corners-kept);
+            adds = a .whole .adds ∙ sym corners-kept;
+          });
+          fit = clear m z .shaped .fit;
+          grouped = clear m z .shaped .grouped;
+        };
+        found = all-found;
+      })
+
+  -- ---- every entry is used, and different indices stay different
+
+  pub every-position-used : (i : ℕ) → i < positionCount (compacted m) → has i (map position (threes (compacted m .corners))) ≡ true
+  unfolding usedPositions
+  every-position-used i h =
+      ap (has i) (positions-renumbered m) ∙ every-number (map position (threes (m .corners))) i (rw positions-counted at h)
+
+  pub every-texture-used : (i : ℕ) → i < textureCount (compacted m) → has i (map texture (threes (compacted m .corners))) ≡ true
+  unfolding usedTextures
+  every-texture-used i h =
+      ap (has i) (textures-renumbered m) ∙ every-number (map texture (threes (m .corners))) i (rw textures-counted at h)
+
+  pub every-normal-used : (i : ℕ) → i < normalCount (compacted m) → has i (map normal (threes (compacted m .corners))) ≡ true
+  unfolding usedNormals
+  every-normal-used i h =
+      ap (has i) (normals-renumbered m) ∙ every-number (map normal (threes (m .corners))) i (rw normals-counted at h)
+
+  -- first uses come in the order 0, 1, 2, ..
+  pub positions-in-order : usedPositions (compacted m) ≡ span 0 (positionCount (compacted m))
+  unfolding usedPositions
+  positions-in-order =
+      ap firstUses (positions-renumbered m)
+      ∙ uses-numbered (map position (threes (m .corners))) (used-small (pointed-positions m z))
+      ∙ ap (span 0) (sym positions-counted)
+
+  pub textures-in-order : usedTextures (compacted m) ≡ span 0 (textureCount (compacted m))
+  unfolding usedTextures
+  textures-in-order =
+      ap firstUses (textures-renumbered m)
+      ∙ uses-numbered (map texture (threes (m .corners))) (used-small (pointed-textures m z))
+      ∙ ap (span 0) (sym textures-counted)
+
+  pub normals-in-order : usedNormals (compacted m) ≡ span 0 (normalCount (compacted m))
+  unfolding usedNormals
+  normals-in-order =
+      ap firstUses (normals-renumbered m)
+      ∙ uses-numbered (map normal (threes (m .corners))) (used-small (pointed-normals m z))
+      ∙ ap (span 0) (sym normals-counted)
+
+  module _ (i j : ℕ) where
+    pub position-same :
+        has i (map position (threes (m .corners))) ≡ true → has j (map position (threes (m .corners))) ≡ true
+        → eqb (renumber (usedPositions m) i) (renumber (usedPositions m) j) ≡ eqb i j
+    unfolding usedPositions
+    position-same = renumber-same (map position (threes (m .corners))) (used-small (pointed-positions m z)) i j
+
+    pub texture-same :
+        has i (map texture (threes (m .corners))) ≡ true → has j (map texture (threes (m .corners))) ≡ true
+        → eqb (renumber (usedTextures m) i) (renumber (usedTextures m) j) ≡ eqb i j
+    unfolding usedTextures
+    texture-same = renumber-same (map texture (threes (m .corners))) (used-small (pointed-textures m z)) i j
+
+    pub normal-same :
+        has i (map normal (threes (m .corners))) ≡ true → has j (map normal (threes (m .corners))) ≡ true
+        → eqb (renumber (usedNormals m) i) (renumber (usedNormals m) j) ≡ eqb i j
+    unfolding usedNormals
+    normal-same = renumber-same (map normal (threes (m .corners))) (used-small (pointed-normals m z)) i j
+
+  -- ---- the faces
+
+  -- the flat list of corners is in face order
+  pub face-order : joined (faces m) ≡ threes (m .corners)
+  unfolding faces
+  face-order =
+      sym (threes-joined (joined (faces m)) (every-joined (faces m) (rings-are (m .sizes) (m .corners))))
+      ∙ ap threes (sym (each-joined (faces m)) ∙ corners-back (m .sizes) (m .corners) (accepted m z .whole .adds))
+
+  -- the faces are those that were given, each corner renumbered
+  pub faces-compacted : faces (compacted m) ≡ map (map (renumbered m)) (faces m)
+  unfolding faces compacted
+  faces-compacted =
+      let fs = faces m in
+      let gs = map (map (renumbered m)) fs in
+      let s : map length gs ≡ m .sizes =
+      lengths-map (renumbered m) fs ∙ sizes-back (m .sizes) (m .corners) (omega (arith, accepted m z .whole .adds)) in
+      let c : each joined gs ≡ joined (map (renumbered m) (threes (m .corners))) =
+      each-joined gs ∙ ap joined (joined-map (renumbered m) fs ∙ ap (map (renumbered m)) face-order) in
+      ap (λ (l : List ℕ). rings l (joined (map (renumbered m) (threes (m .corners))))) (sym s)
+      ∙ ap (rings (map length gs)) (sym c)
+      ∙ rings-back gs (new-rings m fs)
+
+  -- so are their positions
+  pub face-positions :
+      map (map position) (faces (compacted m)) ≡ map (map (renumber (usedPositions m))) (map (map position) (faces m))
+  unfolding renumbered
+  face-positions =
+      ap (map (map position)) faces-compacted
+      ∙ map-map (map position) (map (renumbered m)) (faces m)
+      ∙ map-same (λ f. map position (map (renumbered m) f)) (λ f. map (renumber (usedPositions m)) (map position f)) [] (faces m)
+      (λ k h. map-map position (renumbered m) (getD (faces m) k [])
+      ∙ sym (map-map (renumber (usedPositions m)) position (getD (faces m) k [])))
+      ∙ sym (map-map (map (renumber (usedPositions m))) (map position) (faces m))
+
+  -- ---- a second time
+
+  corner-twice :
+      (k : ℕ) → k < length (threes (m .corners))
+      → renumbered (compacted m) (renumbered m (getD (threes (m .corners)) k [])) ≡ renumbered m (getD (threes (m .corners)) k [])
+  unfolding renumbered usedPositions usedTextures usedNormals
+  corner-twice k h =
+      let cs = threes (m .corners) in
+      let c = getD cs k [] in
+      let p = number-twice (pointed-positions m z) (map position (threes (compacted m .corners))) (positions-renumbered m)
+      (position c) (its-number position cs k h) in
+      let t = number-twice (pointed-textures m z) (map texture (threes (compacted m .corners))) (textures-renumbered m) (texture c)
+      (its-number texture cs k h) in
+      let n = number-twice (pointed-normals m z) (map normal (threes (compacted m .corners))) (normals-renumbered m) (normal c)
+      (its-number normal cs k h) in
+      λ i. p i ∷ t i ∷ n i ∷ []
+
+  corners-twice : map (renumbered (compacted m)) (threes (compacted m .corners)) ≡ map (renumbered m) (threes (m .corners))
+  corners-twice =
+      ap (map (renumbered (compacted m))) (corners-compacted m)
+      ∙ map-map (renumbered (compacted m)) (renumbered m) (threes (m .corners))
+      ∙ map-same (λ c. renumbered (compacted m) (renumbered m c)) (renumbered m) [] (threes (m .corners)) corner-twice
+
+  -- compacting a second time changes nothing
+  pub compacted-again : compacted (compacted m) ≡ compacted m
+  unfolding compacted usedPositions usedTextures usedNormals
+  compacted-again =
+      let p = entries-twice (pointed-positions m z) (map position (threes (compacted m .corners))) (positions-renumbered m) in
+      let t = entries-twice (pointed-textures m z) (map texture (threes (compacted m .corners))) (textures-renumbered m) in
+      let n = entries-twice (pointed-normals m z) (map normal (threes (compacted m .corners))) (normals-renumbered m) in
+      λ i. meshOf (p i) (t i) (n i) (joined (corners-twice i)) (m .sizes)

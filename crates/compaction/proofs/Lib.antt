@@ -1,0 +1,11 @@
+pub mod Places
+pub mod Uses
+pub mod Entries
+pub mod Renumbering
+pub mod Turn
+pub mod Loop
+pub mod Accepting
+pub mod Answer
+pub mod Laws
+pub mod Using
+pub mod Examples

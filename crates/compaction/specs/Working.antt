@@ -1,0 +1,103 @@
+-- What the functions of the crate hand to one another; a caller needs none of it. Assumes nothing.
+use Prim.Native.Nat.{ℕ, _+_, _*_, _≤_, _<_}
+use mathlib.Core.Path.{_≡_}
+use mathlib.Core.Bool.{false, cond}
+use mathlib.Core.List.{List, [], _∷_, map}
+use lib.ListN.{length, getD, take, set}
+use lib.Seq.{sets}
+use lib.Ieee.{Float}
+use Rattle.lists.specs.Lists.{some, has, joined}
+use Rattle.mesh.specs.Mesh.{Corner, missing, threes}
+use Rattle.mesh.specs.Table.{beyondUnlessMissing}
+use Rattle.compaction.specs.Compaction.{firstUses, place, renumber, entries, Result}
+use Rattle.compaction.specs.declared.Compacted.{Compacted}
+
+-- column q of the corners: the positions for 0, the texture points for 1, the normals for 2
+abbrev pub column : ℕ → List ℕ → List ℕ
+column q cs = map (λ (c : Corner). getD c q 0) (threes cs)
+
+-- the index that corner k has in column q
+abbrev pub indexAt : List ℕ → ℕ → ℕ → ℕ
+indexAt cs k q = getD cs (3 * k + q) 0
+
+-- what the first k corners use in column q
+abbrev pub usesTo : ℕ → List ℕ → ℕ → List ℕ
+usesTo q cs k = firstUses (take k (column q cs))
+
+-- an entry of a list lies within it, w numbers wide
+pub record Entry (l : List Float) (w i : ℕ) : Type 0 where
+  pub least : 2 ≤ w
+  pub most : w ≤ 3
+  pub within : i * w + w ≤ length l
+
+-- a list of entries of width w, into which column q of the corners points
+pub record Pointed (attrs : List Float) (w : ℕ) (cs : List ℕ) (q : ℕ) : Type 0 where
+  pub least : 2 ≤ w
+  pub most : w ≤ 3
+  pub is-column : q < 3
+  pub count : ℕ
+  pub whole : count * w ≡ length attrs
+  pub few : count ≤ 2048
+  pub within : some (beyondUnlessMissing count) (column q cs) ≡ false
+
+-- the map from old to new numbers, and the count of entries used, where us are the indices used so far
+pub record Tables (us old2new : List ℕ) (used : ℕ) : Type 0 where
+  pub counted : used ≡ length us
+  pub wide : length old2new ≡ 2048
+  pub mapped : (i : ℕ) → i < 2048 → getD old2new i 0 ≡ cond (has i us) (place us i) missing
+
+-- before the turn of corner k in column q
+pub record Before
+    (attrs : List Float) (w : ℕ) (cs : List ℕ) (k q : ℕ) (old2new : List ℕ) (used : ℕ) (fresh : List Float)
+    (out : List ℕ) : Type 0 where
+  pub pointed : Pointed attrs w cs q
+  pub corner : 3 * k + 3 ≤ length cs
+  pub tables : Tables (usesTo q cs k) old2new used
+  pub room : length attrs ≤ length fresh
+  pub corners-room : length cs ≤ length out
+
+-- and after it: one index more is used, its entry stands behind the others, and the corner has the new number
+pub record Taken
+    (attrs : List Float) (w : ℕ) (cs : List ℕ) (k q : ℕ) (old2new : List ℕ) (used : ℕ) (fresh fresh′ : List Float)
+    (out out′ : List ℕ) : Type 0 where
+  pub tables : Tables (usesTo q cs (k + 1)) old2new used
+  pub grown :
+      (l : List Float) → fresh ≡ sets l 0 (entries w attrs (usesTo q cs k))
+      → fresh′ ≡ sets l 0 (entries w attrs (usesTo q cs (k + 1)))
+  pub numbered : out′ ≡ set out (3 * k + q) (renumber (firstUses (column q cs)) (indexAt cs k q))
+
+-- a corner with its three numbers renumbered, each by its column
+abbrev pub newCorner : List ℕ → Corner → Corner
+newCorner cs c =
+    renumber (firstUses (column 0 cs)) (getD c 0 0)
+    ∷ renumber (firstUses (column 1 cs)) (getD c 1 0)
+    ∷ renumber (firstUses (column 2 cs)) (getD c 2 0)
+    ∷ []
+
+-- what the loop over the corners rests on
+pub record Ready (p t n : List Float) (cs : List ℕ) (before : Result) : Type 0 where
+  pub positions : Pointed p 3 cs 0
+  pub textures : Pointed t 2 cs 1
+  pub normals : Pointed n 3 cs 2
+  pub corner-room : length cs ≤ length (before .corners)
+  pub position-room : length p ≤ length (before .positions)
+  pub texture-room : length t ≤ length (before .textures)
+  pub normal-room : length n ≤ length (before .normals)
+
+-- and what it gives
+pub record Done (p t n : List Float) (cs : List ℕ) (before behind : Result) (answer : Compacted) : Type 0 where
+  pub number : answer .number ≡ 0
+  pub position-count : answer .positions ≡ length (firstUses (column 0 cs))
+  pub texture-count : answer .textures ≡ length (firstUses (column 1 cs))
+  pub normal-count : answer .normals ≡ length (firstUses (column 2 cs))
+  pub corners : behind .corners ≡ sets (before .corners) 0 (joined (map (newCorner cs) (threes cs)))
+  pub positions : behind .positions ≡ sets (before .positions) 0 (entries 3 p (firstUses (column 0 cs)))
+  pub textures : behind .textures ≡ sets (before .textures) 0 (entries 2 t (firstUses (column 1 cs)))
+  pub normals : behind .normals ≡ sets (before .normals) 0 (entries 3 n (firstUses (column 2 cs)))
+
+-- a refusal: its number, and counts of 0
+pub record Refused (answer : Compacted) (number : ℕ) : Type 0 where
+  pub is : answer .number ≡ number
+  pub positions : answer .positions ≡ 0
+  pub textures : answer .textures ≡ 0
+  pub normals : answer .normals ≡ 0

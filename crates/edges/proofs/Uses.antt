@@ -1,0 +1,188 @@
+-- The uses of all edges, face by face and corner by corner: one more of what is left, how many there are, and that both ends of each
+-- are positions of corners. Assumes nothing.
+use mathlib.Core.Path.{_≡_, refl, sym, ap, ap₂, _∙_}
+use mathlib.Core.Bool.{Bool, true, false, cond, _&&_}
+use mathlib.Core.List.{List, [], _∷_, _++_, map}
+use Prim.Native.Nat.{ℕ, suc, _+_, _*_, _/_, _%_, _-_, _≤_, _<_}
+use native.Mathlib.Numerals.{add-one}
+use native.Mathlib.Omega.{arith}
+use lib.ListN.{length, getD, take, drop, length-append, length-map, length-drop, List·getD-map, drop-of-length-le, take-append-drop}
+use lib.Seq.{drop-cons, length-take-le}
+use lib.Dec.{ltb}
+use borrow.Author.Tests.{ltb-true, ltb-false, lt-ltb}
+use Rattle.lists.specs.Lists.{every, sum}
+use Rattle.lists.proofs.Bools.{by-cases, and-both, and-left, and-right}
+use Rattle.lists.proofs.Parts.{every-append}
+use Rattle.lists.proofs.Mapping.{every-map, every-all}
+use Rattle.mesh.specs.Mesh.{Corner, Ring, position, threes, rings}
+use Rattle.mesh.specs.Face.{Sound, offsetOf, faceOf}
+use Rattle.mesh.proofs.Corners.{length-threes, getD-threes}
+use Rattle.mesh.proofs.Faces.{rings-step, sizes-back}
+use Rattle.edges.specs.Edges.{Edge, runEdges, ringEdges, edgesOf}
+use Rattle.edges.specs.Runs.{faceEdges, nextOf, Edged}
+use Rattle.edges.proofs.Grouped.{inside}
+
+-- ---- a face's edges, corner by corner
+
+-- from each of the list to the next, and from the last to z
+sides : ℕ → List ℕ → List Edge
+sides z [] = []
+sides z (a ∷ r) = (a, getD r 0 z) ∷ sides z r
+
+run-sides : (a : ℕ) (r : List ℕ) (z : ℕ) → runEdges a r z ≡ sides z (a ∷ r)
+unfolding sides
+run-sides a [] z = refl
+run-sides a (b ∷ r) z = ap (λ (l : List Edge). (a, b) ∷ l) (run-sides b r z)
+
+ring-sides : (ps : List ℕ) → ringEdges ps ≡ sides (getD ps 0 0) ps
+unfolding sides
+ring-sides [] = refl
+ring-sides (a ∷ r) = run-sides a r a
+
+-- one more of what is left
+side-at : (ps : List ℕ) (z i : ℕ) → i < length ps → sides z (drop i ps) ≡ (getD ps i 0, getD (drop (i + 1) ps) 0 z) ∷ sides z (drop (i + 1) ps)
+unfolding sides
+side-at ps z i h =
+    ap (sides z) (drop-cons ps i 0 h) ∙ ap (λ (k : ℕ). (getD ps i 0, getD (drop k ps) 0 z) ∷ sides z (drop k ps)) (sym (add-one i))
+
+-- the next corner, or the first behind the last
+next-is : (ps : List ℕ) (i : ℕ) → getD (drop (i + 1) ps) 0 (getD ps 0 0) ≡ getD ps (nextOf i (length ps)) 0
+unfolding nextOf
+next-is ps i =
+    by-cases (ltb (i + 1) (length ps))
+    (λ e. let l : i + 1 < length ps = ltb-true (i + 1) (length ps) e in ap (λ (t : List ℕ). getD t 0 (getD ps 0 0)) (drop-cons ps (i + 1) 0 l) ∙ sym (rw e))
+    (λ e.
+    let l : length ps ≤ i + 1 = ltb-false (i + 1) (length ps) e in
+    ap (λ (t : List ℕ). getD t 0 (getD ps 0 0)) (drop-of-length-le ps l) ∙ sym (rw e))
+
+-- the positions of a face's corners
+places : List ℕ → List ℕ
+places f = map position (threes f)
+
+length-places : (f : List ℕ) → length (places f) ≡ length f / 3
+unfolding places
+length-places f = length-map (threes f) position ∙ length-threes f
+
+place-at : (f : List ℕ) (i : ℕ) → i < length f / 3 → getD (places f) i 0 ≡ getD f (3 * i) 0
+unfolding places
+place-at f i h = List·getD-map position (threes f) i [] ∙ ap position (getD-threes f i h)
+
+-- a face's edges from corner i on
+pub edgesFrom : List ℕ → ℕ → List Edge
+edgesFrom f i = sides (getD (places f) 0 0) (drop i (places f))
+
+pub edges-begin : (f : List ℕ) → faceEdges f ≡ edgesFrom f 0
+unfolding edgesFrom faceEdges places
+edges-begin f = ring-sides (map position (threes f))
+
+next-below : (i n : ℕ) → i < n → nextOf i n < n
+unfolding nextOf
+next-below i n h = go (ltb (i + 1) n) refl
+  where
+    go : (b : Bool) → ltb (i + 1) n ≡ b → cond b (i + 1) 0 < n
+    go true e = ltb-true (i + 1) n e
+    go false e = omega arith
+
+pub edges-step : (f : List ℕ) (i : ℕ) → i < length f / 3 → edgesFrom f i ≡ (getD f (3 * i) 0, getD f (3 * nextOf i (length f / 3)) 0) ∷ edgesFrom f (i + 1)
+unfolding edgesFrom
+edges-step f i h =
+    let l : i < length (places f) = rw (length-places f) h in
+    side-at (places f) (getD (places f) 0 0) i l
+    ∙ ap₂ (λ (a b : ℕ). (a, b) ∷ edgesFrom f (i + 1))
+    (place-at f i h)
+    (next-is (places f) i ∙ ap (λ (n : ℕ). getD (places f) (nextOf i n) 0) (length-places f) ∙ place-at f (nextOf i (length f / 3)) (next-below i (length f / 3) h))
+
+pub edges-end : (f : List ℕ) (i : ℕ) → length f / 3 ≤ i → edgesFrom f i ≡ []
+unfolding edgesFrom sides
+edges-end f i h = ap (sides (getD (places f) 0 0)) (drop-of-length-le (places f) {i = i} (rw (length-places f) h))
+
+-- one for each corner
+length-run : (a : ℕ) (r : List ℕ) (z : ℕ) → length (runEdges a r z) ≡ suc (length r)
+length-run a [] z = refl
+length-run a (b ∷ r) z = ap suc (length-run b r z)
+
+length-ring : (ps : List ℕ) → length (ringEdges ps) ≡ length ps
+length-ring [] = refl
+length-ring (a ∷ r) = length-run a r a
+
+pub length-face-edges : (f : List ℕ) → length (faceEdges f) ≡ length f / 3
+unfolding faceEdges places
+length-face-edges f = length-ring (map position (threes f)) ∙ length-places f
+
+-- ---- all faces
+
+pub uses-step :
+    (s cs : List ℕ) (k : ℕ) → k < length s
+    → edgesOf (rings (drop k s) (drop (3 * offsetOf s k) cs)) ≡ faceEdges (faceOf cs s k) ++ edgesOf (rings (drop (k + 1) s) (drop (3 * offsetOf s (k + 1)) cs))
+unfolding faceEdges
+uses-step s cs k h = ap edgesOf (rings-step s cs k h)
+
+pub uses-end : (s cs : List ℕ) (k : ℕ) → length s ≤ k → edgesOf (rings (drop k s) (drop (3 * offsetOf s k) cs)) ≡ []
+uses-end s cs k h = ap (λ (t : List ℕ). edgesOf (rings t (drop (3 * offsetOf s k) cs))) (drop-of-length-le s h)
+
+length-edges : (fs : List Ring) → length (edgesOf fs) ≡ sum (map length fs)
+length-edges [] = refl
+length-edges (f ∷ fs) =
+    let a : length (ringEdges (map position f)) ≡ length f = length-ring (map position f) ∙ length-map f position in
+    let b : length (edgesOf fs) ≡ sum (map length fs) = length-edges fs in
+    let c : length (ringEdges (map position f) ++ edgesOf fs) ≡ length (ringEdges (map position f)) + length (edgesOf fs) =
+    length-append (ringEdges (map position f)) (edgesOf fs) in
+    omega arith
+
+-- as many uses as corners
+pub length-uses : (cs s : List ℕ) → Sound cs s → length (edgesOf (rings s cs)) ≡ length cs / 3
+length-uses cs s h =
+    let a : 3 * sum s ≡ length cs = h .adds in
+    let b : length (edgesOf (rings s cs)) ≡ sum s = length-edges (rings s cs) ∙ ap sum (sizes-back s cs (omega arith)) in
+    omega arith
+
+-- ---- both ends are positions of corners
+
+module _ (n : ℕ) where
+  abbrev below : ℕ → Bool
+  below p = ltb p n
+
+  run-inside : (a : ℕ) (r : List ℕ) (z : ℕ) → below a ≡ true → every below r ≡ true → below z ≡ true → every (inside n) (runEdges a r z) ≡ true
+  run-inside a [] z p q r = and-both (inside n (a, z)) true (and-both (below a) (below z) p r) refl
+  run-inside a (b ∷ l) z p q r =
+      let h : below b ≡ true = and-left (below b) (every below l) q in
+      and-both (inside n (a, b)) (every (inside n) (runEdges b l z)) (and-both (below a) (below b) p h) (run-inside b l z h (and-right (below b) (every below l) q) r)
+
+  ring-inside : (ps : List ℕ) → every below ps ≡ true → every (inside n) (ringEdges ps) ≡ true
+  ring-inside [] h = refl
+  ring-inside (a ∷ r) h =
+      let p : below a ≡ true = and-left (below a) (every below r) h in
+      run-inside a r a p (and-right (below a) (every below r) h) p
+
+  abbrev placed : Corner → Bool
+  placed c = below (position c)
+
+  threes-append : (a b : List ℕ) → length a % 3 ≡ 0 → threes (a ++ b) ≡ threes a ++ threes b
+  threes-append [] b h = refl
+  threes-append (p ∷ []) b h = absurd (let z : _≡_ {A = ℕ} 1 0 = h in omega arith)
+  threes-append (p ∷ t ∷ []) b h = absurd (let z : _≡_ {A = ℕ} 2 0 = h in omega arith)
+  threes-append (p ∷ t ∷ m ∷ a) b h =
+      ap (λ (r : Ring). (p ∷ t ∷ m ∷ []) ∷ r) (threes-append a b (let z : suc (suc (suc (length a))) % 3 ≡ 0 = h in omega arith))
+
+  edges-inside : (s cs : List ℕ) → 3 * sum s ≤ length cs → every placed (threes cs) ≡ true → every (inside n) (edgesOf (rings s cs)) ≡ true
+  edges-inside [] cs h p = refl
+  edges-inside (k ∷ s) cs h p =
+      let f : List ℕ = take (3 * k) cs in
+      let r : List ℕ = drop (3 * k) cs in
+      let l : length (take (3 * k) cs) ≡ 3 * k = length-take-le (3 * k) cs (omega arith) in
+      let m : length (take (3 * k) cs) % 3 ≡ 0 = omega arith in
+      let e : threes cs ≡ threes f ++ threes r = ap threes (sym (take-append-drop (3 * k) cs)) ∙ threes-append f r m in
+      let q : (every placed (threes f) && every placed (threes r)) ≡ true = sym (every-append placed (threes f) (threes r)) ∙ ap (every placed) (sym e) ∙ p in
+      every-append (inside n) (ringEdges (map position (threes f))) (edgesOf (rings s r))
+      ∙ and-both (every (inside n) (ringEdges (map position (threes f)))) (every (inside n) (edgesOf (rings s r)))
+      (ring-inside (map position (threes f)) (every-map position below (threes f) ∙ and-left (every placed (threes f)) (every placed (threes r)) q))
+      (edges-inside s r (let z : length (drop (3 * k) cs) ≡ length cs - 3 * k = length-drop (3 * k) cs in omega arith) (and-right (every placed (threes f)) (every placed (threes r)) q))
+
+-- both ends of every use lie below the number of positions
+pub uses-inside : (cs s : List ℕ) (n : ℕ) → Edged cs s n → every (inside n) (edgesOf (rings s cs)) ≡ true
+uses-inside cs s n h =
+    edges-inside n s cs (let z : 3 * sum s ≡ length cs = h .sound .adds in omega arith)
+    (every-all (placed n) [] (threes cs)
+    (λ k l.
+    let j : k < length cs / 3 = rw (length-threes cs) at l in
+    ap (placed n) (getD-threes cs k j) ∙ lt-ltb (getD cs (3 * k) 0) n (h .below k j)))

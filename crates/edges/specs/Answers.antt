@@ -1,0 +1,66 @@
+-- The calls' answers: for each case of the enums the number and the verdict of document 01, and what each call answers and leaves.
+-- Assumes nothing.
+use mathlib.Core.Path.{_≡_}
+use mathlib.Core.Option.{Option, none, some}
+use mathlib.Core.List.{List, [], _∷_, map}
+use Prim.Native.Nat.{ℕ, _/_}
+use lib.ListN.{length}
+use lib.Seq.{sets}
+use Rattle.mesh.specs.Mesh.{Mesh, faces}
+use Rattle.mesh.specs.Table.{meshNumber, when, firstOf, lent, short, after}
+use Rattle.edges.specs.Edges.{Edge, edgesOf, Verdict, verdict, hems}
+use Rattle.edges.specs.declared.ShellCondition.{ShellCondition}
+use Rattle.edges.specs.declared.Judged.{Judged}
+use Rattle.edges.specs.declared.Judged.the-variants.{Found, Refused}
+use Rattle.edges.specs.declared.HemEdges.{HemEdges}
+use Rattle.edges.specs.declared.Hems.{Hems}
+
+-- the edges of a mesh
+abbrev pub meshEdgesOf : Mesh → List Edge
+meshEdgesOf m = edgesOf (faces m)
+
+-- the verdict that each case stands for
+unfoldable pub verdictOf : ShellCondition → Verdict
+verdictOf ShellCondition.Irregular = Verdict.Irregular
+verdictOf ShellCondition.Regular = Verdict.Regular
+verdictOf ShellCondition.Oriented = Verdict.Oriented
+verdictOf ShellCondition.Closed = Verdict.Closed
+
+-- the number that each case stands for, and the verdict that it answers
+pub record Answer : Type 0 where
+  pub number : ℕ
+  pub verdict : Option Verdict
+
+unfoldable pub answerOf : Judged → Answer
+answerOf (Found c) = record { number = 0; verdict = some (verdictOf c) }
+answerOf (Refused n) = record { number = n; verdict = none }
+
+-- a verdict is answered only with 0
+unfoldable pub judged : Mesh → Answer
+judged m = record { number = meshNumber m; verdict = after (meshNumber m) (some (verdict (meshEdgesOf m))) none }
+
+-- where an edge starts and where it ends
+abbrev pub start : Edge → ℕ
+start e = e .0
+
+abbrev pub end : Edge → ℕ
+end e = e .1
+
+-- the number of `hem_edges`: 0 to 5, and 9 where a list is shorter than one number per corner
+unfoldable pub hemNumber : Mesh → ℕ → ℕ → ℕ
+hemNumber m starts ends =
+    firstOf (meshNumber m ∷ when (short (lent starts (length (m .corners) / 3) ∷ lent ends (length (m .corners) / 3) ∷ [])) 9 ∷ [])
+
+-- what `hem_edges` answers and leaves
+pub record HemAnswer (m : Mesh) (starts ends starts′ ends′ : List ℕ) (r : HemEdges) : Type 0 where
+  pub number : r .number ≡ hemNumber m (length starts) (length ends)
+  pub count : r .count ≡ after (hemNumber m (length starts) (length ends)) (length (hems (meshEdgesOf m))) 0
+  pub starting : starts′ ≡ after (hemNumber m (length starts) (length ends)) (sets starts 0 (map start (hems (meshEdgesOf m)))) starts
+  pub ending : ends′ ≡ after (hemNumber m (length starts) (length ends)) (sets ends 0 (map end (hems (meshEdgesOf m)))) ends
+
+-- what `hems_of` answers and leaves
+pub record Hemmed (es : List Edge) (starts ends starts′ ends′ : List ℕ) (r : Hems) : Type 0 where
+  pub count : r .count ≡ length (hems es)
+  pub verdict : verdictOf (r .verdict) ≡ Rattle.edges.specs.Edges.verdict es
+  pub starting : starts′ ≡ sets starts 0 (map start (hems es))
+  pub ending : ends′ ≡ sets ends 0 (map end (hems es))

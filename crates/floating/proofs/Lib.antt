@@ -1,0 +1,11 @@
+pub mod Literals
+pub mod Nans
+pub mod Ranges
+pub mod Cut
+pub mod Places
+pub mod Rows
+pub mod Boxes
+pub mod Units
+pub mod Heights
+pub mod Within
+pub mod Bounded

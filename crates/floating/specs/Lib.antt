@@ -1,0 +1,6 @@
+pub mod Limits
+pub mod Points
+pub mod Scaling
+pub mod Bits
+pub mod Cells
+pub mod Near

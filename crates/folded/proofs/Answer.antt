@@ -1,0 +1,76 @@
+-- The call: what it answers on a refusal and on 0. Assumes nothing.
+use mathlib.Core.Path.{_≡_, refl, sym, _∙_}
+use mathlib.Core.Bool.{true}
+use mathlib.Core.List.{List, [], _∷_}
+use Prim.Native.Nat.{ℕ, zero, suc, _/_, _≤_, _<_}
+use native.Mathlib.Nat.{zero-add}
+use native.Mathlib.Omega.{arith}
+use lib.ListN.{length}
+use lib.Seq.{sets}
+use borrow.Author.Tests.{lt-ltb, le-ltb}
+use Rattle.mesh.specs.Mesh.{Mesh, faces, rings}
+use Rattle.mesh.specs.Table.{meshNumber, when, short, after}
+use Rattle.mesh.proofs.Numbers.{first-is, first-on, row-given}
+use Rattle.mesh.proofs.Accepted.{accepted}
+use Rattle.grouping.specs.Push.{Placed, cornerCount}
+use Rattle.folded.specs.declared.Removed.{Removed}
+use Rattle.folded.specs.Folded.{removed, unfoldedMesh, resultOf, tooShort, removalNumber, Removal}
+use Rattle.folded.specs.Working.{Ready, refusedBy}
+
+-- what a refusal leaves
+after-refusal : {A : Type 0} (n : ℕ) (new old : A) → (n ≡ 0 → ⊥) → after n new old ≡ old
+after-refusal zero new old h = absurd (h refl)
+after-refusal (suc n) new old h = refl
+
+module _ (m : Mesh) (o l : List ℕ) (answer : Removed) where
+  refused-is : (n : ℕ) → (n ≡ 0 → ⊥) → n ≡ removalNumber m (resultOf o l) → answer ≡ refusedBy n → Removal m (resultOf o l) (resultOf o l) answer
+  refused-is n h e r = rw r (record {
+    number = e;
+    corner-count = sym (after-refusal n (cornerCount (removed (faces m))) 0 h);
+    face-count = sym (after-refusal n (length (removed (faces m))) 0 h);
+    corners = sym (after-refusal n (sets o 0 (unfoldedMesh m .corners)) o h);
+    sizes = sym (after-refusal n (sets l 0 (unfoldedMesh m .sizes)) l h);
+  })
+
+  -- 1 to 5
+  pub refused-mesh : (n : ℕ) → n ≡ meshNumber m → (n ≡ 0 → ⊥) → answer ≡ refusedBy n → Removal m (resultOf o l) (resultOf o l) answer
+  unfolding removalNumber
+  refused-mesh n e h r =
+      refused-is n h (e ∙ sym (first-is (meshNumber m) (when (tooShort m (resultOf o l)) 9 ∷ []) (λ q. h (e ∙ q)))) r
+
+  -- 9
+  module _ (z : meshNumber m ≡ 0) where
+    refused-room : tooShort m (resultOf o l) ≡ true → answer ≡ refusedBy 9 → Removal m (resultOf o l) (resultOf o l) answer
+    unfolding removalNumber
+    refused-room s r =
+        refused-is 9 (λ q. omega arith) (sym (first-on (meshNumber m) (when (tooShort m (resultOf o l)) 9 ∷ []) z ∙ row-given (tooShort m (resultOf o l)) 8 [] s)) r
+
+    pub refused-corners : length o < length (m .corners) → answer ≡ refusedBy 9 → Removal m (resultOf o l) (resultOf o l) answer
+    unfolding tooShort short
+    refused-corners a r = refused-room (rw (lt-ltb _ _ a)) r
+
+    pub refused-sizes : length (m .corners) ≤ length o → length l < length (m .corners) / 3 / 3 → answer ≡ refusedBy 9 → Removal m (resultOf o l) (resultOf o l) answer
+    unfolding tooShort short
+    refused-sizes a b r = refused-room (rw (le-ltb _ _ a, lt-ltb _ _ b)) r
+
+-- an accepted mesh, and room
+module _ (m : Mesh) (o l : List ℕ) (z : meshNumber m ≡ 0) (a : length (m .corners) ≤ length o) (b : length (m .corners) / 3 / 3 ≤ length l) where
+  pub ready : Ready (m .corners) (m .sizes) o l
+  ready =
+      let h = accepted m z in
+      record { sound = h .sound; least = h .least; most = h .most; corners = a; sizes = omega arith }
+
+  number-0 : 0 ≡ removalNumber m (resultOf o l)
+  unfolding removalNumber tooShort short
+  number-0 = sym (first-on (meshNumber m) (when (tooShort m (resultOf o l)) 9 ∷ []) z ∙ rw (le-ltb _ _ a, le-ltb _ _ b))
+
+  pub done : (o' l' : List ℕ) (c f : ℕ) → Placed (removed (rings (m .sizes) (m .corners))) o o' l l' 0 0 c f
+      → Removal m (resultOf o l) (resultOf o' l') (record { number = 0; corners = c; faces = f })
+  unfolding unfoldedMesh faces
+  done o' l' c f p = record {
+    number = number-0;
+    corner-count = p .more ∙ zero-add (cornerCount (removed (rings (m .sizes) (m .corners))));
+    face-count = p .most ∙ zero-add (length (removed (rings (m .sizes) (m .corners))));
+    corners = p .corners;
+    sizes = p .sizes;
+  }

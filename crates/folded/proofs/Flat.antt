@@ -1,0 +1,98 @@
+-- A face's flat part of the list of corners, read corner by corner: a triangle, a quadrangle, a row. Assumes nothing.
+use mathlib.Core.Path.{_≡_, sym, ap, _∙_}
+use mathlib.Core.Bool.{Bool, true, false, _||_}
+use mathlib.Core.List.{List, [], _∷_, _++_, map, append-nil}
+use Prim.Native.Nat.{ℕ, suc, _+_, _*_, _≤_, _<_}
+use native.Mathlib.Omega.{arith}
+use lib.ListN.{length, getD, take, set, length-map, List·getD-map, drop-of-length-le}
+use lib.Seq.{sets}
+use lib.Dec.{eqb}
+use borrow.Author.Tests.{eqb-true}
+use Rattle.lists.specs.Lists.{every, joined}
+use Rattle.lists.proofs.Bools.{and-left, and-right}
+use Rattle.lists.proofs.Writing.{Copying, copy-ends, sets-append}
+use Rattle.lists.proofs.Copies.{front-turns, take-written}
+use Rattle.mesh.specs.Mesh.{Ring, position, threes, cornerAt}
+use Rattle.mesh.proofs.Corners.{isCorner, threes-step, length-threes, getD-threes}
+use Rattle.grouping.specs.Push.{Placed}
+use Rattle.folding.specs.Folding.{folded}
+use Rattle.folding.proofs.Placing.{placed-ring}
+
+-- three corners, four corners
+pub threes-3 : (cs : List ℕ) → length cs ≡ 9 → threes cs ≡ cornerAt cs 0 ∷ cornerAt cs 1 ∷ cornerAt cs 2 ∷ []
+threes-3 cs h =
+    let z : length cs ≤ 9 = omega arith in
+    threes-step cs 0 (omega arith)
+    ∙ ap (λ (r : Ring). cornerAt cs 0 ∷ r) (threes-step cs 1 (omega arith))
+    ∙ ap (λ (r : Ring). cornerAt cs 0 ∷ cornerAt cs 1 ∷ r) (threes-step cs 2 (omega arith))
+    ∙ ap (λ (l : List ℕ). cornerAt cs 0 ∷ cornerAt cs 1 ∷ cornerAt cs 2 ∷ threes l) (drop-of-length-le cs z)
+
+pub threes-4 : (cs : List ℕ) → length cs ≡ 12 → threes cs ≡ cornerAt cs 0 ∷ cornerAt cs 1 ∷ cornerAt cs 2 ∷ cornerAt cs 3 ∷ []
+threes-4 cs h =
+    let z : length cs ≤ 12 = omega arith in
+    threes-step cs 0 (omega arith)
+    ∙ ap (λ (r : Ring). cornerAt cs 0 ∷ r) (threes-step cs 1 (omega arith))
+    ∙ ap (λ (r : Ring). cornerAt cs 0 ∷ cornerAt cs 1 ∷ r) (threes-step cs 2 (omega arith))
+    ∙ ap (λ (r : Ring). cornerAt cs 0 ∷ cornerAt cs 1 ∷ cornerAt cs 2 ∷ r) (threes-step cs 3 (omega arith))
+    ∙ ap (λ (l : List ℕ). cornerAt cs 0 ∷ cornerAt cs 1 ∷ cornerAt cs 2 ∷ cornerAt cs 3 ∷ threes l) (drop-of-length-le cs z)
+
+-- a triangle is folded where two of the three are equal
+abbrev pub anyEqual : ℕ → ℕ → ℕ → Bool
+anyEqual a b c = (eqb a b || (eqb a c || false)) || ((eqb b c || false) || (false || false))
+
+pub triangle-folded : (cs : List ℕ) → length cs ≡ 9 → folded (threes cs) ≡ anyEqual (getD cs 0 0) (getD cs 3 0) (getD cs 6 0)
+unfolding folded
+triangle-folded cs h = ap folded (threes-3 cs h)
+
+-- The positions of a face under way: the first k are read.
+module _ (cs : List ℕ) (n : ℕ) (h : length cs ≡ 3 * n) where
+  corners : length (threes cs) ≡ n
+  corners = length-threes cs ∙ (omega arith)
+
+  pub places-turn : (l l' : List ℕ) (k : ℕ) → k < n → Copying (map position (threes cs)) l l' 0 k
+      → Copying (map position (threes cs)) l (set l' k (getD cs (3 * k) 0)) 0 (k + 1)
+  places-turn l l' k b c =
+      let m : length (map position (threes cs)) ≡ n = length-map (threes cs) position ∙ corners in
+      let e : getD (map position (threes cs)) k 0 ≡ getD cs (3 * k) 0 =
+      List·getD-map position (threes cs) k [] ∙ ap position (getD-threes cs k (omega arith)) in
+      rw e at (front-turns 0 (map position (threes cs)) l l' k (omega arith) c)
+
+  pub places-end : (l l' : List ℕ) (k : ℕ) → n ≤ length l → n ≤ k → Copying (map position (threes cs)) l l' 0 k → take n l' ≡ map position (threes cs)
+  places-end l l' k b a c =
+      let m : length (map position (threes cs)) ≡ n = length-map (threes cs) position ∙ corners in
+      ap (take n) (copy-ends 0 (map position (threes cs)) l l' 0 k (omega arith) c) ∙ take-written l (map position (threes cs)) n m b
+
+  -- the row
+  pub row-turn : (l l' : Ring) (k : ℕ) → k < n → Copying (threes cs) l l' 0 k → Copying (threes cs) l (set l' k (cornerAt cs k)) 0 (k + 1)
+  row-turn l l' k b c = rw (getD-threes cs k (omega arith)) at (front-turns [] (threes cs) l l' k (omega (arith, corners)) c)
+
+  pub row-end : (l l' : Ring) (k : ℕ) → n ≤ length l → n ≤ k → Copying (threes cs) l l' 0 k → take n l' ≡ threes cs
+  row-end l l' k b a c =
+      ap (take n) (copy-ends [] (threes cs) l l' 0 k (omega (arith, corners)) c) ∙ take-written l (threes cs) n corners b
+
+-- a triangle's three corners are written one behind the other
+pub triangle-written : (t : Ring) (o o1 o2 o3 : List ℕ) (b : ℕ) → length t ≡ 3 → every isCorner t ≡ true → o1 ≡ sets o b (getD t 0 [])
+    → o2 ≡ sets o1 (b + 3) (getD t 1 []) → o3 ≡ sets o2 (b + 6) (getD t 2 []) → o3 ≡ sets o b (joined t)
+triangle-written [] o o1 o2 o3 b h w e f g = absurd (let z : _≡_ {A = ℕ} 0 3 = h in omega arith)
+triangle-written (x ∷ []) o o1 o2 o3 b h w e f g = absurd (let z : _≡_ {A = ℕ} 1 3 = h in omega arith)
+triangle-written (x ∷ y ∷ []) o o1 o2 o3 b h w e f g = absurd (let z : _≡_ {A = ℕ} 2 3 = h in omega arith)
+triangle-written (x ∷ y ∷ z ∷ []) o o1 o2 o3 b h w e f g =
+    let v = and-right (isCorner x) (every isCorner (y ∷ z ∷ [])) w in
+    let p : length x ≡ 3 = eqb-true (length x) 3 (and-left (isCorner x) (every isCorner (y ∷ z ∷ [])) w) in
+    let q : length y ≡ 3 = eqb-true (length y) 3 (and-left (isCorner y) (every isCorner (z ∷ [])) v) in
+    let i : b + 3 + 3 ≡ b + 6 = omega arith in
+    sym (sets-append o b x (y ++ (z ++ []))
+    ∙ ap (λ (k : ℕ). sets (sets o b x) (b + k) (y ++ (z ++ []))) p
+    ∙ ap (λ (l : List ℕ). sets l (b + 3) (y ++ (z ++ []))) (sym e)
+    ∙ sets-append o1 (b + 3) y (z ++ [])
+    ∙ ap (λ (k : ℕ). sets (sets o1 (b + 3) y) (b + 3 + k) (z ++ [])) q
+    ∙ ap (λ (l : List ℕ). sets l (b + 3 + 3) (z ++ [])) (sym f)
+    ∙ ap (λ (k : ℕ). sets o2 k (z ++ [])) i
+    ∙ ap (sets o2 (b + 6)) (append-nil z)
+    ∙ sym g)
+triangle-written (x ∷ y ∷ z ∷ u ∷ t) o o1 o2 o3 b h w e f g = absurd (let q : suc (suc (suc (suc (length t)))) ≡ 3 = h in omega arith)
+
+pub triangle-placed : (t : Ring) (o o1 o2 o3 l : List ℕ) (c f : ℕ) → length t ≡ 3 → every isCorner t ≡ true → o1 ≡ sets o (3 * c) (getD t 0 [])
+    → o2 ≡ sets o1 (3 * c + 3) (getD t 1 []) → o3 ≡ sets o2 (3 * c + 6) (getD t 2 []) → Placed (t ∷ []) o o3 l (set l f 3) c f (c + 3) (f + 1)
+triangle-placed t o o1 o2 o3 l c f h w x y z =
+    rw h at (placed-ring t o o3 l c f (triangle-written t o o1 o2 o3 (3 * c) h w x y z))

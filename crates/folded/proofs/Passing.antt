@@ -1,0 +1,106 @@
+-- The pass over the faces: the pieces of the first k are written, and there is room for those of the next. Assumes nothing.
+use mathlib.Core.Path.{_≡_, refl, sym, ap, _∙_}
+use mathlib.Core.Bool.{true}
+use mathlib.Core.List.{List, [], _∷_, _++_, append-nil}
+use Prim.Native.Nat.{ℕ, _+_, _*_, _≤_, _<_}
+use native.Mathlib.Numerals.{add-one}
+use native.Mathlib.Omega.{arith}
+use lib.ListN.{length, getD, take}
+use lib.Seq.{take-suc, take-all}
+use Rattle.lists.specs.Lists.{every, each, sum}
+use Rattle.lists.proofs.Bools.{and-both, and-left, and-right}
+use Rattle.lists.proofs.Parts.{each-append, every-append, every-take, sum-at}
+use Rattle.mesh.specs.Mesh.{Ring, threes, rings}
+use Rattle.mesh.specs.Face.{faceOf, offsetOf}
+use Rattle.mesh.proofs.Corners.{isCorner}
+use Rattle.mesh.proofs.Faces.{isRing, rings-are, length-rings, getD-rings, face-length, length-face, offset-step}
+use Rattle.grouping.specs.Push.{Placed}
+use Rattle.grouping.proofs.Placing.{placed-none, placed-both}
+use Rattle.folding.specs.Folding.{pieces}
+use Rattle.folding.proofs.Pieces.{pieces-sane}
+use Rattle.folding.proofs.Placing.{took}
+use Rattle.folded.specs.Working.{Face, Ready}
+use Rattle.folded.proofs.OneFace.{placed-as}
+
+-- pieces of whole corners are whole corners
+pub pieces-rings : (fs : List Ring) → every isRing fs ≡ true → every isRing (each pieces fs) ≡ true
+pieces-rings [] e = refl
+pieces-rings (r ∷ fs) e =
+    every-append isRing (pieces r) (each pieces fs)
+    ∙ and-both (every isRing (pieces r)) (every isRing (each pieces fs))
+    (pieces-sane r .corners isCorner (and-left (isRing r) (every isRing fs) e))
+    (pieces-rings fs (and-right (isRing r) (every isRing fs) e))
+
+-- the pieces of the first k faces
+abbrev pub piecesTo : List ℕ → List ℕ → ℕ → List Ring
+piecesTo cs s k = each pieces (take k (rings s cs))
+
+pub record Removing (cs s o o' l l' : List ℕ) (c f from k : ℕ) : Type 0 where
+  pub within : k ≤ length s
+  pub offset : from ≡ offsetOf s k
+  pub placed : Placed (piecesTo cs s k) o o' l l' 0 0 c f
+  pub corners : c ≤ from
+  pub faces : 3 * f ≤ from
+  pub out-long : length o' ≡ length o
+  pub lens-long : length l' ≡ length l
+
+pub removing-begins : (cs s o l : List ℕ) → Removing cs s o o l l 0 0 0 0
+removing-begins cs s o l = record {
+  within = omega arith;
+  offset = refl;
+  placed = placed-none o l 0 0;
+  corners = omega arith;
+  faces = omega arith;
+  out-long = refl;
+  lens-long = refl;
+}
+
+-- the next face, and room for its pieces
+pub removing-room : (cs s face o o' l l' : List ℕ) (c f from k : ℕ) → k < length s → face ≡ faceOf cs s k → Ready cs s o l
+    → Removing cs s o o' l l' c f from k → Face face (getD s k 0) o' l' c f
+removing-room cs s face o o' l l' c f from k h e y r =
+    let a : offsetOf s k + getD s k 0 ≤ sum s = sum-at s k h in
+    let b : 3 * sum s ≡ length cs = y .sound .adds in
+    record {
+      least = y .least k h;
+      wide = ap length e ∙ face-length cs s (y .sound) k h;
+      room = record {
+        small = y .most k h;
+        corners = omega (arith, r .corners, r .offset, r .out-long, y .corners);
+        sizes = omega (arith, r .faces, r .offset, r .lens-long, y .sizes);
+      };
+    }
+
+next-pieces : (cs s : List ℕ) (k : ℕ) → k < length s → piecesTo cs s (k + 1) ≡ piecesTo cs s k ++ pieces (threes (faceOf cs s k))
+next-pieces cs s k h =
+    let fs = rings s cs in
+    let l : k < length fs = rw (length-rings s cs) h in
+    ap (each pieces) (ap (λ (n : ℕ). take n fs) (add-one k) ∙ take-suc fs k [] l)
+    ∙ each-append pieces (take k fs) (getD fs k [] ∷ [])
+    ∙ ap (λ (t : List Ring). piecesTo cs s k ++ t) (append-nil (pieces (getD fs k [])))
+    ∙ ap (λ (t : Ring). piecesTo cs s k ++ pieces t) (getD-rings s cs k h)
+
+pub removing-turns : (cs s face o o' o'' l l' l'' : List ℕ) (c f c' f' from k : ℕ) → k < length s → face ≡ faceOf cs s k → Ready cs s o l
+    → Removing cs s o o' l l' c f from k → Placed (pieces (threes face)) o' o'' l' l'' c f c' f' → length o'' ≡ length o' → length l'' ≡ length l'
+    → Removing cs s o o'' l l'' c' f' (from + getD s k 0) (k + 1)
+removing-turns cs s face o o' o'' l l' l'' c f c' f' from k h e y r p x z =
+    let g : Ring = threes (faceOf cs s k) in
+    let q : Placed (pieces g) o' o'' l' l'' c f c' f' = rw e at p in
+    let t = took g (pieces g) o' o'' l' l'' c f c' f' (pieces-sane g) q in
+    let n : length g ≡ getD s k 0 = length-face cs s (y .sound) k h in
+    let w : every isRing (piecesTo cs s k) ≡ true = pieces-rings (take k (rings s cs)) (every-take isRing k (rings s cs) (rings-are s cs)) in
+    let v : offsetOf s (k + 1) ≡ offsetOf s k + getD s k 0 = offset-step s k h in
+    record {
+      within = omega arith;
+      offset = omega (arith, r .offset);
+      placed = placed-as (next-pieces cs s k h) (placed-both (piecesTo cs s k) (pieces g) o o' o'' l l' l'' 0 0 c f c' f' w (r .placed) q);
+      corners = omega (arith, t .corners, r .corners);
+      faces = omega (arith, t .faces, r .faces);
+      out-long = x ∙ r .out-long;
+      lens-long = z ∙ r .lens-long;
+    }
+
+pub removing-ends : (cs s o o' l l' : List ℕ) (c f from k : ℕ) → length s ≤ k → Removing cs s o o' l l' c f from k
+    → Placed (each pieces (rings s cs)) o o' l l' 0 0 c f
+removing-ends cs s o o' l l' c f from k h r =
+    placed-as (ap (each pieces) (sym (take-all k (rings s cs) (rw (length-rings s cs) h)))) (r .placed)

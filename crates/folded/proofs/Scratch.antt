@@ -1,0 +1,79 @@
+-- The lists that hold the pieces before they are grouped: all fit, and their fronts are the pieces again. Assumes nothing.
+use mathlib.Core.Path.{_≡_, sym, ap, ap₂, _∙_}
+use mathlib.Core.Bool.{true}
+use mathlib.Core.List.{List, map}
+use Prim.Native.Nat.{ℕ, _*_, _≤_}
+use native.Mathlib.Nat.{le-of-eq}
+use native.Mathlib.Omega.{arith}
+use lib.ListN.{length, take, length-map}
+use Rattle.lists.specs.Lists.{every, joined, each, sum}
+use Rattle.lists.proofs.Copies.{take-written}
+use Rattle.mesh.specs.Mesh.{Ring, rings}
+use Rattle.mesh.specs.Face.{Sound}
+use Rattle.mesh.proofs.Faces.{isRing, rings-are, rings-back, sizes-back}
+use Rattle.grouping.specs.Push.{Placed, pushed}
+use Rattle.grouping.proofs.Placing.{length-flat}
+use Rattle.folding.specs.Folding.{pieces}
+use Rattle.folding.proofs.Pieces.{isFace, pieces-sane}
+use Rattle.folding.proofs.Placing.{faces-count}
+use Rattle.folded.specs.Folded.{removed}
+use Rattle.folded.specs.Working.{Ready}
+use Rattle.folded.proofs.Passing.{pieces-rings}
+use Rattle.folded.proofs.Result.{every-pieces, count-pieces}
+
+-- the lists are long enough for every mesh
+pub scratch-ready : (cs s o l p q : List ℕ) → length p ≡ 12288 → length q ≡ 1365 → Ready cs s o l → Ready cs s p q
+scratch-ready cs s o l p q x z y = record {
+  sound = y .sound;
+  least = y .least;
+  most = y .most;
+  corners = omega (arith, y .sound .fits);
+  sizes = omega (arith, y .sound .fits);
+}
+
+-- c corners and f faces are written to p and q, which hold p' and q' then
+module _ (cs s o l p p' q q' : List ℕ) (c f : ℕ) (y : Ready cs s o l) (x : length p ≡ 12288) (z : length q ≡ 1365)
+    (w : Placed (each pieces (rings s cs)) p p' q q' 0 0 c f) where
+  abbrev ps : List Ring
+  ps = each pieces (rings s cs)
+
+  whole : every isRing ps ≡ true
+  whole = pieces-rings (rings s cs) (rings-are s cs)
+
+  flat : length (each joined ps) ≡ 3 * c
+  flat = omega (arith, length-flat ps whole, w .more)
+
+  pub few-corners : 3 * c ≤ length cs
+  few-corners =
+      omega (arith, w .more, count-pieces (rings s cs), ap sum (sizes-back s cs (le-of-eq (y .sound .adds))), y .sound .adds)
+
+  pub few-faces : 9 * f ≤ length cs
+  few-faces =
+      omega (arith, few-corners, w .most, w .more, faces-count ps (every-pieces isFace (rings s cs) (λ r. pieces-sane r .faces)))
+
+  front : take (3 * c) p' ≡ each joined ps
+  front = ap (take (3 * c)) (w .corners) ∙ take-written p (each joined ps) (3 * c) flat (omega (arith, few-corners, y .sound .fits))
+
+  count : length (map length ps) ≡ f
+  count = omega (arith, length-map ps length, w .most)
+
+  sizes-front : take f q' ≡ map length ps
+  sizes-front = ap (take f) (w .sizes) ∙ take-written q (map length ps) f count (omega (arith, few-faces, y .sound .fits))
+
+  pub pieces-sound : Sound (take (3 * c) p') (take f q')
+  pieces-sound = record {
+    few = rw sizes-front (omega (arith, count, few-faces, y .sound .fits));
+    fits = rw front (omega (arith, flat, few-corners, y .sound .fits));
+    adds = rw (front, sizes-front) (sym (length-flat ps whole));
+  }
+
+  pub pieces-corners : length (take (3 * c) p') ≤ length o
+  pieces-corners = rw front (omega (arith, flat, few-corners, y .corners))
+
+  pub pieces-sizes : length (take f q') ≤ length l
+  pieces-sizes = rw sizes-front (omega (arith, count, few-faces, y .sizes))
+
+  -- grouped, they are the faces that are left
+  pub pieces-grouped : removed (rings s cs) ≡ pushed (rings (take f q') (take (3 * c) p'))
+  unfolding removed
+  pieces-grouped = ap pushed (sym (ap₂ rings sizes-front front ∙ rings-back ps whole))

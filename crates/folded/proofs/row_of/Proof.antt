@@ -1,0 +1,87 @@
+-- `folded::row_of` meets its contract: the first k corners are read, and k rises to n. Assumes nothing.
+use Prim.Native.Nat.{_-_}
+use mathlib.Core.List.{[]}
+use Rattle.lists.proofs.Writing.{Copying, copy-begins}
+use Rattle.mesh.specs.Mesh.{threes}
+use Rattle.folded.proofs.Flat.{row-turn, row-end}
+use borrow.Author.Needs.{needs}
+use native.Mathlib.Omega.{arith}
+use Rattle.folded.proofs.row_of.Statement.{statement}
+use Rattle.folded.proofs.row_of.Tie as tie
+
+abbrev Inv-loop : tie.InvT-loop
+Inv-loop face n row₀ k₀ row k = Copying (threes face) row₀ row 0 k
+
+abbrev μ-loop : tie.MeasureT-loop
+μ-loop face n row₀ k₀ row k = n - k
+
+loop-holds : tie.Need-loop-holds Inv-loop μ-loop
+loop-holds c = copy-begins [] _ _ _
+
+mul-at : tie.Need-mul-at Inv-loop μ-loop
+mul-at c = search needs
+
+mul-t8 : tie.Need-mul-t8 Inv-loop μ-loop
+mul-t8 c = search needs
+
+shared-slice-read-t10 : tie.Need-shared-slice-read-t10 Inv-loop μ-loop
+shared-slice-read-t10 c = search needs
+
+add-t11 : tie.Need-add-t11 Inv-loop μ-loop
+add-t11 c = search needs
+
+mul-t12 : tie.Need-mul-t12 Inv-loop μ-loop
+mul-t12 c = search needs
+
+shared-slice-read-t14 : tie.Need-shared-slice-read-t14 Inv-loop μ-loop
+shared-slice-read-t14 c = search needs
+
+add-t15 : tie.Need-add-t15 Inv-loop μ-loop
+add-t15 c = search needs
+
+mul-t16 : tie.Need-mul-t16 Inv-loop μ-loop
+mul-t16 c = search needs
+
+shared-slice-read-t18 : tie.Need-shared-slice-read-t18 Inv-loop μ-loop
+shared-slice-read-t18 c = search needs
+
+mul-row : tie.Need-mul-row Inv-loop μ-loop
+mul-row c = search needs
+
+array-set-from-row : tie.Need-array-set-from-row Inv-loop μ-loop
+array-set-from-row c = search needs
+
+add-k : tie.Need-add-k Inv-loop μ-loop
+add-k c = search needs
+
+loop-less : tie.Need-loop-less Inv-loop μ-loop
+loop-less c = search needs
+
+loop-again : tie.Need-loop-again Inv-loop μ-loop
+loop-again c = row-turn (c .before .before .before .before .before .args .face .now) (c .before .before .before .before .before .args .n) (c .before .before .before .before .before .pre .1) _ _ _ (c .before .before .before .loop-test .taken) (c .before .before .before .before .loop .inv)
+
+returns : tie.Need-returns Inv-loop μ-loop
+returns c = row-end (c .before .before .args .face .now) (c .before .before .args .n) (c .before .before .pre .1) _ _ _ (omega arith) (c .loop-test .left) (c .before .loop .inv)
+
+pub row-of-spec : {M : Type 1} → statement M
+row-of-spec =
+    tie.close
+    (tie.spec
+    Inv-loop
+    μ-loop
+    loop-holds
+    mul-at
+    mul-t8
+    shared-slice-read-t10
+    add-t11
+    mul-t12
+    shared-slice-read-t14
+    add-t15
+    mul-t16
+    shared-slice-read-t18
+    mul-row
+    array-set-from-row
+    add-k
+    loop-less
+    loop-again
+    returns)

@@ -1,0 +1,231 @@
+// Folded faces: a face with two corners of equal positions goes, or becomes what is left of it.
+//
+// One pass over the faces writes the pieces of each, in the order they come, behind one another; then they are grouped as `push`
+// does. A face that is not folded is copied as it is; only a folded larger one is made a row of corners. The definitions that a
+// caller cites stand in specs/Folded.antt, those of one face in folding's specs/Folding.antt.
+ghost use mathlib.Core.Path.{_≡_};
+ghost use mathlib.Core.List.{[], _∷_, map};
+ghost use Prim.Native.Nat.{_+_, _*_, _<_, _≤_};
+ghost use lib.ListN.{length, take};
+ghost use Rattle.lists.specs.Lists.{each};
+ghost use Rattle.mesh.specs.Mesh.{meshOf, position, threes, rings};
+ghost use Rattle.grouping.specs.Push.{Placed};
+ghost use Rattle.folding.specs.Folding.{folded, trianglePieces, quadranglePieces, ringPieces, pieces};
+ghost use Rattle.folded.specs.Folded as want;
+ghost use Rattle.folded.specs.Working.{Face, Ready, refusedBy};
+use folding::Fold;
+use grouping::Filled;
+
+// The number returned, and how many corners and faces are left.
+pub struct Removed {
+    pub number: u32,
+    pub corners: usize,
+    pub faces: usize,
+}
+
+// Takes the mesh in five lists and lends two for the result: corners and sizes; positions, texture points and normals don't change.
+// The corners need the room of the input's, the sizes a third of the number of corners, rounded down. Answers 0 and how many corners
+// and faces are left; or 1 to 5 as the mesh earns, or 9 where a result list is too short, with counts of 0 and nothing written.
+pub fn remove_degenerate_faces(
+    positions: &[f64],
+    textures: &[f64],
+    normals: &[f64],
+    corners: &[u32],
+    sizes: &[u32],
+    newcorners: &mut [u32],
+    newsizes: &mut [u32],
+) -> Removed
+    ensures { λ r. ⌜ want.Removal (meshOf (now (positions .entry)) (now (textures .entry)) (now (normals .entry)) (now (corners .entry)) (now (sizes .entry))) (want.resultOf (now (newcorners .entry)) (now (newsizes .entry))) (want.resultOf (now (newcorners .exit)) (now (newsizes .exit))) r ⌝ }
+{
+    let number = mesh::number(positions, textures, normals, corners, sizes);
+    if number != 0 {
+        return refused(number);
+    }
+    if newcorners.len() < corners.len() {
+        return refused(9);
+    }
+    if newsizes.len() < corners.len() / 3 / 3 {
+        return refused(9);
+    }
+    let left = remove(corners, sizes, newcorners, newsizes);
+    Removed {
+        number: 0,
+        corners: left.corners,
+        faces: left.faces,
+    }
+}
+
+// A refusal: each count beside it is 0.
+fn refused(number: u32) -> Removed
+    ensures { λ r. ⌜ r ≡ refusedBy number ⌝ }
+{
+    Removed {
+        number: number,
+        corners: 0,
+        faces: 0,
+    }
+}
+
+// The pieces of all faces go to lists of their own, and from there to the result, grouped.
+fn remove(corners: &[u32], sizes: &[u32], newcorners: &mut [u32], newsizes: &mut [u32]) -> Filled
+    requires { ⌜ Ready (now corners) (now sizes) (now newcorners) (now newsizes) ⌝ }
+    ensures { λ r. ⌜ Placed (want.removed (rings (now (sizes .entry)) (now (corners .entry)))) (now (newcorners .entry)) (now (newcorners .exit)) (now (newsizes .entry)) (now (newsizes .exit)) 0 0 (r .corners) (r .faces) ⌝ }
+{
+    let mut pieces = [0u32; 12288];
+    let mut lens = [0u32; 1365];
+    let at = all_pieces(corners, sizes, &mut pieces, &mut lens);
+    let c = 3 * at.corners;
+    let f = at.faces;
+    grouping::push_all(&pieces[..c], &lens[..f], newcorners, newsizes)
+}
+
+// Whether a triangle is folded.
+fn degenerate_triangle(face: &[u32]) -> bool
+    requires { ⌜ length (now face) ≡ 9 ⌝ }
+    ensures { λ r. ⌜ r ≡ folded (threes (now (face .entry))) ⌝ }
+{
+    let a = face[0];
+    let b = face[3];
+    let c = face[6];
+    if a == b {
+        return true;
+    }
+    if b == c {
+        return true;
+    }
+    if c == a {
+        return true;
+    }
+    false
+}
+
+// A quadrangle's corners, by value.
+fn quad_of(face: &[u32]) -> [[u32; 3]; 4]
+    requires { ⌜ length (now face) ≡ 12 ⌝ }
+    ensures { λ r. ⌜ r ≡ threes (now (face .entry)) ⌝ }
+{
+    [
+        [face[0], face[1], face[2]],
+        [face[3], face[4], face[5]],
+        [face[6], face[7], face[8]],
+        [face[9], face[10], face[11]],
+    ]
+}
+
+// The positions of a face's corners.
+fn places_of(face: &[u32], n: usize) -> [u32; 32]
+    requires { ⌜ (n ≤ 32) × (length (now face) ≡ 3 * n) ⌝ }
+    ensures { λ r. ⌜ take n r ≡ map position (threes (now (face .entry))) ⌝ }
+{
+    let mut places = [0u32; 32];
+    let mut k: usize = 0;
+    while k < n {
+        places[k] = face[3 * k];
+        k += 1;
+    }
+    places
+}
+
+// A face's corners, as the front of a row.
+fn row_of(face: &[u32], n: usize) -> [[u32; 3]; 32]
+    requires { ⌜ (n ≤ 32) × (length (now face) ≡ 3 * n) ⌝ }
+    ensures { λ r. ⌜ take n r ≡ threes (now (face .entry)) ⌝ }
+{
+    let mut row = [[0u32; 3]; 32];
+    let mut k: usize = 0;
+    while k < n {
+        let at = 3 * k;
+        row[k] = [face[at], face[at + 1], face[at + 2]];
+        k += 1;
+    }
+    row
+}
+
+// A triangle that a quadrangle has become, behind what is written.
+fn put_triangle(tri: [[u32; 3]; 3], out: &mut [u32], lens: &mut [u32], at: Filled) -> Filled
+    requires { ⌜ (3 * (at .corners + 3) ≤ length (now out)) × (at .faces < length (now lens)) ⌝ }
+    ensures { λ r. ⌜ Placed (tri ∷ []) (now (out .entry)) (now (out .exit)) (now (lens .entry)) (now (lens .exit)) (at .corners) (at .faces) (r .corners) (r .faces) ⌝ }
+{
+    let c = at.corners;
+    let f = at.faces;
+    folding::put_corner(tri[0], out, 3 * c);
+    folding::put_corner(tri[1], out, 3 * c + 3);
+    folding::put_corner(tri[2], out, 3 * c + 6);
+    lens[f] = 3;
+    Filled {
+        corners: c + 3,
+        faces: f + 1,
+    }
+}
+
+// A triangle, if it is not folded.
+fn triangle_pieces(face: &[u32], out: &mut [u32], lens: &mut [u32], at: Filled) -> Filled
+    requires { ⌜ Face (now face) 3 (now out) (now lens) (at .corners) (at .faces) ⌝ }
+    ensures { λ r. ⌜ Placed (trianglePieces (threes (now (face .entry)))) (now (out .entry)) (now (out .exit)) (now (lens .entry)) (now (lens .exit)) (at .corners) (at .faces) (r .corners) (r .faces) ⌝ }
+{
+    if degenerate_triangle(face) {
+        return at;
+    }
+    grouping::put_face(face, out, lens, at)
+}
+
+// What is left of a quadrangle.
+fn quadrangle_pieces(face: &[u32], out: &mut [u32], lens: &mut [u32], at: Filled) -> Filled
+    requires { ⌜ Face (now face) 4 (now out) (now lens) (at .corners) (at .faces) ⌝ }
+    ensures { λ r. ⌜ Placed (quadranglePieces (threes (now (face .entry)))) (now (out .entry)) (now (out .exit)) (now (lens .entry)) (now (lens .exit)) (at .corners) (at .faces) (r .corners) (r .faces) ⌝ }
+{
+    let quad = quad_of(face);
+    match folding::degenerate_quadrangle(quad) {
+        Fold::Goes => at,
+        Fold::WithoutQ1 => put_triangle(folding::without_q1(quad), out, lens, at),
+        Fold::WithoutQ3 => put_triangle(folding::without_q3(quad), out, lens, at),
+        Fold::Stays => grouping::put_face(face, out, lens, at),
+    }
+}
+
+// The pieces of a larger face of n corners: itself where it is not folded.
+fn ring_pieces(face: &[u32], n: usize, out: &mut [u32], lens: &mut [u32], at: Filled) -> Filled
+    requires { ⌜ Face (now face) n (now out) (now lens) (at .corners) (at .faces) ⌝ }
+    ensures { λ r. ⌜ Placed (ringPieces (threes (now (face .entry)))) (now (out .entry)) (now (out .exit)) (now (lens .entry)) (now (lens .exit)) (at .corners) (at .faces) (r .corners) (r .faces) ⌝ }
+{
+    let places = places_of(face, n);
+    if folding::first(&places[..n]) < n {
+        return folding::split_into_nondegenerate(row_of(face, n), n, out, lens, at);
+    }
+    grouping::put_face(face, out, lens, at)
+}
+
+// The pieces of a face of n corners.
+fn face_pieces(face: &[u32], n: usize, out: &mut [u32], lens: &mut [u32], at: Filled) -> Filled
+    requires { ⌜ Face (now face) n (now out) (now lens) (at .corners) (at .faces) ⌝ }
+    ensures { λ r. ⌜ Placed (pieces (threes (now (face .entry)))) (now (out .entry)) (now (out .exit)) (now (lens .entry)) (now (lens .exit)) (at .corners) (at .faces) (r .corners) (r .faces) ⌝ }
+{
+    if n == 3 {
+        return triangle_pieces(face, out, lens, at);
+    }
+    if n == 4 {
+        return quadrangle_pieces(face, out, lens, at);
+    }
+    ring_pieces(face, n, out, lens, at)
+}
+
+// One pass over the faces: the pieces of each go to the lists, in the order they come.
+fn all_pieces(corners: &[u32], sizes: &[u32], out: &mut [u32], lens: &mut [u32]) -> Filled
+    requires { ⌜ Ready (now corners) (now sizes) (now out) (now lens) ⌝ }
+    ensures { λ r. ⌜ Placed (each pieces (rings (now (sizes .entry)) (now (corners .entry)))) (now (out .entry)) (now (out .exit)) (now (lens .entry)) (now (lens .exit)) 0 0 (r .corners) (r .faces) ⌝ }
+{
+    let mut to = Filled {
+        corners: 0,
+        faces: 0,
+    };
+    let mut from: usize = 0;
+    let mut k: usize = 0;
+    while k < sizes.len() {
+        let face = mesh::face_at(corners, sizes, k, from);
+        let n = sizes[k] as usize;
+        to = face_pieces(face, n, out, lens, to);
+        from += n;
+        k += 1;
+    }
+    to
+}

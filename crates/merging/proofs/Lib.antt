@@ -1,0 +1,4 @@
+pub mod Centres
+pub mod Sending
+pub mod Settling
+pub mod OneList

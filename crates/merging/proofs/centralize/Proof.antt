@@ -1,0 +1,68 @@
+use Prim.Native.Nat.{_-_}
+use native.Mathlib.Omega.{arith}
+use denote.Ref.{now}
+use borrow.Author.Needs.{needs}
+use Rattle.merging.proofs.Sending.{Sending, send-begins, send-turns, send-ends}
+use Rattle.merging.proofs.centralize.Statement.{statement}
+use Rattle.merging.proofs.centralize.Tie as tie
+
+abbrev Inv-loop : tie.InvT-loop
+Inv-loop s w n order from to map₀ rep k₀ map k = Sending n order from to rep map₀ map k
+
+abbrev μ-loop : tie.MeasureT-loop
+μ-loop s w n order from to map₀ rep k₀ map k = to - k
+
+representative-requires : tie.Need-representative-requires Inv-loop μ-loop
+representative-requires c κs = c .before .before .before .pre .0
+
+cast-rep : tie.Need-cast-rep Inv-loop μ-loop
+cast-rep c = search needs
+
+loop-holds : tie.Need-loop-holds Inv-loop μ-loop
+loop-holds c = send-begins _ _ _ _ _ _ (c .before .before .before .before .pre .0) _ _ (c .before .before .before .before .pre .1)
+
+mul-map : tie.Need-mul-map Inv-loop μ-loop
+mul-map c = search needs
+
+shared-slice-read-map : tie.Need-shared-slice-read-map Inv-loop μ-loop
+shared-slice-read-map c = search needs
+
+mul-map-2 : tie.Need-mul-map-2 Inv-loop μ-loop
+mul-map-2 c = omega (arith, c .before .before .before .before .before .before .before .pre .0 .within (c .before .before .loop .k) (c .before .loop-test .taken), c .before .before .before .before .before .before .before .pre .0 .few)
+
+slice-write-map : tie.Need-slice-write-map Inv-loop μ-loop
+slice-write-map c = omega (arith, c .before .before .before .before .before .before .before .pre .0 .within (c .before .before .loop .k) (c .before .loop-test .taken), c .before .before .before .before .before .before .before .pre .1, c .before .before .loop .inv .long)
+
+add-k : tie.Need-add-k Inv-loop μ-loop
+add-k c = search needs
+
+loop-less : tie.Need-loop-less Inv-loop μ-loop
+loop-less c = search needs
+
+loop-again : tie.Need-loop-again Inv-loop μ-loop
+loop-again c = send-turns _ _ _ _ _ _ (c .before .before .before .before .before .before .before .pre .0) _ _ (c .before .before .before .before .before .before .before .pre .1) _ _ (c .before .loop-test .taken) (c .before .before .loop .inv)
+
+same-length : tie.Need-same-length Inv-loop μ-loop
+same-length c = search needs
+
+returns : tie.Need-returns Inv-loop μ-loop
+returns c = send-ends _ _ (now (c .before .before .before .before .before .before .args .s)) (now (c .before .before .before .before .before .before .args .order)) _ _ (c .before .before .before .before .before .before .pre .0) _ _ (c .before .before .before .before .before .before .pre .1) _ _ (c .loop-test .left) (c .before .before .representative .ensures .0) (c .before .before .representative .ensures .1) (c .before .loop .inv)
+
+pub centralize-spec : {M : Type 1} → statement M
+centralize-spec =
+    tie.close
+    (tie.spec
+    Inv-loop
+    μ-loop
+    representative-requires
+    cast-rep
+    loop-holds
+    mul-map
+    shared-slice-read-map
+    mul-map-2
+    slice-write-map
+    add-k
+    loop-less
+    loop-again
+    same-length
+    returns)

@@ -1,0 +1,68 @@
+use Prim.Native.Nat.{_-_}
+use native.Mathlib.Omega.{arith}
+use denote.Ref.{now}
+use borrow.Author.Needs.{needs}
+use Rattle.merging.proofs.Centres.{point-in, Summing, sum-begins, sum-turns, sum-ends}
+use Rattle.merging.proofs.group_centre.Statement.{statement}
+use Rattle.merging.proofs.group_centre.Tie as tie
+
+abbrev Inv-loop : tie.InvT-loop
+Inv-loop s w n order from to sum₀ k₀ sum k = Summing w s order from to k sum
+
+abbrev μ-loop : tie.MeasureT-loop
+μ-loop s w n order from to sum₀ k₀ sum k = to - k
+
+loop-holds : tie.Need-loop-holds Inv-loop μ-loop
+loop-holds c = sum-begins _ _ _ _ _ _ (c .before .before .pre)
+
+mul-attr-at : tie.Need-mul-attr-at Inv-loop μ-loop
+mul-attr-at c = omega (arith, c .before .before .before .before .pre .room, c .loop-test .taken, c .before .before .before .before .good)
+
+shared-slice-read-attr-at : tie.Need-shared-slice-read-attr-at Inv-loop μ-loop
+shared-slice-read-attr-at c = search needs
+
+attr-at-requires : tie.Need-attr-at-requires Inv-loop μ-loop
+attr-at-requires c κs = (c .before .before .before .before .before .pre .least, c .before .before .before .before .before .pre .most, point-in _ _ _ _ _ _ (c .before .before .before .before .before .pre) _ (c .before .loop-test .taken))
+
+plus-requires : tie.Need-plus-requires Inv-loop μ-loop
+plus-requires c κs = search needs
+
+add-k : tie.Need-add-k Inv-loop μ-loop
+add-k c = search needs
+
+loop-less : tie.Need-loop-less Inv-loop μ-loop
+loop-less c = search needs
+
+loop-again : tie.Need-loop-again Inv-loop μ-loop
+loop-again c = sum-turns _ _ _ _ _ _ (c .before .before .before .before .before .before .before .pre) (c .before .before .before .before .loop .k) _ _ _ (c .before .before .before .loop-test .taken) (c .before .attr-at .ensures) (c .plus .ensures) (c .before .before .before .before .loop .inv)
+
+sub-nearest-u64-to-f64 : tie.Need-sub-nearest-u64-to-f64 Inv-loop μ-loop
+sub-nearest-u64-to-f64 c = omega (arith, c .before .before .before .before .pre .some)
+
+nearest-u64-to-f64-requires : tie.Need-nearest-u64-to-f64-requires Inv-loop μ-loop
+nearest-u64-to-f64-requires c κs = search needs
+
+over-requires : tie.Need-over-requires Inv-loop μ-loop
+over-requires c κs = search needs
+
+returns : tie.Need-returns Inv-loop μ-loop
+returns c = sum-ends _ _ (now (c .before .before .before .before .before .before .args .s)) (now (c .before .before .before .before .before .before .args .order)) _ _ (c .before .before .before .before .before .before .pre) (c .before .before .before .loop .k) _ _ _ (c .before .before .loop-test .left) (c .before .nearest-u64-to-f64 .ensures) (c .over .ensures) (c .before .before .before .loop .inv)
+
+pub group-centre-spec : {M : Type 1} → statement M
+group-centre-spec =
+    tie.close
+    (tie.spec
+    Inv-loop
+    μ-loop
+    loop-holds
+    mul-attr-at
+    shared-slice-read-attr-at
+    attr-at-requires
+    plus-requires
+    add-k
+    loop-less
+    loop-again
+    sub-nearest-u64-to-f64
+    nearest-u64-to-f64-requires
+    over-requires
+    returns)

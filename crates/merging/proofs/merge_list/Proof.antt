@@ -1,0 +1,52 @@
+-- the part of the room that is lent is the cells of the list
+use mathlib.Core.Path.{_≡_, sym}
+use Prim.Native.Nat.{ℕ}
+use native.Mathlib.Omega.{arith}
+use lib.Seq.{length-take-le}
+use lib.ListN.{length, take, replicate, length-replicate}
+use denote.Ref.{now}
+use borrow.Author.Needs.{needs}
+use Rattle.merging.proofs.OneList.{fits, cells-are, listed, pairs-are, settled-are}
+use Rattle.nearby.specs.Engine.{cellsOf}
+use Rattle.merging.proofs.merge_list.Statement.{statement}
+use Rattle.merging.proofs.merge_list.Tie as tie
+
+cells : (c : tie.After-fill-cells) → take (length (now (c .before .before .before .before .args .s))) (c .fill-cells .last .1 .1 .0) ≡ cellsOf (c .before .before .before .before .args .t) (now (c .before .before .before .before .args .s))
+cells c = cells-are (c .before .before .before .before .pre) (replicate 6144 0) _ (length-replicate {A = ℕ} 6144 0) (c .fill-cells .ensures)
+
+slice-aggregate-fill-cells : tie.Need-slice-aggregate-fill-cells
+slice-aggregate-fill-cells c = search needs
+
+fill-cells-requires : tie.Need-fill-cells-requires
+fill-cells-requires c κs = (c .before .before .before .pre .near, omega (arith, fits (c .before .before .before .pre), length-replicate {A = ℕ} 6144 0))
+
+array-share-prefix-room : tie.Need-array-share-prefix-room
+array-share-prefix-room c = omega (arith, fits (c .before .before .before .before .before .pre), c .before .fill-cells .kept .1 .1 .0, length-replicate {A = ℕ} 6144 0)
+
+slice-aggregate-cells : tie.Need-slice-aggregate-cells
+slice-aggregate-cells c = sym (length-take-le _ _ (omega (arith, fits (c .before .before .before .before .before .before .pre), c .before .before .fill-cells .kept .1 .1 .0, length-replicate {A = ℕ} 6144 0)))
+
+merge-groups-requires : tie.Need-merge-groups-requires
+merge-groups-requires c κs = (listed (c .before .before .before .before .before .before .before .pre) _ (cells (c .before .before .before)), c .before .before .before .before .before .before .before .pre .room)
+
+count-pairs-requires : tie.Need-count-pairs-requires
+count-pairs-requires c κs = listed (c .before .before .before .before .before .before .before .before .before .before .pre) _ (cells (c .before .before .before .before .before .before)) .points
+
+same-length : tie.Need-same-length
+same-length c = search needs
+
+returns : tie.Need-returns
+returns c = (pairs-are (c .before .before .before .before .before .before .before .before .before .before .before .pre) _ (cells (c .before .before .before .before .before .before .before)) _ (c .count-pairs .ensures), settled-are (c .before .before .before .before .before .before .before .before .before .before .before .pre) _ (cells (c .before .before .before .before .before .before .before)) _ (c .before .before .before .merge-groups .ensures))
+
+pub merge-list-spec : {M : Type 1} → statement M
+merge-list-spec =
+    tie.close
+    (tie.spec
+    slice-aggregate-fill-cells
+    fill-cells-requires
+    array-share-prefix-room
+    slice-aggregate-cells
+    merge-groups-requires
+    count-pairs-requires
+    same-length
+    returns)

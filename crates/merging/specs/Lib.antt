@@ -1,0 +1,3 @@
+pub mod Centre
+pub mod Merging
+pub mod Working

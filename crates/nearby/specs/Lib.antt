@@ -1,0 +1,3 @@
+pub mod Pairs
+pub mod Walk
+pub mod Engine

@@ -1,0 +1,188 @@
+-- Once the reading has stopped: the number at the end, and the mesh that is handed over. Assumes nothing.
+use mathlib.Core.Path.{_≡_, refl, sym, ap, _∙_}
+use mathlib.Core.Bool.{Bool, true, false, _||_}
+use mathlib.Core.List.{List, [], _∷_, map}
+use Prim.Native.Nat.{ℕ, zero, suc, _*_, _≤_, _<_}
+use native.Mathlib.Omega.{arith}
+use lib.ListN.{length, take, length-map}
+use lib.Seq.{sets, length-take-le}
+use lib.Dec.{ltb}
+use lib.Ieee.{Float}
+use borrow.Author.Tests.{lt-ltb, le-ltb, ltb-false}
+use Rattle.lists.proofs.Bools.{or-false-left, or-false-right}
+use Rattle.lists.specs.Lists.{some, joined, each, sum}
+use Rattle.mesh.specs.Mesh.{meshOf, rings}
+use Rattle.mesh.specs.Table.{when, astray, astrayAt, short, meshNumber}
+use Rattle.mesh.specs.Face.{Sound}
+use Rattle.mesh.proofs.Faces.{isRing, rings-back}
+use Rattle.mesh.proofs.Numbers.{first-is, first-head, first-tail, when-not}
+use Rattle.grouping.specs.Push.{pushed, cornerCount, Placed}
+use Rattle.grouping.proofs.Placing.{length-flat}
+use Rattle.grouping.proofs.Pushed.{every-pushed}
+use Rattle.grouping.proofs.Accepting.{threes-flat, accepted-faces}
+use Rattle.panelfile.specs.declared.Progress.{Progress}
+use Rattle.panelfile.specs.declared.Panel.{Panel}
+use Rattle.panelfile.specs.Reading.{Drawn, readAll, meshDrawn, finish, fullRoom, panelNumber, panelMesh}
+use Rattle.panelfile.specs.Working.{Drawing, Full}
+use Rattle.panelfile.specs.Answer.{PanelRead, Handed, refusedWith}
+use Rattle.panelfile.proofs.Sane.{all-sane}
+
+module _ (file : List ℕ) (x : Progress) (p t n : List Float) (c s : List ℕ) (d : Drawing file x p t n c s) where
+  abbrev drawn : Drawn
+  drawn = readAll file .drawn
+
+  -- the fronts of the reader's own lists are as long as the counts say
+  pub front-positions : length (take (3 * x .positions) p) ≡ 3 * x .positions
+  front-positions = length-take-le (3 * x .positions) p (omega (arith, d .within .positions, d .long .positions))
+
+  pub front-textures : length (take (2 * x .textures) t) ≡ 2 * x .textures
+  front-textures = length-take-le (2 * x .textures) t (omega (arith, d .within .textures, d .long .textures))
+
+  pub front-normals : length (take (3 * x .normals) n) ≡ 3 * x .normals
+  front-normals = length-take-le (3 * x .normals) n (omega (arith, d .within .normals, d .long .normals))
+
+  pub front-corners : length (take (3 * x .corners) c) ≡ 3 * x .corners
+  front-corners = length-take-le (3 * x .corners) c (omega (arith, d .within .corners, d .long .corners))
+
+  pub front-sizes : length (take (x .faces) s) ≡ x .faces
+  front-sizes = length-take-le (x .faces) s (omega (arith, d .within .faces, d .within .corners, d .long .sizes))
+
+  pub own-sound : Sound (take (3 * x .corners) c) (take (x .faces) s)
+  own-sound =
+      let e : sum (take (x .faces) s) ≡ x .corners = ap sum (d .holds .sizes) ∙ sym (d .holds .counted) in
+      record {
+        few = omega (arith, front-sizes, d .within .faces, d .within .corners);
+        fits = omega (arith, front-corners, d .within .corners);
+        adds = omega (arith, front-corners);
+      }
+
+  pub own-rings : rings (take (x .faces) s) (take (3 * x .corners) c) ≡ drawn .faces
+  own-rings =
+      ap (λ (l : List ℕ). rings l (take (3 * x .corners) c)) (d .holds .sizes)
+      ∙ ap (rings (map length (drawn .faces))) (d .holds .corners)
+      ∙ rings-back (drawn .faces) (all-sane file .drawn .are-rings)
+
+  -- the indices, over the corners of all faces that are kept
+  pub own-astray : astray (meshOf (take (3 * x .positions) p) (take (2 * x .textures) t) (take (3 * x .normals) n) (take (3 * x .corners) c) (take (x .faces) s)) ≡ some (astrayAt (meshDrawn drawn)) (joined (drawn .faces))
+  unfolding astray meshDrawn
+  own-astray = rw (d .holds .positions, d .holds .textures, d .holds .normals, d .holds .corners, threes-flat (drawn .faces) (all-sane file .drawn .are-rings))
+
+  -- ---- the number at the end
+  pub end-refused : (x .number ≡ 0 → ⊥) → x .number ≡ finish file (readAll file)
+  unfolding finish
+  end-refused h =
+      d .holds .refusal ∙ sym (first-is (readAll file .number) (when (ltb (readAll file .at) (length file)) 13 ∷ when (some (astrayAt (meshDrawn drawn)) (joined (drawn .faces))) 5 ∷ []) (λ e. h (d .holds .refusal ∙ e)))
+
+  pub end-follows : x .number ≡ 0 → x .at < length file → 13 ≡ finish file (readAll file)
+  unfolding finish
+  end-follows h l = rw (sym (d .holds .refusal) ∙ h, ← d .holds .place, lt-ltb (x .at) (length file) l)
+
+  pub end-astray : x .number ≡ 0 → length file ≤ x .at → some (astrayAt (meshDrawn drawn)) (joined (drawn .faces)) ≡ true → 5 ≡ finish file (readAll file)
+  unfolding finish
+  end-astray h l e = rw (sym (d .holds .refusal) ∙ h, ← d .holds .place, le-ltb (x .at) (length file) l, e)
+
+  pub end-well : x .number ≡ 0 → length file ≤ x .at → some (astrayAt (meshDrawn drawn)) (joined (drawn .faces)) ≡ false → 0 ≡ finish file (readAll file)
+  unfolding finish
+  end-well h l e = rw (sym (d .holds .refusal) ∙ h, ← d .holds .place, le-ltb (x .at) (length file) l, e)
+
+  -- ---- the mesh that is handed over
+  pub handed :
+      (p1 p2 t1 t2 n1 n2 : List Float) (c1 c2 s1 s2 : List ℕ) (fc ff : ℕ)
+      → p2 ≡ sets p1 0 (take (3 * x .positions) p) → t2 ≡ sets t1 0 (take (2 * x .textures) t) → n2 ≡ sets n1 0 (take (3 * x .normals) n)
+      → Placed (pushed (rings (take (x .faces) s) (take (3 * x .corners) c))) c1 c2 s1 s2 0 0 fc ff
+      → Handed (panelMesh file) (record { number = 0; positions = x .positions; textures = x .textures; normals = x .normals; corners = fc; faces = ff }) p1 p2 t1 t2 n1 n2 c1 c2 s1 s2
+  unfolding panelMesh meshDrawn
+  handed p1 p2 t1 t2 n1 n2 c1 c2 s1 s2 fc ff ep et en q =
+      let fs = drawn .faces in
+      let r : Placed (pushed fs) c1 c2 s1 s2 0 0 fc ff = rw own-rings at q in
+      let a : length (drawn .positions) ≡ 3 * x .positions = ap length (sym (d .holds .positions)) ∙ front-positions in
+      let b : length (drawn .textures) ≡ 2 * x .textures = ap length (sym (d .holds .textures)) ∙ front-textures in
+      let e : length (drawn .normals) ≡ 3 * x .normals = ap length (sym (d .holds .normals)) ∙ front-normals in
+      let f : length (each joined (pushed fs)) ≡ 3 * cornerCount (pushed fs) = length-flat (pushed fs) (every-pushed isRing fs (all-sane file .drawn .are-rings)) in
+      record {
+        number = refl;
+        position-count = omega arith;
+        texture-count = omega arith;
+        normal-count = omega arith;
+        corner-count = omega (arith, r .more);
+        face-count = omega (arith, r .most, length-map (pushed fs) length);
+        positions = ep ∙ ap (sets p1 0) (d .holds .positions);
+        textures = et ∙ ap (sets t1 0) (d .holds .textures);
+        normals = en ∙ ap (sets n1 0) (d .holds .normals);
+        corners = r .corners;
+        sizes = r .sizes;
+      }
+
+-- ---- the whole call
+
+module _ (file : List ℕ) (p t n : List Float) (c s : List ℕ) where
+  abbrev rooms : Bool
+  rooms = short (fullRoom (length p) (length t) (length n) (length c) (length s))
+
+  pub call-short : rooms ≡ true → (r : Panel) → r ≡ refusedWith 9 → PanelRead file r p p t t n n c c s s
+  unfolding panelNumber
+  call-short e r f = rw f (record { number = rw e; position-count = refl; texture-count = refl; normal-count = refl; corner-count = refl; face-count = refl; positions = refl; textures = refl; normals = refl; corners = refl; sizes = refl })
+
+  refused-panel : (k : ℕ) → suc k ≡ panelNumber (fullRoom (length p) (length t) (length n) (length c) (length s)) file → PanelRead file (refusedWith (suc k)) p p t t n n c c s s
+  refused-panel k e = record { number = e; position-count = refl; texture-count = refl; normal-count = refl; corner-count = refl; face-count = refl; positions = refl; textures = refl; normals = refl; corners = refl; sizes = refl }
+
+  go : (k : ℕ) → (k ≡ 0 → ⊥) → k ≡ panelNumber (fullRoom (length p) (length t) (length n) (length c) (length s)) file → PanelRead file (refusedWith k) p p t t n n c c s s
+  go zero h e = absurd (h refl)
+  go (suc k) h e = refused-panel k e
+
+  pub call-refused :
+      rooms ≡ false → (number : ℕ) → (number ≡ 0 → ⊥) → number ≡ finish file (readAll file) → (r : Panel) → r ≡ refusedWith number → PanelRead file r p p t t n n c c s s
+  unfolding panelNumber
+  call-refused e number h f r g =
+      rw g (go number h (rw e (f ∙ sym (first-is (finish file (readAll file)) [] (λ z. h (f ∙ z))))))
+
+  pub call-done :
+      (r : Panel) (p' t' n' : List Float) (c' s' : List ℕ) → rooms ≡ false → 0 ≡ finish file (readAll file) → Handed (panelMesh file) r p p' t t' n n' c c' s s'
+      → PanelRead file r p p' t t' n n' c c' s s'
+  unfolding panelNumber
+  call-done r p' t' n' c' s' e f h = record {
+    number = h .number ∙ rw (e, ← f);
+    position-count = rw (h .number) (h .position-count);
+    texture-count = rw (h .number) (h .texture-count);
+    normal-count = rw (h .number) (h .normal-count);
+    corner-count = rw (h .number) (h .corner-count);
+    face-count = rw (h .number) (h .face-count);
+    positions = rw (h .number) (h .positions);
+    textures = rw (h .number) (h .textures);
+    normals = rw (h .number) (h .normals);
+    corners = rw (h .number) (h .corners);
+    sizes = rw (h .number) (h .sizes);
+  }
+
+-- an accepted file's mesh is an accepted mesh
+pub read-accepted : (file : List ℕ) → finish file (readAll file) ≡ 0 → meshNumber (panelMesh file) ≡ 0
+unfolding finish panelMesh meshDrawn
+read-accepted file e =
+    let z = readAll file in
+    let m = meshDrawn (z .drawn) in
+    let a = when (ltb (z .at) (length file)) 13 in
+    let b = some (astrayAt (meshDrawn (z .drawn))) (joined (z .drawn .faces)) in
+    let e1 = first-tail (z .number) (a ∷ when b 5 ∷ []) e in
+    let e2 = first-tail a (when b 5 ∷ []) e1 in
+    accepted-faces (z .drawn .positions) (z .drawn .textures) (z .drawn .normals) (z .drawn .faces) (all-sane file .drawn) (when-not b 4 (first-head (when b 5) [] e2))
+
+-- lent lists that are not short are at the full limits at least
+pub not-short : (p t n : List Float) (c s : List ℕ) → short (fullRoom (length p) (length t) (length n) (length c) (length s)) ≡ false → Full p t n c s
+unfolding short fullRoom
+not-short p t n c s e =
+    let a = ltb (length p) 6144 in
+    let b = ltb (length t) 4096 in
+    let d = ltb (length n) 6144 in
+    let f = ltb (length c) 12288 in
+    let g = ltb (length s) 1365 in
+    let e1 : (b || (d || (f || (g || false)))) ≡ false = or-false-right a (b || (d || (f || (g || false)))) e in
+    let e2 : (d || (f || (g || false))) ≡ false = or-false-right b (d || (f || (g || false))) e1 in
+    let e3 : (f || (g || false)) ≡ false = or-false-right d (f || (g || false)) e2 in
+    let e4 : (g || false) ≡ false = or-false-right f (g || false) e3 in
+    record {
+      positions = ltb-false (length p) 6144 (or-false-left a (b || (d || (f || (g || false)))) e);
+      textures = ltb-false (length t) 4096 (or-false-left b (d || (f || (g || false))) e1);
+      normals = ltb-false (length n) 6144 (or-false-left d (f || (g || false)) e2);
+      corners = ltb-false (length c) 12288 (or-false-left f (g || false) e3);
+      sizes = ltb-false (length s) 1365 (or-false-left g false e4);
+    }

@@ -1,0 +1,127 @@
+-- `panelfile::read_panel` meets its contract: rooms first, then the number at the end, then the mesh. Assumes nothing.
+use mathlib.Core.Path.{sym, _∙_}
+use Rattle.panelfile.proofs.Ending.{call-short, call-refused, call-done, not-short}
+use borrow.Author.Needs.{needs}
+use Rattle.panelfile.proofs.read_panel.Statement.{statement}
+use Rattle.panelfile.proofs.read_panel.Tie as tie
+
+is-short-requires : tie.Need-is-short-requires
+is-short-requires c κs = search needs
+
+refused-requires : tie.Need-refused-requires
+refused-requires c κs = search needs
+
+returns : tie.Need-returns
+returns c = call-short _ _ _ _ _ _ (sym (c .before .before .is-short .ensures) ∙ c .before .if1 .taken) _ (c .refused .ensures)
+
+slice-aggregate-read-records : tie.Need-slice-aggregate-read-records
+slice-aggregate-read-records c = search needs
+
+slice-aggregate-read-records-2 : tie.Need-slice-aggregate-read-records-2
+slice-aggregate-read-records-2 c = search needs
+
+slice-aggregate-read-records-3 : tie.Need-slice-aggregate-read-records-3
+slice-aggregate-read-records-3 c = search needs
+
+slice-aggregate-read-records-4 : tie.Need-slice-aggregate-read-records-4
+slice-aggregate-read-records-4 c = search needs
+
+slice-aggregate-read-records-5 : tie.Need-slice-aggregate-read-records-5
+slice-aggregate-read-records-5 c = search needs
+
+read-records-requires : tie.Need-read-records-requires
+read-records-requires c κs = search needs
+
+slice-aggregate-number-at-end : tie.Need-slice-aggregate-number-at-end
+slice-aggregate-number-at-end c = search needs
+
+slice-aggregate-number-at-end-2 : tie.Need-slice-aggregate-number-at-end-2
+slice-aggregate-number-at-end-2 c = search needs
+
+slice-aggregate-number-at-end-3 : tie.Need-slice-aggregate-number-at-end-3
+slice-aggregate-number-at-end-3 c = search needs
+
+slice-aggregate-number-at-end-4 : tie.Need-slice-aggregate-number-at-end-4
+slice-aggregate-number-at-end-4 c = search needs
+
+slice-aggregate-number-at-end-5 : tie.Need-slice-aggregate-number-at-end-5
+slice-aggregate-number-at-end-5 c = search needs
+
+number-at-end-requires : tie.Need-number-at-end-requires
+number-at-end-requires c κs = search needs
+
+refused-requires-2 : tie.Need-refused-requires-2
+refused-requires-2 c κs = search needs
+
+returns-2 : tie.Need-returns-2
+returns-2 c = call-refused _ _ _ _ _ _ (sym (c .before .before .before .before .before .before .before .before .before .before .before .before .before .before .before .before .before .before .before .before .is-short .ensures) ∙ c .before .before .before .before .before .before .before .before .before .before .before .before .before .before .before .before .before .before .before .if1 .left) _ (c .before .if2 .taken) (c .before .before .number-at-end .ensures) _ (c .refused2 .ensures)
+
+slice-aggregate-hand-over : tie.Need-slice-aggregate-hand-over
+slice-aggregate-hand-over c = search needs
+
+slice-aggregate-hand-over-2 : tie.Need-slice-aggregate-hand-over-2
+slice-aggregate-hand-over-2 c = search needs
+
+slice-aggregate-hand-over-3 : tie.Need-slice-aggregate-hand-over-3
+slice-aggregate-hand-over-3 c = search needs
+
+slice-aggregate-hand-over-4 : tie.Need-slice-aggregate-hand-over-4
+slice-aggregate-hand-over-4 c = search needs
+
+slice-aggregate-hand-over-5 : tie.Need-slice-aggregate-hand-over-5
+slice-aggregate-hand-over-5 c = search needs
+
+hand-over-requires : tie.Need-hand-over-requires
+hand-over-requires c κs = (record { within = c .before .before .before .before .before .before .before .before .before .before .before .before .before .before .before .before .before .before .before .before .before .before .read-records .ensures .0; long = search needs; holds = c .before .before .before .before .before .before .before .before .before .before .before .before .before .before .before .before .before .before .before .before .before .before .read-records .ensures .1 }, not-short _ _ _ _ _ (sym (c .before .before .before .before .before .before .before .before .before .before .before .before .before .before .before .before .before .before .before .before .before .before .before .before .before .before .before .before .before .is-short .ensures) ∙ c .before .before .before .before .before .before .before .before .before .before .before .before .before .before .before .before .before .before .before .before .before .before .before .before .before .before .before .before .if1 .left))
+
+same-length : tie.Need-same-length
+same-length c = search needs
+
+same-length-2 : tie.Need-same-length-2
+same-length-2 c = search needs
+
+same-length-3 : tie.Need-same-length-3
+same-length-3 c = search needs
+
+same-length-4 : tie.Need-same-length-4
+same-length-4 c = search needs
+
+same-length-5 : tie.Need-same-length-5
+same-length-5 c = search needs
+
+returns-3 : tie.Need-returns-3
+returns-3 c = call-done _ _ _ _ _ _ _ _ _ _ _ _ (sym (c .before .before .before .before .before .before .before .before .before .before .before .before .before .before .before .before .before .before .before .before .before .before .before .before .before .before .before .before .before .before .before .before .before .before .before .before .before .before .before .before .is-short .ensures) ∙ c .before .before .before .before .before .before .before .before .before .before .before .before .before .before .before .before .before .before .before .before .before .before .before .before .before .before .before .before .before .before .before .before .before .before .before .before .before .before .before .if1 .left) (sym (c .before .before .before .before .before .before .before .before .before .before .before .before .before .before .before .before .before .before .before .before .before .if2 .left) ∙ c .before .before .before .before .before .before .before .before .before .before .before .before .before .before .before .before .before .before .before .before .before .before .number-at-end .ensures) (c .before .before .before .before .before .before .before .before .before .before .hand-over .ensures)
+
+pub read-panel-spec : {M : Type 1} → statement M
+read-panel-spec =
+    tie.close
+    (tie.spec
+    is-short-requires
+    refused-requires
+    returns
+    slice-aggregate-read-records
+    slice-aggregate-read-records-2
+    slice-aggregate-read-records-3
+    slice-aggregate-read-records-4
+    slice-aggregate-read-records-5
+    read-records-requires
+    slice-aggregate-number-at-end
+    slice-aggregate-number-at-end-2
+    slice-aggregate-number-at-end-3
+    slice-aggregate-number-at-end-4
+    slice-aggregate-number-at-end-5
+    number-at-end-requires
+    refused-requires-2
+    returns-2
+    slice-aggregate-hand-over
+    slice-aggregate-hand-over-2
+    slice-aggregate-hand-over-3
+    slice-aggregate-hand-over-4
+    slice-aggregate-hand-over-5
+    hand-over-requires
+    same-length
+    same-length-2
+    same-length-3
+    same-length-4
+    same-length-5
+    returns-3)

@@ -1,0 +1,88 @@
+-- `panelfile::reading::hand_over` meets its contract: the fronts of the reader's own lists are what was drawn, and the faces are grouped. Assumes nothing.
+use mathlib.Core.Path.{sym}
+use Rattle.panelfile.proofs.Ending.{front-positions, front-textures, front-normals, front-corners, front-sizes, own-sound, handed}
+use native.Mathlib.Omega.{arith}
+use borrow.Author.Needs.{needs}
+use Rattle.panelfile.proofs.reading.hand_over.Statement.{statement}
+use Rattle.panelfile.proofs.reading.hand_over.Tie as tie
+
+mul-pn : tie.Need-mul-pn
+mul-pn c = omega (arith, c .before .before .before .before .before .before .before .before .before .before .before .pre .0 .within .positions)
+
+mul-tn : tie.Need-mul-tn
+mul-tn c = omega (arith, c .before .before .before .before .before .before .before .before .before .before .before .pre .0 .within .textures)
+
+mul-nm : tie.Need-mul-nm
+mul-nm c = omega (arith, c .before .before .before .before .before .before .before .before .before .before .before .pre .0 .within .normals)
+
+mul-nc : tie.Need-mul-nc
+mul-nc c = omega (arith, c .before .before .before .before .before .before .before .before .before .before .before .before .pre .0 .within .corners)
+
+slice-aggregate-put-coordinates : tie.Need-slice-aggregate-put-coordinates
+slice-aggregate-put-coordinates c = sym (front-positions _ _ _ _ _ _ _ (c .before .before .before .before .before .before .before .before .before .before .before .before .before .pre .0))
+
+put-coordinates-requires : tie.Need-put-coordinates-requires
+put-coordinates-requires c κs = omega (arith, front-positions _ _ _ _ _ _ _ (c .before .before .before .before .before .before .before .before .before .before .before .before .before .before .pre .0), c .before .before .before .before .before .before .before .before .before .before .before .before .before .before .pre .0 .within .positions, c .before .before .before .before .before .before .before .before .before .before .before .before .before .before .pre .1 .positions)
+
+slice-aggregate-put-coordinates-2 : tie.Need-slice-aggregate-put-coordinates-2
+slice-aggregate-put-coordinates-2 c = sym (front-textures _ _ _ _ _ _ _ (c .before .before .before .before .before .before .before .before .before .before .before .before .before .before .before .before .before .before .pre .0))
+
+put-coordinates-requires-2 : tie.Need-put-coordinates-requires-2
+put-coordinates-requires-2 c κs = omega (arith, front-textures _ _ _ _ _ _ _ (c .before .before .before .before .before .before .before .before .before .before .before .before .before .before .before .before .before .before .before .pre .0), c .before .before .before .before .before .before .before .before .before .before .before .before .before .before .before .before .before .before .before .pre .0 .within .textures, c .before .before .before .before .before .before .before .before .before .before .before .before .before .before .before .before .before .before .before .pre .1 .textures)
+
+slice-aggregate-put-coordinates-3 : tie.Need-slice-aggregate-put-coordinates-3
+slice-aggregate-put-coordinates-3 c = sym (front-normals _ _ _ _ _ _ _ (c .before .before .before .before .before .before .before .before .before .before .before .before .before .before .before .before .before .before .before .before .before .before .before .pre .0))
+
+put-coordinates-requires-3 : tie.Need-put-coordinates-requires-3
+put-coordinates-requires-3 c κs = omega (arith, front-normals _ _ _ _ _ _ _ (c .before .before .before .before .before .before .before .before .before .before .before .before .before .before .before .before .before .before .before .before .before .before .before .before .pre .0), c .before .before .before .before .before .before .before .before .before .before .before .before .before .before .before .before .before .before .before .before .before .before .before .before .pre .0 .within .normals, c .before .before .before .before .before .before .before .before .before .before .before .before .before .before .before .before .before .before .before .before .before .before .before .before .pre .1 .normals)
+
+slice-aggregate-push-all : tie.Need-slice-aggregate-push-all
+slice-aggregate-push-all c = sym (front-corners _ _ _ _ _ _ _ (c .before .before .before .before .before .before .before .before .before .before .before .before .before .before .before .before .before .before .before .before .before .before .before .before .before .before .before .before .pre .0))
+
+slice-aggregate-push-all-2 : tie.Need-slice-aggregate-push-all-2
+slice-aggregate-push-all-2 c = sym (front-sizes _ _ _ _ _ _ _ (c .before .before .before .before .before .before .before .before .before .before .before .before .before .before .before .before .before .before .before .before .before .before .before .before .before .before .before .before .before .pre .0))
+
+push-all-requires : tie.Need-push-all-requires
+push-all-requires c κs = (own-sound _ _ _ _ _ _ _ (c .before .before .before .before .before .before .before .before .before .before .before .before .before .before .before .before .before .before .before .before .before .before .before .before .before .before .before .before .before .before .before .pre .0), (omega (arith, front-corners _ _ _ _ _ _ _ (c .before .before .before .before .before .before .before .before .before .before .before .before .before .before .before .before .before .before .before .before .before .before .before .before .before .before .before .before .before .before .before .pre .0), c .before .before .before .before .before .before .before .before .before .before .before .before .before .before .before .before .before .before .before .before .before .before .before .before .before .before .before .before .before .before .before .pre .0 .within .corners, c .before .before .before .before .before .before .before .before .before .before .before .before .before .before .before .before .before .before .before .before .before .before .before .before .before .before .before .before .before .before .before .pre .1 .corners), omega (arith, front-sizes _ _ _ _ _ _ _ (c .before .before .before .before .before .before .before .before .before .before .before .before .before .before .before .before .before .before .before .before .before .before .before .before .before .before .before .before .before .before .before .pre .0), c .before .before .before .before .before .before .before .before .before .before .before .before .before .before .before .before .before .before .before .before .before .before .before .before .before .before .before .before .before .before .before .pre .0 .within .faces, c .before .before .before .before .before .before .before .before .before .before .before .before .before .before .before .before .before .before .before .before .before .before .before .before .before .before .before .before .before .before .before .pre .0 .within .corners, c .before .before .before .before .before .before .before .before .before .before .before .before .before .before .before .before .before .before .before .before .before .before .before .before .before .before .before .before .before .before .before .pre .1 .sizes)))
+
+same-length : tie.Need-same-length
+same-length c = search needs
+
+same-length-2 : tie.Need-same-length-2
+same-length-2 c = search needs
+
+same-length-3 : tie.Need-same-length-3
+same-length-3 c = search needs
+
+same-length-4 : tie.Need-same-length-4
+same-length-4 c = search needs
+
+same-length-5 : tie.Need-same-length-5
+same-length-5 c = search needs
+
+returns : tie.Need-returns
+returns c = handed _ _ _ _ _ _ _ (c .before .before .before .before .before .before .before .before .before .before .before .before .before .before .before .before .before .before .before .before .before .before .before .before .before .before .before .before .before .before .before .before .before .before .before .before .pre .0) _ _ _ _ _ _ _ _ _ _ _ _ (c .before .before .before .before .before .before .before .before .before .before .before .before .before .before .before .before .before .before .before .before .before .put-coordinates .ensures) (c .before .before .before .before .before .before .before .before .before .before .before .before .before .before .before .before .put-coordinates2 .ensures) (c .before .before .before .before .before .before .before .before .before .before .before .put-coordinates3 .ensures) (c .before .before .before .before .push-all .ensures)
+
+pub hand-over-spec : {M : Type 1} → statement M
+hand-over-spec =
+    tie.close
+    (tie.spec
+    mul-pn
+    mul-tn
+    mul-nm
+    mul-nc
+    slice-aggregate-put-coordinates
+    put-coordinates-requires
+    slice-aggregate-put-coordinates-2
+    put-coordinates-requires-2
+    slice-aggregate-put-coordinates-3
+    put-coordinates-requires-3
+    slice-aggregate-push-all
+    slice-aggregate-push-all-2
+    push-all-requires
+    same-length
+    same-length-2
+    same-length-3
+    same-length-4
+    same-length-5
+    returns)

@@ -1,0 +1,67 @@
+-- `panelfile::reading::read_records` meets its contract: what is left to be read gives what the whole file gives; each record that is taken leaves fewer bytes. Assumes nothing.
+use mathlib.Core.Path.{sym, _∙_}
+use lib.ListN.{length}
+use Rattle.panelfile.proofs.Looping.{Underway, left, reading-begins, reading-turns, reading-falls, reading-ends, unrefused, unended}
+use borrow.Author.Needs.{needs}
+use Rattle.panelfile.proofs.reading.read_records.Statement.{statement}
+use Rattle.panelfile.proofs.reading.read_records.Tie as tie
+
+abbrev Inv-loop : tie.InvT-loop
+Inv-loop file positions₀ textures₀ normals₀ corners₀ sizes₀ x₀ go₀ positions textures normals corners sizes x go = Underway file x go positions textures normals corners sizes
+
+abbrev μ-loop : tie.MeasureT-loop
+μ-loop file positions₀ textures₀ normals₀ corners₀ sizes₀ x₀ go₀ positions textures normals corners sizes x go = left go (length file) (x .at)
+
+loop-holds : tie.Need-loop-holds Inv-loop μ-loop
+loop-holds c = reading-begins _ _ _ _ _ _ (c .before .before .before .before .before .before .pre)
+
+step-requires : tie.Need-step-requires Inv-loop μ-loop
+step-requires c κs = (c .before .before .before .before .before .before .loop .inv .within, (unrefused (c .before .before .before .before .before .before .loop .x) (sym (c .before .before .before .before .before .before .loop .inv .flag) ∙ c .before .before .before .before .before .loop-test .taken), (unended (c .before .before .before .before .before .before .loop .x) (sym (c .before .before .before .before .before .before .loop .inv .flag) ∙ c .before .before .before .before .before .loop-test .taken), c .before .before .before .before .before .before .loop .inv .long)))
+
+goes-on-requires : tie.Need-goes-on-requires Inv-loop μ-loop
+goes-on-requires c κs = search needs
+
+loop-less : tie.Need-loop-less Inv-loop μ-loop
+loop-less c = reading-falls _ (c .before .before .before .before .before .before .before .before .before .before .before .before .before .before .before .before .before .before .loop .x) (c .before .before .before .before .before .before .before .before .before .before .before .step .result) (c .before .before .before .before .before .before .before .before .before .before .before .before .before .before .before .before .before .before .loop .go) (c .goes-on .result) (c .before .before .before .before .before .before .before .before .before .before .before .before .before .before .before .before .before .loop-test .taken) (c .before .before .before .before .before .before .before .before .before .before .before .step .ensures .within .place) (c .goes-on .ensures) (c .before .before .before .before .before .before .before .before .before .before .before .step .ensures .moved)
+
+loop-again : tie.Need-loop-again Inv-loop μ-loop
+loop-again c =
+    let k = c .before .before .before .before .before .before .before .before .before .before .before .step .kept in
+    let l = c .before .before .before .before .before .before .before .before .before .before .before .before .before .before .before .before .before .before .loop .inv .long in
+    reading-turns _ _ _ _ _ _ _ _ _ _ _ _ _ _ _ (c .before .before .before .before .before .before .before .before .before .before .before .before .before .before .before .before .before .loop-test .taken) (c .before .before .before .before .before .before .before .before .before .before .before .before .before .before .before .before .before .before .loop .inv) (c .before .before .before .before .before .before .before .before .before .before .before .step .ensures) (record { positions = k .1 .0 ∙ l .positions; textures = k .1 .1 .0 ∙ l .textures; normals = k .1 .1 .1 .0 ∙ l .normals; corners = k .1 .1 .1 .1 .0 ∙ l .corners; sizes = k .1 .1 .1 .1 .1 .0 ∙ l .sizes }) (c .goes-on .ensures)
+
+same-length : tie.Need-same-length Inv-loop μ-loop
+same-length c = search needs
+
+same-length-2 : tie.Need-same-length-2 Inv-loop μ-loop
+same-length-2 c = search needs
+
+same-length-3 : tie.Need-same-length-3 Inv-loop μ-loop
+same-length-3 c = search needs
+
+same-length-4 : tie.Need-same-length-4 Inv-loop μ-loop
+same-length-4 c = search needs
+
+same-length-5 : tie.Need-same-length-5 Inv-loop μ-loop
+same-length-5 c = search needs
+
+returns : tie.Need-returns Inv-loop μ-loop
+returns c = reading-ends _ _ _ _ _ _ _ _ (c .loop-test .left) (c .before .loop .inv)
+
+pub read-records-spec : {M : Type 1} → statement M
+read-records-spec =
+    tie.close
+    (tie.spec
+    Inv-loop
+    μ-loop
+    loop-holds
+    step-requires
+    goes-on-requires
+    loop-less
+    loop-again
+    same-length
+    same-length-2
+    same-length-3
+    same-length-4
+    same-length-5
+    returns)

@@ -1,0 +1,77 @@
+-- `panelfile::steps::step` meets its contract: a position is drawn or stops at the limit; every other case is the next function's. Assumes nothing.
+use Rattle.panelfile.proofs.Stepping.{stepped-at, after-position, position-stop, position-step}
+use mathlib.Core.Path.{subst}
+use Prim.Native.Nat.{_≤_}
+use lib.ListN.{length}
+use Rattle.panelfile.specs.declared.Record.{Record}
+use Rattle.panelfile.specs.Working.{endOf}
+use Rattle.panelfile.proofs.Fitting.{able}
+use native.Mathlib.Omega.{arith}
+use borrow.Author.Needs.{needs}
+use Rattle.panelfile.proofs.steps.step.Statement.{statement}
+use Rattle.panelfile.proofs.steps.step.Tie as tie
+
+record-at-requires : tie.Need-record-at-requires
+record-at-requires c κs = search needs
+
+enum-known-r : tie.Need-enum-known-r
+enum-known-r c = search needs
+
+step-texture-requires : tie.Need-step-texture-requires
+step-texture-requires c κs = (able _ _ _ (c .before .before .before .before .before .before .before .before .before .before .before .before .pre .0) (c .before .before .before .before .before .before .before .before .before .before .before .before .pre .1 .0) (c .before .before .before .before .before .before .before .before .before .before .before .before .pre .1 .1 .0) (c .before .before .before .before .before .record-at .ensures), (after-position (c .before .before .before .before .before .record-at .result) (c .before .before .before .before .match .keys2), (c .before .before .before .before .before .before .before .before .before .before .before .before .pre .1 .1 .1 .textures, (c .before .before .before .before .before .before .before .before .before .before .before .before .pre .1 .1 .1 .normals, (c .before .before .before .before .before .before .before .before .before .before .before .before .pre .1 .1 .1 .corners, c .before .before .before .before .before .before .before .before .before .before .before .before .pre .1 .1 .1 .sizes)))))
+
+same-length : tie.Need-same-length
+same-length c = search needs
+
+same-length-2 : tie.Need-same-length-2
+same-length-2 c = search needs
+
+same-length-3 : tie.Need-same-length-3
+same-length-3 c = search needs
+
+same-length-4 : tie.Need-same-length-4
+same-length-4 c = search needs
+
+returns : tie.Need-returns
+returns c = stepped-at _ _ _ _ _ _ _ _ _ _ _ _ _ _ _ (c .before .before .before .before .before .before .before .before .before .before .before .before .before .before .record-at .ensures) (c .before .before .before .before .before .before .before .before .step-texture .ensures _)
+
+refused-requires : tie.Need-refused-requires
+refused-requires c κs = search needs
+
+returns-2 : tie.Need-returns-2
+returns-2 c = stepped-at _ _ _ _ _ _ _ _ _ _ _ _ _ _ _ (c .before .before .before .before .before .record-at .ensures) (position-stop _ _ _ _ _ _ _ _ (able _ _ _ (c .before .before .before .before .before .before .before .before .before .before .before .before .pre .0) (c .before .before .before .before .before .before .before .before .before .before .before .before .pre .1 .0) (c .before .before .before .before .before .before .before .before .before .before .before .before .pre .1 .1 .0) (c .before .before .before .before .before .record-at .ensures)) _ (c .before .before .before .r .given .1) (c .before .before .before .before .before .before .before .before .before .before .before .before .pre .1 .1 .1 .positions) (c .before .if1 .taken) _ (c .refused .ensures))
+
+put-point-requires : tie.Need-put-point-requires
+put-point-requires c κs = omega (arith, c .before .before .before .before .before .before .before .before .before .before .before .before .pre .1 .1 .1 .positions, c .before .if1 .left)
+
+add-next : tie.Need-add-next
+add-next c = omega (arith, subst (λ (r : Record). endOf ((c .before .before .before .before .before .before .before .before .before .before .before .before .before .before .before .args .x) .at) r ≤ length (c .before .before .before .before .before .before .before .before .before .before .before .before .before .before .before .args .file .now)) (c .before .before .before .before .before .before .r .given .1) (able _ _ _ (c .before .before .before .before .before .before .before .before .before .before .before .before .before .before .before .pre .0) (c .before .before .before .before .before .before .before .before .before .before .before .before .before .before .before .pre .1 .0) (c .before .before .before .before .before .before .before .before .before .before .before .before .before .before .before .pre .1 .1 .0) (c .before .before .before .before .before .before .before .before .record-at .ensures) .fits))
+
+add-more : tie.Need-add-more
+add-more c = search needs
+
+same-length-5 : tie.Need-same-length-5
+same-length-5 c = search needs
+
+returns-3 : tie.Need-returns-3
+returns-3 c = stepped-at _ _ _ _ _ _ _ _ _ _ _ _ _ _ _ (c .before .before .before .before .before .before .before .before .record-at .ensures) (position-step _ _ _ _ _ _ _ _ (able _ _ _ (c .before .before .before .before .before .before .before .before .before .before .before .before .before .before .before .pre .0) (c .before .before .before .before .before .before .before .before .before .before .before .before .before .before .before .pre .1 .0) (c .before .before .before .before .before .before .before .before .before .before .before .before .before .before .before .pre .1 .1 .0) (c .before .before .before .before .before .before .before .before .record-at .ensures)) _ (c .before .before .before .before .before .before .r .given .1) (c .before .before .before .before .before .before .before .before .before .before .before .before .before .before .before .pre .1 .1 .1 .positions) (c .before .before .before .before .if1 .left) _ (c .before .before .put-point .ensures))
+
+pub step-spec : {M : Type 1} → statement M
+step-spec =
+    tie.close
+    (tie.spec
+    record-at-requires
+    enum-known-r
+    step-texture-requires
+    same-length
+    same-length-2
+    same-length-3
+    same-length-4
+    returns
+    refused-requires
+    returns-2
+    put-point-requires
+    add-next
+    add-more
+    same-length-5
+    returns-3)

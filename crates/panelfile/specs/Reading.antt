@@ -1,0 +1,108 @@
+-- The reader of the panel file (added): record by record, then what follows the end record. Assumes nothing.
+use Prim.Native.Nat.{ℕ, zero, suc, _+_, _*_, _≤_}
+use mathlib.Core.Path.{_≡_}
+use mathlib.Core.Bool.{Bool, true, false, cond, not, _&&_}
+use mathlib.Core.List.{List, [], _∷_, _++_, map}
+use lib.ListN.{length}
+use lib.Seq.{sets}
+use lib.Dec.{ltb, eqb}
+use lib.Ieee.{Float}
+use Rattle.lists.specs.Lists.{some, joined, each, sum}
+use Rattle.mesh.specs.Mesh.{Mesh, Ring, meshOf}
+use Rattle.mesh.specs.Table.{when, firstOf, astrayAt, Lent, lent, short, after}
+use Rattle.grouping.specs.Push.{pushed, cornerCount}
+use Rattle.floating.specs.declared.Point.{Point}
+use Rattle.floating.specs.declared.Texel.{Texel}
+use Rattle.floating.specs.Points.{coordinates}
+use Rattle.panelfile.specs.declared.Record.{Record}
+use Rattle.panelfile.specs.declared.Record.the-variants.{Position, Texture, Normal, Face, End, Refused}
+use Rattle.panelfile.specs.Records.{word, recordFrom}
+
+-- n corners from a place on, three four-byte numbers each
+abbrev pub ringFrom : List ℕ → ℕ → ℕ → Ring
+ringFrom s zero a = []
+ringFrom s (suc n) a = (word s a ∷ word s (a + 4) ∷ word s (a + 8) ∷ []) ∷ ringFrom s n (a + 12)
+
+-- what has been drawn so far: coordinates, and the faces of three or more corners in the order they came
+pub record Drawn : Type 0 where
+  pub positions : List Float
+  pub textures : List Float
+  pub normals : List Float
+  pub faces : List Ring
+
+abbrev pub nothing : Drawn
+nothing = record { positions = []; textures = []; normals = []; faces = [] }
+
+-- how far the reading is: the next record's place, the number of a refusal, whether the end record was met, and what is drawn
+pub record Reader : Type 0 where
+  pub at : ℕ
+  pub number : ℕ
+  pub ended : Bool
+  pub drawn : Drawn
+
+abbrev pub reader : ℕ → ℕ → Bool → Drawn → Reader
+reader at number ended drawn = record { at = at; number = number; ended = ended; drawn = drawn }
+
+-- where a limit is passed the reader stops with 1, and nothing is drawn
+abbrev pub limited : Bool → Reader → Reader → Reader
+limited true old new = reader (old .at) 1 false (old .drawn)
+limited false old new = new
+
+abbrev pub withPosition : Point → Drawn → Drawn
+withPosition p d = record { positions = d .positions ++ coordinates p; textures = d .textures; normals = d .normals; faces = d .faces }
+
+abbrev pub withTexture : Texel → Drawn → Drawn
+withTexture t d = record { positions = d .positions; textures = d .textures ++ t .u ∷ t .v ∷ []; normals = d .normals; faces = d .faces }
+
+abbrev pub withNormal : Point → Drawn → Drawn
+withNormal p d = record { positions = d .positions; textures = d .textures; normals = d .normals ++ coordinates p; faces = d .faces }
+
+abbrev pub withFace : Ring → Drawn → Drawn
+withFace f d = record { positions = d .positions; textures = d .textures; normals = d .normals; faces = d .faces ++ f ∷ [] }
+
+-- a face of fewer than three corners is dropped: its indices aren't checked and its corners don't count
+abbrev pub takeFace : Bool → List ℕ → ℕ → ℕ → Reader → Reader
+takeFace true s a n x = reader (a + 12 * n) 0 false (x .drawn)
+takeFace false s a n x =
+    limited (ltb 4096 (cornerCount (x .drawn .faces) + n)) x (reader (a + 12 * n) 0 false (withFace (ringFrom s n a) (x .drawn)))
+
+-- one record is taken; a refusal stops the reading there, with its number
+unfoldable pub take1 : List ℕ → Reader → Record → Reader
+take1 s x (Position p) = limited (ltb (2048 * 3) (length (x .drawn .positions) + 3)) x (reader (x .at + 28) 0 false (withPosition p (x .drawn)))
+take1 s x (Texture t) = limited (ltb (2048 * 2) (length (x .drawn .textures) + 2)) x (reader (x .at + 20) 0 false (withTexture t (x .drawn)))
+take1 s x (Normal p) = limited (ltb (2048 * 3) (length (x .drawn .normals) + 3)) x (reader (x .at + 28) 0 false (withNormal p (x .drawn)))
+take1 s x (Face a n) = takeFace (ltb n 3) s a n x
+take1 s x End = reader (x .at + 4) 0 true (x .drawn)
+take1 s x (Refused n) = reader (x .at) n false (x .drawn)
+
+-- the reading goes on until a refusal or the end record
+abbrev pub going : Reader → Bool
+going x = not (x .ended) && eqb (x .number) 0
+
+-- record by record; the first argument bounds their number: one more than the bytes is enough
+unfoldable pub readFrom : ℕ → List ℕ → Reader → Reader
+readFrom zero s x = x
+readFrom (suc f) s x = elim (going x) [ true ↦ readFrom f s (take1 s x (recordFrom s (x .at))) | false ↦ x ]
+
+unfoldable pub readAll : List ℕ → Reader
+readAll s = readFrom (suc (length s)) s (reader 0 0 false nothing)
+
+-- the mesh that was drawn: faces are grouped as `push` does
+unfoldable pub meshDrawn : Drawn → Mesh
+meshDrawn d = meshOf (d .positions) (d .textures) (d .normals) (each joined (pushed (d .faces))) (map length (pushed (d .faces)))
+
+-- then 13, bytes follow the end record; then 5, over the corners of all faces that are kept
+unfoldable pub finish : List ℕ → Reader → ℕ
+finish s x =
+    firstOf (x .number ∷ when (ltb (x .at) (length s)) 13 ∷ when (some (astrayAt (meshDrawn (x .drawn))) (joined (x .drawn .faces))) 5 ∷ [])
+
+-- 9 first: room must be at the full limits
+unfoldable pub fullRoom : ℕ → ℕ → ℕ → ℕ → ℕ → List Lent
+fullRoom p t n c s = lent p (2048 * 3) ∷ lent t (2048 * 2) ∷ lent n (2048 * 3) ∷ lent c (4096 * 3) ∷ lent s 1365 ∷ []
+
+unfoldable pub panelNumber : List Lent → List ℕ → ℕ
+panelNumber rooms s = firstOf (when (short rooms) 9 ∷ finish s (readAll s) ∷ [])
+
+-- the mesh of a file
+unfoldable pub panelMesh : List ℕ → Mesh
+panelMesh s = meshDrawn (readAll s .drawn)

@@ -1,0 +1,110 @@
+-- What the reader's own lists and counts hold while it works, for the contracts of its inner functions. Assumes nothing.
+use Prim.Native.Nat.{ℕ, zero, suc, _+_, _*_, _≤_, _<_}
+use mathlib.Core.Path.{_≡_}
+use mathlib.Core.Bool.{Bool, true, false}
+use mathlib.Core.List.{List, map}
+use lib.ListN.{length, take}
+use lib.Ieee.{Float}
+use Rattle.lists.specs.Lists.{joined, each}
+use Rattle.grouping.specs.Push.{cornerCount}
+use Rattle.panelfile.specs.declared.Record.{Record}
+use Rattle.panelfile.specs.declared.Record.the-variants.{Position, Texture, Normal, Face, End, Refused}
+use Rattle.panelfile.specs.declared.Progress.{Progress}
+use Rattle.panelfile.specs.Reading.{Reader, take1, readAll}
+
+-- the cases of a record, in the order in which the steps look for them
+abbrev pub caseOf : Record → ℕ
+caseOf (Position p) = 0
+caseOf (Texture t) = 1
+caseOf (Normal p) = 2
+caseOf (Face a n) = 3
+caseOf End = 4
+caseOf (Refused n) = 5
+
+-- where the record at a place ends; a refused one ends where it begins
+abbrev pub endOf : ℕ → Record → ℕ
+endOf at (Position p) = at + 28
+endOf at (Texture t) = at + 20
+endOf at (Normal p) = at + 28
+endOf at (Face a n) = a + 12 * n
+endOf at End = at + 4
+endOf at (Refused n) = at
+
+-- a face begins behind its header and its count, and has at most 32 corners; a refusal has a number
+abbrev pub Placed : ℕ → Record → Type 0
+Placed at (Position p) = Unit {0}
+Placed at (Texture t) = Unit {0}
+Placed at (Normal p) = Unit {0}
+Placed at (Face a n) = (at < a) × (n ≤ 32)
+Placed at End = Unit {0}
+Placed at (Refused n) = n ≡ 0 → ⊥
+
+-- the counts are within the limits, and the place within the file
+pub record Within (size : ℕ) (y : Progress) : Type 0 where
+  pub positions : y .positions ≤ 2048
+  pub textures : y .textures ≤ 2048
+  pub normals : y .normals ≤ 2048
+  pub corners : y .corners ≤ 4096
+  pub faces : 3 * y .faces ≤ y .corners
+  pub place : y .at ≤ size
+
+-- the record r stands at the place of a reader that goes on
+pub record Able (size : ℕ) (r : Record) (x : Progress) : Type 0 where
+  pub within : Within size x
+  pub unrefused : x .number ≡ 0
+  pub unended : x .ended ≡ false
+  pub fits : endOf (x .at) r ≤ size
+  pub placed : Placed (x .at) r
+
+-- a reader that is stopped with a number
+abbrev pub stoppedWith : Progress → ℕ → Progress
+stoppedWith x n = record {
+  at = x .at;
+  number = n;
+  ended = x .ended;
+  positions = x .positions;
+  textures = x .textures;
+  normals = x .normals;
+  corners = x .corners;
+  faces = x .faces;
+}
+
+-- the lists are at the full limits
+pub record Long (p t n : List Float) (c s : List ℕ) : Type 0 where
+  pub positions : length p ≡ 6144
+  pub textures : length t ≡ 4096
+  pub normals : length n ≡ 6144
+  pub corners : length c ≡ 12288
+  pub sizes : length s ≡ 1365
+
+-- the counts and the fronts of the lists are what the reader z has drawn
+pub record Holds (z : Reader) (y : Progress) (p t n : List Float) (c s : List ℕ) : Type 0 where
+  pub place : y .at ≡ z .at
+  pub refusal : y .number ≡ z .number
+  pub end : y .ended ≡ z .ended
+  pub positions : take (3 * y .positions) p ≡ z .drawn .positions
+  pub textures : take (2 * y .textures) t ≡ z .drawn .textures
+  pub normals : take (3 * y .normals) n ≡ z .drawn .normals
+  pub corners : take (3 * y .corners) c ≡ each joined (z .drawn .faces)
+  pub sizes : take (y .faces) s ≡ map length (z .drawn .faces)
+  pub counted : y .corners ≡ cornerCount (z .drawn .faces)
+
+-- the record r was taken: from x and the lists p, t, n, c, s to y and the lists p', t', n', c', s'
+pub record Stepped (file : List ℕ) (r : Record) (x y : Progress) (p p' t t' n n' : List Float) (c c' s s' : List ℕ) : Type 0 where
+  pub within : Within (length file) y
+  pub moved : y .number ≡ 0 → y .ended ≡ false → x .at < y .at
+  pub taken : (z : Reader) → Holds z x p t n c s → Holds (take1 file z r) y p' t' n' c' s'
+
+-- lent lists at the full limits at least
+pub record Full (p t n : List Float) (c s : List ℕ) : Type 0 where
+  pub positions : 6144 ≤ length p
+  pub textures : 4096 ≤ length t
+  pub normals : 6144 ≤ length n
+  pub corners : 12288 ≤ length c
+  pub sizes : 1365 ≤ length s
+
+-- the reader's own lists hold what the whole file draws
+pub record Drawing (file : List ℕ) (x : Progress) (p t n : List Float) (c s : List ℕ) : Type 0 where
+  pub within : Within (length file) x
+  pub long : Long p t n c s
+  pub holds : Holds (readAll file) x p t n c s

@@ -1,0 +1,99 @@
+// The panel file: its records, and the reader that turns its bytes into a mesh or into a number of the table.
+//
+// A file is records, each a two-byte length, a two-byte kind and a body, little-endian, up to an end record. The reader takes one
+// record after the other into lists of its own, so that a refused file writes nothing; then it looks at what follows the end record
+// and at the indices, groups the faces as `push` does, and copies.
+mod bytes;
+mod reading;
+mod records;
+mod steps;
+
+ghost use mathlib.Core.Path.{_≡_};
+ghost use Rattle.panelfile.specs.Answer.{PanelRead};
+use floating::Point;
+use floating::Texel;
+
+// What one record answers.
+pub enum Record {
+    Position(Point),
+    Texture(Texel),
+    Normal(Point),
+    // The place of its first corner, and how many corners there are.
+    Face(usize, u32),
+    End,
+    Refused(u32),
+}
+
+// How far the reading is: the next record's place, the number of a refusal, whether the end record was met, and how many
+// positions, texture points, normals, corners and faces are drawn.
+pub struct Progress {
+    pub at: usize,
+    pub number: u32,
+    pub ended: bool,
+    pub positions: usize,
+    pub textures: usize,
+    pub normals: usize,
+    pub corners: usize,
+    pub faces: usize,
+}
+
+// The reader's answer: its number, and how many positions, texture points, normals, corners and faces the mesh has.
+pub struct Panel {
+    pub number: u32,
+    pub positions: usize,
+    pub textures: usize,
+    pub normals: usize,
+    pub corners: usize,
+    pub faces: usize,
+}
+
+// Reads a panel file into five lent lists.
+//
+// Lends: room at the full limits, 6,144 numbers for positions, 4,096 for texture points, 6,144 for normals, 12,288 for corners
+// and 1,365 for sizes.
+// Numbers: 9; then record by record 11 header cut, 12 kind, 12 length, 11 body cut, 12 n unlike m, 3 n over 32, 1 limit; then 13;
+// then 5. A refused file writes nothing.
+pub fn read_panel(
+    file: &[u8],
+    positions: &mut [f64],
+    textures: &mut [f64],
+    normals: &mut [f64],
+    corners: &mut [u32],
+    sizes: &mut [u32],
+) -> Panel
+    ensures { λ r. ⌜ PanelRead (now (file .entry)) r (now (positions .entry)) (now (positions .exit)) (now (textures .entry)) (now (textures .exit)) (now (normals .entry)) (now (normals .exit)) (now (corners .entry)) (now (corners .exit)) (now (sizes .entry)) (now (sizes .exit)) ⌝ }
+{
+    if reading::is_short(
+        positions.len(),
+        textures.len(),
+        normals.len(),
+        corners.len(),
+        sizes.len(),
+    ) {
+        return reading::refused(9);
+    }
+    let mut p = [0.0f64; 6144];
+    let mut t = [0.0f64; 4096];
+    let mut n = [0.0f64; 6144];
+    let mut c = [0u32; 12288];
+    let mut s = [0u32; 1365];
+    let x = reading::read_records(file, &mut p, &mut t, &mut n, &mut c, &mut s);
+    let number = reading::number_at_end(file, x, &p, &t, &n, &c, &s);
+    if number != 0 {
+        return reading::refused(number);
+    }
+    reading::hand_over(
+        file,
+        x,
+        &p,
+        &t,
+        &n,
+        &c,
+        &s,
+        positions,
+        textures,
+        normals,
+        corners,
+        sizes,
+    )
+}

@@ -1,0 +1,182 @@
+// One step of the reader: the record at its place is taken apart, case by case; a refusal stops the reading there, with its number.
+ghost use mathlib.Core.Path.{_≡_};
+ghost use mathlib.Core.Bool.{false};
+ghost use mathlib.Core.List.{List};
+ghost use Prim.Native.Nat.{ℕ, _+_, _*_, _≤_, _<_};
+ghost use lib.ListN.{length};
+ghost use lib.Seq.{sets};
+ghost use lib.Ieee.{Float};
+ghost use Rattle.lists.specs.Lists.{joined};
+ghost use Rattle.panelfile.specs.Records.{recordFrom};
+ghost use Rattle.panelfile.specs.Reading.{ringFrom};
+ghost use Rattle.panelfile.specs.Working.{caseOf, stoppedWith, Within, Able, Long, Stepped};
+use crate::Progress;
+use crate::Record;
+
+// The record at the reader's place.
+pub fn step(
+    file: &[u8],
+    positions: &mut [f64],
+    textures: &mut [f64],
+    normals: &mut [f64],
+    corners: &mut [u32],
+    sizes: &mut [u32],
+    x: Progress,
+) -> Progress
+    requires { ⌜ Within (length (now file)) x × ((x .number ≡ 0) × ((x .ended ≡ false) × Long (now positions) (now textures) (now normals) (now corners) (now sizes))) ⌝ }
+    ensures { λ y. ⌜ Stepped (now (file .entry)) (recordFrom (now (file .entry)) (x .at)) x y (now (positions .entry)) (now (positions .exit)) (now (textures .entry)) (now (textures .exit)) (now (normals .entry)) (now (normals .exit)) (now (corners .entry)) (now (corners .exit)) (now (sizes .entry)) (now (sizes .exit)) ⌝ }
+{
+    let at = x.at;
+    let r = crate::records::record_at(file, at);
+    let Record::Position(p) = r else {
+        return step_texture(file, r, textures, normals, corners, sizes, x);
+    };
+    let k = x.positions;
+    if 2048 <= k {
+        return refused(x, 1);
+    }
+    floating::put_point(p, positions, k);
+    let next = at + 28;
+    let more = k + 1;
+    let mut y = x;
+    y.at = next;
+    y.positions = more;
+    y
+}
+
+// A texture point, or one of the cases after it.
+fn step_texture(
+    file: &[u8],
+    r: Record,
+    textures: &mut [f64],
+    normals: &mut [f64],
+    corners: &mut [u32],
+    sizes: &mut [u32],
+    x: Progress,
+) -> Progress
+    requires { ⌜ Able (length (now file)) r x × ((1 ≤ caseOf r) × ((length (now textures) ≡ 4096) × ((length (now normals) ≡ 6144) × ((length (now corners) ≡ 12288) × (length (now sizes) ≡ 1365))))) ⌝ }
+    ensures { λ y. ⌜ ((p : List Float) → Stepped (now (file .entry)) r x y p p (now (textures .entry)) (now (textures .exit)) (now (normals .entry)) (now (normals .exit)) (now (corners .entry)) (now (corners .exit)) (now (sizes .entry)) (now (sizes .exit))) ⌝ }
+{
+    let Record::Texture(t) = r else {
+        return step_normal(file, r, normals, corners, sizes, x);
+    };
+    let at = x.at;
+    let k = x.textures;
+    if 2048 <= k {
+        return refused(x, 1);
+    }
+    let b = 2 * k;
+    textures[b] = t.u;
+    textures[b + 1] = t.v;
+    let next = at + 20;
+    let more = k + 1;
+    let mut y = x;
+    y.at = next;
+    y.textures = more;
+    y
+}
+
+// A normal, or one of the cases after it.
+fn step_normal(
+    file: &[u8],
+    r: Record,
+    normals: &mut [f64],
+    corners: &mut [u32],
+    sizes: &mut [u32],
+    x: Progress,
+) -> Progress
+    requires { ⌜ Able (length (now file)) r x × ((2 ≤ caseOf r) × ((length (now normals) ≡ 6144) × ((length (now corners) ≡ 12288) × (length (now sizes) ≡ 1365)))) ⌝ }
+    ensures { λ y. ⌜ ((p t : List Float) → Stepped (now (file .entry)) r x y p p t t (now (normals .entry)) (now (normals .exit)) (now (corners .entry)) (now (corners .exit)) (now (sizes .entry)) (now (sizes .exit))) ⌝ }
+{
+    let Record::Normal(p) = r else {
+        return step_face(file, r, corners, sizes, x);
+    };
+    let at = x.at;
+    let k = x.normals;
+    if 2048 <= k {
+        return refused(x, 1);
+    }
+    floating::put_point(p, normals, k);
+    let next = at + 28;
+    let more = k + 1;
+    let mut y = x;
+    y.at = next;
+    y.normals = more;
+    y
+}
+
+// A face, or one of the cases after it.
+fn step_face(
+    file: &[u8],
+    r: Record,
+    corners: &mut [u32],
+    sizes: &mut [u32],
+    x: Progress,
+) -> Progress
+    requires { ⌜ Able (length (now file)) r x × ((3 ≤ caseOf r) × ((length (now corners) ≡ 12288) × (length (now sizes) ≡ 1365))) ⌝ }
+    ensures { λ y. ⌜ ((p t n : List Float) → Stepped (now (file .entry)) r x y p p t t n n (now (corners .entry)) (now (corners .exit)) (now (sizes .entry)) (now (sizes .exit))) ⌝ }
+{
+    let Record::Face(a, n) = r else {
+        return step_end(r, x, file.len());
+    };
+    let m = n as usize;
+    let c = x.corners;
+    let f = x.faces;
+    let next = a + 12 * m;
+    let more = c + m;
+    let mut y = x;
+    y.at = next;
+    if m < 3 {
+        return y;
+    }
+    if 4096 < more {
+        return refused(x, 1);
+    }
+    put_ring(file, a, m, corners, c);
+    sizes[f] = n;
+    let faces = f + 1;
+    y.corners = more;
+    y.faces = faces;
+    y
+}
+
+// The end record, or a refusal: the reading stops there, with its number.
+fn step_end(r: Record, x: Progress, size: usize) -> Progress
+    requires { ⌜ Able size r x × (4 ≤ caseOf r) ⌝ }
+    ensures { λ y. ⌜ ((file : List ℕ) (p t n : List Float) (c s : List ℕ) → length file ≡ size → Stepped file r x y p p t t n n c c s s) ⌝ }
+{
+    let Record::End = r else {
+        return refused(x, crate::records::number_of(r));
+    };
+    let at = x.at;
+    let next = at + 4;
+    let mut y = x;
+    y.at = next;
+    y.ended = true;
+    y
+}
+
+// The reader, stopped with a number.
+fn refused(x: Progress, number: u32) -> Progress
+    ensures { λ y. ⌜ y ≡ stoppedWith x number ⌝ }
+{
+    let mut y = x;
+    y.number = number;
+    y
+}
+
+// The n corners from place a of the file, behind `at` corners of the list.
+fn put_ring(file: &[u8], a: usize, n: usize, out: &mut [u32], at: usize)
+    requires { ⌜ (a + 12 * n ≤ length (now file)) × (3 * (at + n) ≤ length (now out)) ⌝ }
+    ensures { λ _. ⌜ now (out .exit) ≡ sets (now (out .entry)) (3 * at) (joined (ringFrom (now (file .entry)) n a)) ⌝ }
+{
+    let mut k: usize = 0;
+    while k < n {
+        let from = a + 12 * k;
+        let to = 3 * (at + k);
+        out[to] = crate::bytes::word(file, from);
+        out[to + 1] = crate::bytes::word(file, from + 4);
+        out[to + 2] = crate::bytes::word(file, from + 8);
+        k += 1;
+    }
+}

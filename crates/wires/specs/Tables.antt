@@ -1,0 +1,77 @@
+-- The two tables that stand for what is left of the hem edges. In them a hem edge is its number, its place in the two lists of starts
+-- and ends; a number that no hem edge has says 'none'. Assumes nothing.
+use mathlib.Core.Path.{_≡_}
+use mathlib.Core.List.{List, [], _∷_}
+use Prim.Native.Nat.{ℕ, suc, _≤_, _<_}
+use lib.Dec.{leb}
+use lib.ListN.{length, getD, set, replicate}
+use lib.Seq.{sets}
+use Rattle.lists.specs.Lists.{keepIf}
+use Rattle.edges.specs.Edges.{Edge}
+use Rattle.wires.specs.Hems.{pairs, EdgeLists}
+
+-- The first table has for each position the number of the first edge that is left there. So what is left of edges that are numbered
+-- from k on are those whose number is not below the first at their start.
+abbrev pub leftFrom : List ℕ → ℕ → List Edge → List Edge
+leftFrom firsts k [] = []
+leftFrom firsts k (e ∷ h) = keepIf (leb (getD firsts (e .0) 0) k) e (leftFrom firsts (suc k) h)
+
+unfoldable pub left : List ℕ → List ℕ → List ℕ → List Edge
+left starts ends firsts = leftFrom firsts 0 (pairs starts ends)
+
+-- The second table has for each edge the next with the same start: x is the number of the next after k.
+pub record Next (starts : List ℕ) (k x : ℕ) : Type 0 where
+  pub later : k < x
+  pub there : x < length starts → getD starts x 0 ≡ getD starts k 0
+  pub least : (j : ℕ) → k < j → j < length starts → getD starts j 0 ≡ getD starts k 0 → x ≤ j
+
+-- the tables fit the edges: what is first at a position starts there, and each edge that is left has its next
+pub record Linked (starts nexts firsts : List ℕ) : Type 0 where
+  pub room : length starts ≤ length nexts
+  pub first : (s : ℕ) → s < length firsts → getD firsts s 0 < length starts → getD starts (getD firsts s 0) 0 ≡ s
+  pub next : (k : ℕ) → k < length starts → getD firsts (getD starts k 0) 0 ≤ k → Next starts k (getD nexts k 0)
+
+-- the hem edges and their tables, over at most 2,048 positions
+pub record Stands (starts ends nexts firsts : List ℕ) : Type 0 where
+  pub low : length firsts ≤ 2048
+  pub edges : EdgeLists starts ends (length firsts)
+  pub linked : Linked starts nexts firsts
+
+-- Ported wires: the edges, numbered from k on, come into the first table one after the other; a later one replaces an earlier with
+-- the same start.
+abbrev pub numbered : ℕ → List ℕ → List ℕ → List ℕ
+numbered k firsts [] = firsts
+numbered k firsts (s ∷ ss) = numbered (suc k) (set firsts s k) ss
+
+-- House wires: the edges come into the first table from the last to the first, and each finds there its next.
+abbrev pub chained : ℕ → List ℕ → List ℕ → List ℕ
+chained k firsts [] = firsts
+chained k firsts (s ∷ ss) = set (chained (suc k) firsts ss) s k
+
+abbrev pub nextsFrom : ℕ → List ℕ → List ℕ → List ℕ
+nextsFrom k firsts [] = []
+nextsFrom k firsts (s ∷ ss) = getD (chained (suc k) firsts ss) s 0 ∷ nextsFrom (suc k) firsts ss
+
+-- what both are given, and what the second gives
+pub record Startable (starts firsts : List ℕ) : Type 0 where
+  pub few : length starts ≤ 4096
+  pub from : (k : ℕ) → k < length starts → getD starts k 0 < length firsts
+
+pub record Linkable (starts nexts firsts : List ℕ) : Type 0 where
+  pub startable : Startable starts firsts
+  pub room : length starts ≤ length nexts
+
+pub record LinkedAll (starts nexts firsts nexts′ firsts′ : List ℕ) : Type 0 where
+  pub firsts-is : firsts′ ≡ chained 0 firsts starts
+  pub nexts-is : nexts′ ≡ sets nexts 0 (nextsFrom 0 firsts starts)
+
+-- the tables before any edge is in them
+abbrev pub nobody : ℕ
+nobody = 4294967295
+
+unfoldable pub blank : ℕ → List ℕ
+blank n = replicate n nobody
+
+pub record BothBlank (nexts firsts : List ℕ) : Type 0 where
+  pub nexts-is : nexts ≡ blank 4096
+  pub firsts-is : firsts ≡ blank 2048

@@ -1,0 +1,133 @@
+//! Panel files: made from random meshes, with records in any order, and then cut, lengthened and changed.
+
+use crate::meshes;
+use crate::random::Random;
+use judge::{Mesh, MISSING};
+
+/// A random file.
+pub fn random(random: &Random) -> Vec<u8> {
+    if random.once_in(40) {
+        return (0..random.below(80)).map(|_| random.bits() as u8).collect();
+    }
+    let mesh = meshes::random(random).mesh;
+    let mut records = records(random, &mesh);
+    if random.once_in(12) {
+        over_a_limit(random, &mut records);
+    }
+    if random.once_in(2) {
+        random.shuffle(&mut records);
+    }
+    let mut file = records.concat();
+    file.extend(record(0, &[]));
+    if random.once_in(2) {
+        (0..random.within(1, 3)).for_each(|_| damage(random, &mut file));
+    }
+    if random.once_in(60) {
+        pad(random, &mut file);
+    }
+    file
+}
+
+fn record(kind: u16, body: &[u8]) -> Vec<u8> {
+    [&(body.len() as u16).to_le_bytes(), &kind.to_le_bytes(), body].concat()
+}
+
+/// The records of a mesh, with some faces of 0, 1 or 2 corners among them.
+fn records(random: &Random, mesh: &Mesh) -> Vec<Vec<u8>> {
+    let attribute = |kind: u16, numbers: &[f64]| record(kind, &numbers.iter().flat_map(|x| x.to_le_bytes()).collect::<Vec<u8>>());
+    let mut records: Vec<Vec<u8>> = vec![];
+    records.extend(mesh.positions.chunks_exact(3).map(|p| attribute(1, p)));
+    records.extend(mesh.textures.chunks_exact(2).map(|p| attribute(2, p)));
+    records.extend(mesh.normals.chunks_exact(3).map(|p| attribute(3, p)));
+    let corners: Vec<&[u32]> = mesh.corners.chunks_exact(3).collect();
+    let mut from = 0;
+    for size in &mesh.sizes {
+        let to = from + (*size as usize).min(corners.len() - from).min(255);
+        records.push(face(&corners[from..to].concat()));
+        from = to;
+        if random.once_in(8) {
+            let few = random.below(3);
+            records.push(face(&[random.pick(&[0, 1, MISSING, 2_048]); 6][..3 * few]));
+        }
+    }
+    if random.once_in(16) {
+        records.push(face(&vec![0; 3 * random.pick(&[31, 32, 33, 34, 255])]));
+    }
+    records
+}
+
+fn face(corners: &[u32]) -> Vec<u8> {
+    let numbers = corners.iter().flat_map(|number| number.to_le_bytes());
+    record(4, &std::iter::once((corners.len() / 3) as u8).chain(numbers).collect::<Vec<u8>>())
+}
+
+/// One list comes to its limit or one entry over it.
+fn over_a_limit(random: &Random, records: &mut Vec<Vec<u8>>) {
+    let kind = random.within(1, 4) as u16;
+    let there = records.iter().filter(|record| record[2] == kind as u8).count();
+    if kind == 4 {
+        let size = random.pick(&[3, 4, 16, 32]);
+        let faces = 4_096 / size + random.below(2);
+        *records = vec![face(&vec![0; 3 * size]); faces];
+        records.push(record(1, &[0; 24]));
+    } else {
+        let wanted = 2_048 + random.below(2);
+        let body = vec![0; if kind == 2 { 16 } else { 24 }];
+        records.extend(vec![record(kind, &body); wanted.saturating_sub(there)]);
+    }
+}
+
+/// Cuts the file, adds bytes, changes a byte or a header.
+fn damage(random: &Random, file: &mut Vec<u8>) {
+    let at = random.below(file.len());
+    match random.below(8) {
+        0 => file.truncate(at),
+        1 => {
+            let short = random.within(1, 5);
+            file.truncate(file.len().saturating_sub(short));
+        }
+        2 => file.extend(vec![random.pick(&[0, 1, 255]); random.within(1, 5)]),
+        3 if !file.is_empty() => {
+            file.remove(at);
+        }
+        4 => file.insert(at, random.bits() as u8),
+        5 => change_a_header(random, file),
+        _ if !file.is_empty() => file[at] = random.pick(&[0, 1, 2, 3, 4, 5, 24, 33, 255]),
+        _ => {}
+    }
+}
+
+/// Finds a record by its place in the file and changes its length, its kind, or a face's count.
+fn change_a_header(random: &Random, file: &mut [u8]) {
+    let (mut at, steps) = (0, random.below(12));
+    for _ in 0..steps {
+        let length = if at + 4 <= file.len() { u16::from_le_bytes([file[at], file[at + 1]]) as usize } else { 0 };
+        if at + 8 + length > file.len() {
+            break;
+        }
+        at += 4 + length;
+    }
+    let place = at + random.below(5);
+    if place < file.len() {
+        file[place] =
+            random.pick(&[0, 1, 2, 3, 4, 5, 16, 24, 25, 33, 37, file[place].wrapping_add(12), file[place].wrapping_sub(12)]);
+    }
+}
+
+/// Makes the file 65,535 to 65,538 bytes long, in front of its end, as far as its records allow.
+fn pad(random: &Random, file: &mut Vec<u8>) {
+    let length = 65_535 + random.below(4);
+    if file.len() + 10 > length {
+        return;
+    }
+    // Faces of no corners are five bytes, of one corner seventeen; the rest are bytes at the end.
+    let mut front = vec![];
+    while front.len() + file.len() + 17 <= length && random.below(400) != 0 {
+        front.extend(face(&[0; 3]));
+    }
+    while front.len() + file.len() + 5 <= length {
+        front.extend(face(&[]));
+    }
+    front.append(file);
+    *file = front;
+}

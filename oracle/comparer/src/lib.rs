@@ -1,0 +1,41 @@
+//! The comparer: the product's C interface against the judge, mesh by mesh.
+//!
+//! `library` asks the product, with lent lists that are filled with a pattern (`lent`); `check` holds what came back to the judge's
+//! answer. `meshes`, `shapes`, `coordinates`, `damage` and `files` make what is asked. A difference is made small by `shrink` and
+//! printed by `show`. `slips`, `wrong` and `wrong_merging` show that the comparer can fail.
+
+mod check;
+mod coordinates;
+mod damage;
+mod files;
+mod lent;
+mod library;
+mod meshes;
+mod options;
+mod random;
+mod run;
+mod shapes;
+mod show;
+mod shrink;
+mod slips;
+mod tally;
+#[cfg(test)]
+mod tests;
+mod wrong;
+mod wrong_merging;
+
+pub use library::{Library, Watch};
+pub use run::run;
+
+use std::ffi::CStr;
+use std::os::raw::{c_char, c_int};
+
+/// The whole program, for a C `main` that knows where the product's functions are.
+///
+/// # Safety
+/// `argv` holds `argc` strings.
+#[no_mangle]
+pub unsafe extern "C" fn compare(library: Library, watch: Watch, argc: c_int, argv: *const *const c_char) -> c_int {
+    let words = (1..argc as usize).map(|i| CStr::from_ptr(*argv.add(i)).to_string_lossy().into_owned());
+    run(Some(&library), watch, words.collect())
+}

@@ -1,0 +1,263 @@
+//! What is asked: the product by its C interface, as its header has it (a slice passes as pointer and length), or, in its place,
+//! document 01's reading.
+
+use crate::lent::Lent;
+use judge::{reading, Answer, Call, Count, Mesh, Question};
+use std::os::raw::c_char;
+
+/// Told before each call which call it is and on which mesh, so that a crash can be named.
+pub type Watch = Option<extern "C" fn(*const c_char, u64)>;
+
+macro_rules! on_mesh {
+    ($($more: ty),* => $answer: ty) => {
+        Option<unsafe extern "C" fn(
+            *const f64, usize, *const f64, usize, *const f64, usize, *const u32, usize, *const u32, usize $(, $more)*
+        ) -> $answer>
+    };
+}
+
+/// Where each function of the product is; none where the library does not have it yet.
+#[repr(C)]
+#[derive(Clone, Copy)]
+pub struct Library {
+    pub mesh_number: on_mesh!(=> u32),
+    pub face: on_mesh!(usize, *mut u64, *mut u64 => ()),
+    pub remove_unused_attrs: on_mesh!(
+        *mut u32, usize, *mut f64, usize, *mut f64, usize, *mut f64, usize, *mut u64, *mut u64, *mut u64 => u32),
+    pub remove_degenerate_faces: on_mesh!(*mut u32, usize, *mut u32, usize, *mut u64, *mut u64 => u32),
+    pub put_together_same_attrs: on_mesh!(f64, *mut u32, usize, *mut u64, *mut u64, *mut u64 => u32),
+    pub shell_condition: on_mesh!(*mut u32 => u32),
+    pub hem_edges: on_mesh!(*mut u32, usize, *mut u32, usize, *mut u64 => u32),
+    pub extract_boundaries: on_mesh!(*mut u32, usize, *mut u32, usize, *mut u64, *mut u64 => u32),
+    pub house_wires: on_mesh!(*mut u32, usize, *mut u32, usize, *mut u64, *mut u64 => u32),
+    pub components: on_mesh!(bool, *mut u32, usize, *mut u32, usize, *mut u64, *mut u64 => u32),
+    pub read_panel: Option<
+        unsafe extern "C" fn(
+            *const u8,
+            usize,
+            *mut f64,
+            usize,
+            *mut f64,
+            usize,
+            *mut f64,
+            usize,
+            *mut u32,
+            usize,
+            *mut u32,
+            usize,
+            *mut u64,
+            *mut u64,
+            *mut u64,
+            *mut u64,
+            *mut u64,
+        ) -> u32,
+    >,
+    pub sheet: Option<unsafe extern "C" fn(*const u8, usize, *mut u8, usize, *mut u64) -> u32>,
+}
+
+/// What came back from the product.
+pub struct Asked {
+    pub number: u32,
+    pub lists: Vec<Lent>,
+    /// Each filled with `UNTOUCHED` before the call.
+    pub counts: Vec<u64>,
+    /// Whether the lists that were only to be read are as they were.
+    pub input_kept: bool,
+}
+
+/// What stands in a count before the call. (A verdict is 32 bits of it.)
+pub const UNTOUCHED: u64 = 0x5a5a_5a5a_5a5a_5a5a;
+const UNTOUCHED_VERDICT: u32 = 0x5a5a_5a5a;
+
+impl Asked {
+    /// The lists and counts of a question before it is asked.
+    fn before(call: Call, question: &Question) -> Asked {
+        let shape = Answer::refused(call, 0);
+        Asked {
+            number: 0,
+            lists: shape.lists.iter().zip(&question.rooms).map(|(list, room)| Lent::like(list, *room)).collect(),
+            counts: vec![UNTOUCHED; shape.counts.len()],
+            input_kept: true,
+        }
+    }
+
+    /// What a product would give back that answers so.
+    pub fn answering(call: Call, question: &Question, answer: &Answer) -> Asked {
+        let mut asked = Asked::before(call, question);
+        asked.number = answer.number;
+        asked.lists.iter_mut().zip(&answer.lists).for_each(|(list, numbers)| list.overwrite(numbers));
+        for (place, count) in asked.counts.iter_mut().zip(&answer.counts) {
+            if let Count::Is(count) = count {
+                *place = *count;
+            }
+        }
+        asked
+    }
+}
+
+/// Something that answers the calls.
+pub trait Product {
+    /// Whether it has this call.
+    fn has(&self, call: Call) -> bool;
+    /// Asks a call that is there.
+    fn ask(&self, call: Call, question: &Question) -> Asked;
+}
+
+/// Document 01's reading in the product's place.
+pub struct Reading;
+
+impl Product for Reading {
+    fn has(&self, _: Call) -> bool {
+        true
+    }
+
+    fn ask(&self, call: Call, question: &Question) -> Asked {
+        Asked::answering(call, question, &reading::answer(call, question))
+    }
+}
+
+impl Product for Library {
+    fn has(&self, call: Call) -> bool {
+        match call {
+            Call::MeshNumber => self.mesh_number.is_some(),
+            Call::Face => self.face.is_some(),
+            Call::RemoveUnusedAttrs => self.remove_unused_attrs.is_some(),
+            Call::RemoveDegenerateFaces => self.remove_degenerate_faces.is_some(),
+            Call::PutTogetherSameAttrs => self.put_together_same_attrs.is_some(),
+            Call::ShellCondition => self.shell_condition.is_some(),
+            Call::HemEdges => self.hem_edges.is_some(),
+            Call::ExtractBoundaries => self.extract_boundaries.is_some(),
+            Call::HouseWires => self.house_wires.is_some(),
+            Call::Components => self.components.is_some(),
+            Call::ReadPanel => self.read_panel.is_some(),
+            Call::Sheet => self.sheet.is_some(),
+        }
+    }
+
+    fn ask(&self, call: Call, question: &Question) -> Asked {
+        let (mesh, file) = (question.mesh.clone(), question.file.clone());
+        let mut asked = Asked::before(call, question);
+        // Safety: the pointers and lengths are those of live lists, and each count has its place.
+        unsafe {
+            if call.reads_a_file() {
+                self.ask_of_file(call, &file, &mut asked);
+            } else {
+                self.ask_of_mesh(call, question, &mesh, &mut asked);
+            }
+        }
+        asked.input_kept = is_same(&mesh, &question.mesh) && file == question.file;
+        asked
+    }
+}
+
+impl Library {
+    unsafe fn ask_of_mesh(&self, call: Call, question: &Question, mesh: &Mesh, asked: &mut Asked) {
+        macro_rules! on {
+            ($name: ident $(, $more: expr)*) => {
+                self.$name.unwrap()(
+                    mesh.positions.as_ptr(), mesh.positions.len(),
+                    mesh.textures.as_ptr(), mesh.textures.len(),
+                    mesh.normals.as_ptr(), mesh.normals.len(),
+                    mesh.corners.as_ptr(), mesh.corners.len(),
+                    mesh.sizes.as_ptr(), mesh.sizes.len()
+                    $(, $more)*
+                )
+            };
+        }
+        let counts = asked.counts.as_mut_ptr();
+        macro_rules! rows {
+            ($name: ident $(, $more: expr)*) => {{
+                let (flat, flat_room) = asked.lists[0].words();
+                let (lengths, lengths_room) = asked.lists[1].words();
+                asked.number = on!($name $(, $more)*, flat, flat_room, lengths, lengths_room, counts, counts.add(1));
+            }};
+        }
+        match call {
+            Call::MeshNumber => asked.number = on!(mesh_number),
+            Call::Face => on!(face, question.face, counts, counts.add(1)),
+            Call::RemoveUnusedAttrs => {
+                let (corners, corners_room) = asked.lists[0].words();
+                let (positions, positions_room) = asked.lists[1].floats();
+                let (textures, textures_room) = asked.lists[2].floats();
+                let (normals, normals_room) = asked.lists[3].floats();
+                asked.number = on!(
+                    remove_unused_attrs,
+                    corners,
+                    corners_room,
+                    positions,
+                    positions_room,
+                    textures,
+                    textures_room,
+                    normals,
+                    normals_room,
+                    counts,
+                    counts.add(1),
+                    counts.add(2)
+                );
+            }
+            Call::RemoveDegenerateFaces => rows!(remove_degenerate_faces),
+            Call::PutTogetherSameAttrs => {
+                let (corners, room) = asked.lists[0].words();
+                let tolerance = question.tolerance;
+                asked.number = on!(put_together_same_attrs, tolerance, corners, room, counts, counts.add(1), counts.add(2));
+            }
+            Call::ShellCondition => {
+                let mut verdict = UNTOUCHED_VERDICT;
+                asked.number = on!(shell_condition, &mut verdict);
+                asked.counts[0] = if verdict == UNTOUCHED_VERDICT { UNTOUCHED } else { verdict as u64 };
+            }
+            Call::HemEdges => {
+                let (starts, starts_room) = asked.lists[0].words();
+                let (ends, ends_room) = asked.lists[1].words();
+                asked.number = on!(hem_edges, starts, starts_room, ends, ends_room, counts);
+            }
+            Call::ExtractBoundaries => rows!(extract_boundaries),
+            Call::HouseWires => rows!(house_wires),
+            Call::Components => rows!(components, question.use_normal),
+            Call::ReadPanel | Call::Sheet => unreachable!(),
+        }
+    }
+
+    unsafe fn ask_of_file(&self, call: Call, file: &[u8], asked: &mut Asked) {
+        let counts = asked.counts.as_mut_ptr();
+        if call == Call::Sheet {
+            let (text, room) = asked.lists[0].bytes();
+            asked.number = self.sheet.unwrap()(file.as_ptr(), file.len(), text, room, counts);
+            return;
+        }
+        let (positions, positions_room) = asked.lists[0].floats();
+        let (textures, textures_room) = asked.lists[1].floats();
+        let (normals, normals_room) = asked.lists[2].floats();
+        let (corners, corners_room) = asked.lists[3].words();
+        let (sizes, sizes_room) = asked.lists[4].words();
+        asked.number = self.read_panel.unwrap()(
+            file.as_ptr(),
+            file.len(),
+            positions,
+            positions_room,
+            textures,
+            textures_room,
+            normals,
+            normals_room,
+            corners,
+            corners_room,
+            sizes,
+            sizes_room,
+            counts,
+            counts.add(1),
+            counts.add(2),
+            counts.add(3),
+            counts.add(4),
+        );
+    }
+}
+
+/// Equal bit for bit.
+fn is_same(a: &Mesh, b: &Mesh) -> bool {
+    let bits = |list: &[f64], other: &[f64]| list.iter().map(|x| x.to_bits()).eq(other.iter().map(|x| x.to_bits()));
+    bits(&a.positions, &b.positions)
+        && bits(&a.textures, &b.textures)
+        && bits(&a.normals, &b.normals)
+        && a.corners == b.corners
+        && a.sizes == b.sizes
+}

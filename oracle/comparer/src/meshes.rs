@@ -1,0 +1,135 @@
+//! Meshes: every small one, and random ones of every size up to the limits.
+
+use crate::random::Random;
+use crate::{coordinates, damage, shapes};
+use judge::mesh::Corner;
+use judge::{Mesh, MISSING};
+
+/// A mesh and the tolerance that its coordinates were made for.
+#[derive(Default)]
+pub struct Case {
+    pub mesh: Mesh,
+    pub tolerance: f64,
+}
+
+/// The shapes that are gone through one by one: how many corners a face has, how many positions there are, how many faces.
+const EXHAUSTIVE: [(usize, usize, usize); 7] = [(3, 4, 0), (3, 4, 1), (3, 4, 2), (3, 4, 3), (4, 4, 1), (5, 5, 1), (6, 6, 1)];
+
+fn variants((corners, positions, faces): (usize, usize, usize)) -> u64 {
+    (positions as u64).pow((corners * faces) as u32)
+}
+
+/// How many meshes `exhaustive` has.
+pub fn exhaustive_count() -> u64 {
+    EXHAUSTIVE.iter().map(|shape| variants(*shape)).sum()
+}
+
+/// Up to three triangles over four positions, and single faces of 4 to 6 corners over that many positions: the one with this index. A
+/// corner's texture point is its place in its face; its normal goes by the seed.
+pub fn exhaustive(index: u64, random: &Random) -> Case {
+    let (mut shape, mut left) = (EXHAUSTIVE[0], index);
+    for next in EXHAUSTIVE {
+        shape = next;
+        if left < variants(shape) {
+            break;
+        }
+        left -= variants(shape);
+    }
+    let (corners, positions, faces) = shape;
+    let mut corner = |place: usize| -> Corner {
+        let position = (left % positions as u64) as u32;
+        left /= positions as u64;
+        [position, place as u32, random.pick(&[0, 1, 2, MISSING])]
+    };
+    let faces: Vec<Vec<Corner>> = (0..faces).map(|_| (0..corners).map(&mut corner).collect()).collect();
+    let mesh = Mesh {
+        positions: coordinates::list(random, positions, 3, 0.25),
+        textures: coordinates::list(random, 6, 2, 0.5),
+        normals: coordinates::list(random, 3, 3, 0.5),
+        ..Mesh::default()
+    };
+    Case { mesh: mesh.with_faces(&faces), tolerance: 0.5 }
+}
+
+/// A random mesh: most are small, few are at the limits, some are damaged.
+pub fn random(random: &Random) -> Case {
+    let tolerance = coordinates::tolerance(random);
+    let corners = corners(random);
+    let (faces, positions) = shapes::faces(random, corners);
+    let mut mesh = Mesh {
+        positions: coordinates::list(random, with_unused(random, positions), 3, tolerance * random_half(random)),
+        ..Mesh::default()
+    };
+    let (textures, texture_column) = column(random, &faces);
+    let (normals, normal_column) = column(random, &faces);
+    mesh.textures = coordinates::list(random, textures, 2, tolerance);
+    mesh.normals = coordinates::list(random, normals, 3, tolerance);
+    let mut corner = 0;
+    let mut faces: Vec<Vec<Corner>> = faces
+        .iter()
+        .map(|face| {
+            face.iter()
+                .map(|position| {
+                    corner += 1;
+                    [*position, texture_column[corner - 1], normal_column[corner - 1]]
+                })
+                .collect()
+        })
+        .collect();
+    faces.sort_by_key(|face| face.len().min(5));
+    let mut mesh = mesh.with_faces(&faces);
+    if random.once_in(4) {
+        damage::mesh(random, &mut mesh);
+    }
+    Case { mesh, tolerance }
+}
+
+/// How many corners to aim at.
+fn corners(random: &Random) -> usize {
+    match random.below(1_000) {
+        0..=799 => random.within(0, 24),
+        800..=969 => random.within(18, 100),
+        970..=995 => random.within(80, 600),
+        996..=998 => random.within(600, 4_096),
+        _ => random.pick(&[4_095, 4_096]),
+    }
+}
+
+/// Positions are scaled to twice their size where their box is small.
+fn random_half(random: &Random) -> f64 {
+    random.pick(&[0.5, 0.5, 0.5, 1.0])
+}
+
+/// So many entries, or some more that no corner uses.
+fn with_unused(random: &Random, used: usize) -> usize {
+    let more = match random.below(6) {
+        0 => random.below(4),
+        1 => random.below(20),
+        2 if random.once_in(50) => 2_048,
+        _ => 0,
+    };
+    (used + more).min(2_048)
+}
+
+/// The indices of one column, for every corner, and how many entries its list has.
+fn column(random: &Random, faces: &[Vec<u32>]) -> (usize, Vec<u32>) {
+    let corners: usize = faces.iter().map(|face| face.len()).sum();
+    let (style, few) = (random.below(6), random.within(1, 4));
+    let missing = random.pick(&[2, 5, 20, usize::MAX]);
+    let entries = match style {
+        0 => 0,
+        1 => few,
+        2 => random.within(1, corners.clamp(1, 2_048)),
+        _ => corners.clamp(1, 2_048),
+    };
+    let flat = faces.iter().flatten();
+    let indices = flat.enumerate().map(|(corner, position)| match style {
+        0 => MISSING,
+        _ if random.once_in(missing) => MISSING,
+        3 => (corner % entries) as u32,
+        4 => (*position as usize % entries) as u32,
+        _ => random.below(entries) as u32,
+    });
+    let indices = indices.collect();
+    (with_unused(random, entries), indices)
+}

@@ -1,0 +1,153 @@
+//! The runs: meshes, files, and the test of the comparer itself.
+
+use crate::check::compare;
+use crate::library::{Library, Product, Reading, Watch};
+use crate::meshes::{self, Case};
+use crate::options::{Options, USAGE};
+use crate::random::Random;
+use crate::tally::{grouped, Tally};
+use crate::{damage, files, show, shrink, slips};
+use judge::reading::numbers::stated_rooms;
+use judge::{Call, Question};
+use std::ffi::CString;
+
+/// Runs as the words say. Without a library document 01's reading stands in its place. 0: no difference; 1: a difference, or a slip
+/// that was not found; 2: bad words.
+pub fn run(library: Option<&Library>, watch: Watch, words: Vec<String>) -> i32 {
+    let options = match Options::read(words) {
+        Ok(options) => options,
+        Err(why) => {
+            eprint!("compare: {why}\n{USAGE}");
+            return 2;
+        }
+    };
+    let product: &dyn Product = match library {
+        Some(library) if !options.reading => library,
+        _ => &Reading,
+    };
+    println!("seed {}", options.seed);
+    let calls = calls(product, &options);
+    if calls.is_empty() {
+        eprintln!("compare: the library has no such call");
+        return 2;
+    }
+    if options.self_test {
+        return slips::run(product, &calls, options.seed);
+    }
+    let mut tally = Tally::new();
+    for index in indices(&options) {
+        tell_progress(index, &indices(&options));
+        if let Err(report) = one(product, watch, &calls, &options, index, &mut tally) {
+            println!("{report}");
+            return 1;
+        }
+    }
+    let what = if options.files { "files" } else { "meshes" };
+    tally.print();
+    println!("{} {what}, {} questions, no difference", grouped(indices(&options).count() as u64), grouped(tally.questions()));
+    0
+}
+
+/// The calls that are compared; what the library lacks is named.
+fn calls(product: &dyn Product, options: &Options) -> Vec<Call> {
+    let wanted = |call: &Call| options.self_test || call.reads_a_file() == options.files;
+    let chosen = |call: &Call| options.only.map_or(wanted(call), |only| only == *call);
+    let (there, absent): (Vec<Call>, Vec<Call>) = Call::ALL.into_iter().filter(chosen).partition(|call| product.has(*call));
+    if !absent.is_empty() {
+        let names: Vec<&str> = absent.iter().map(|call| call.name()).collect();
+        println!("not in the library, and not compared: {}", names.join(", "));
+    }
+    there
+}
+
+/// The indices of the meshes or files of a run. The meshes that are gone through one by one come first.
+fn indices(options: &Options) -> std::ops::Range<u64> {
+    let small = if options.files { 0 } else { meshes::exhaustive_count() };
+    let from = if options.random_only { small } else { 0 };
+    options.at.map_or(from..small + options.count, |at| at..at + 1)
+}
+
+/// Says on standard error how far a long run is.
+fn tell_progress(index: u64, all: &std::ops::Range<u64>) {
+    let (done, tenth) = (index - all.start, (all.end - all.start) / 10);
+    if tenth >= 1_000 && done % tenth == 0 && (1..10).contains(&(done / tenth)) {
+        eprintln!("{}0% compared", done / tenth);
+    }
+}
+
+/// Puts one mesh or one file to all calls.
+fn one(
+    product: &dyn Product,
+    watch: Watch,
+    calls: &[Call],
+    options: &Options,
+    index: u64,
+    tally: &mut Tally,
+) -> Result<(), String> {
+    let random = Random::of(options.seed, index);
+    let mut subject = Subject::of(&random, options.files, index);
+    for call in calls {
+        if let Some(question) = subject.question(&random, *call) {
+            tell(watch, *call, index);
+            let compared = compare(product, *call, question, None);
+            tally.add(*call, question, &compared);
+            if let Some(difference) = compared.difference {
+                return Err(report(product, *call, question, index, &difference));
+            }
+        }
+    }
+    Ok(())
+}
+
+/// What is asked about: a mesh, or a file.
+pub struct Subject {
+    question: Question,
+    is_small: bool,
+}
+
+impl Subject {
+    /// The mesh, or the file, with this index.
+    pub fn of(random: &Random, is_file: bool, index: u64) -> Subject {
+        if is_file {
+            return Subject { question: Question { file: files::random(random), ..Question::default() }, is_small: false };
+        }
+        let is_small = index < meshes::exhaustive_count();
+        let Case { mesh, tolerance } = if is_small { meshes::exhaustive(index, random) } else { meshes::random(random) };
+        Subject { question: Question { mesh, tolerance, ..Question::default() }, is_small }
+    }
+
+    /// The question that a call is asked. Merging takes long where there are many points, so it is not asked every time.
+    pub fn question(&mut self, random: &Random, call: Call) -> Option<&Question> {
+        let mesh = &self.question.mesh;
+        if call == Call::PutTogetherSameAttrs {
+            let points = mesh.positions.len() / 3 + mesh.textures.len() / 2 + mesh.normals.len() / 3;
+            if random.below(if self.is_small { 32 } else { 1 + points / 200 }) != 0 {
+                return None;
+            }
+        }
+        let (stated, faces) = (stated_rooms(call, mesh), mesh.sizes.len());
+        self.question.face =
+            if random.once_in(8) { random.pick(&[faces, faces + 1, usize::MAX, 1 << 32]) } else { random.below(faces) };
+        self.question.use_normal = random.once_in(2);
+        self.question.rooms = if self.is_small { stated } else { damage::rooms(random, stated) };
+        Some(&self.question)
+    }
+}
+
+fn tell(watch: Watch, call: Call, index: u64) {
+    if let Some(watch) = watch {
+        let name = CString::new(call.name()).unwrap();
+        watch(name.as_ptr(), index);
+    }
+}
+
+/// A difference in words, with the smallest question that shows it.
+fn report(product: &dyn Product, call: Call, question: &Question, index: u64, difference: &str) -> String {
+    let smallest = shrink::shrink(call, question, &|candidate| compare(product, call, candidate, None).difference.is_some());
+    let why = compare(product, call, &smallest, None).difference.unwrap_or_default();
+    format!(
+        "DIFFERENCE in {}, found at index {index}: {difference}\nthe smallest that shows one: {why}\n{}",
+        call.name(),
+        show::question(call, &smallest)
+    )
+}

@@ -1,0 +1,120 @@
+//! What was compared, in numbers.
+
+use crate::check::Compared;
+use judge::{Call, Count, Numbers, Question};
+
+/// The numbers of the table.
+const NUMBERS: usize = 14;
+
+/// What one call was asked.
+#[derive(Clone, Default)]
+struct Asked {
+    by_number: [u64; NUMBERS],
+    /// Questions that the Rust was asked too.
+    with_rust: u64,
+    /// Questions whose answer shows something: see `shows`.
+    telling: u64,
+    /// The most corners and the most points of a mesh that the Rust was asked about.
+    corners: usize,
+    points: usize,
+}
+
+pub struct Tally {
+    calls: Vec<Asked>,
+    verdicts: [u64; 4],
+}
+
+impl Tally {
+    pub fn new() -> Tally {
+        Tally { calls: vec![Asked::default(); Call::ALL.len()], verdicts: [0; 4] }
+    }
+
+    pub fn add(&mut self, call: Call, question: &Question, compared: &Compared) {
+        let asked = &mut self.calls[call as usize];
+        let mesh = &question.mesh;
+        asked.by_number[compared.right.number as usize] += 1;
+        asked.with_rust += compared.with_rust as u64;
+        if compared.with_rust {
+            asked.corners = asked.corners.max(mesh.corner_count());
+            asked.points = asked.points.max(mesh.positions.len() / 3 + mesh.textures.len() / 2 + mesh.normals.len() / 3);
+        }
+        if compared.right.number != 0 {
+            return;
+        }
+        asked.telling += is_telling(call, question, compared) as u64;
+        if call == Call::ShellCondition {
+            self.verdicts[count(compared, 0) as usize] += 1;
+        }
+    }
+
+    pub fn questions(&self) -> u64 {
+        self.calls.iter().map(|asked| asked.by_number.iter().sum::<u64>()).sum()
+    }
+
+    pub fn print(&self) {
+        println!("questions, by the number answered:");
+        for (call, asked) in Call::ALL.iter().zip(&self.calls).filter(|(_, asked)| asked.by_number.iter().sum::<u64>() > 0) {
+            let answered: Vec<String> = (0..NUMBERS)
+                .filter(|n| asked.by_number[*n] > 0)
+                .map(|n| format!("{n}: {}", grouped(asked.by_number[n])))
+                .collect();
+            println!("  {:<24}{}", call.name(), answered.join("  "));
+            if asked.with_rust > 0 {
+                let (corners, points) = (grouped(asked.corners as u64), grouped(asked.points as u64));
+                println!(
+                    "  {:<26}the Rust asked too: {}; up to {corners} corners and {points} points",
+                    "",
+                    grouped(asked.with_rust)
+                );
+            }
+            if let Some(what) = shows(*call) {
+                println!("  {:<26}{what}: {}", "", grouped(asked.telling));
+            }
+            if *call == Call::ShellCondition {
+                let [irregular, regular, oriented, closed] = self.verdicts.map(grouped);
+                println!("  {:<26}Irregular {irregular}, Regular {regular}, Oriented {oriented}, Closed {closed}", "");
+            }
+        }
+    }
+}
+
+fn count(compared: &Compared, i: usize) -> u64 {
+    match compared.right.counts[i] {
+        Count::Is(count) => count,
+        Count::Untouched => 0,
+    }
+}
+
+/// What an answer may show, in words.
+fn shows(call: Call) -> Option<&'static str> {
+    match call {
+        Call::RemoveUnusedAttrs => Some("renumbered"),
+        Call::RemoveDegenerateFaces => Some("removed or split"),
+        Call::PutTogetherSameAttrs => Some("merged"),
+        Call::ExtractBoundaries | Call::HouseWires => Some("several wires"),
+        Call::Components => Some("several panels"),
+        _ => None,
+    }
+}
+
+fn is_telling(call: Call, question: &Question, compared: &Compared) -> bool {
+    match call {
+        Call::RemoveUnusedAttrs | Call::RemoveDegenerateFaces | Call::PutTogetherSameAttrs => {
+            matches!(&compared.right.lists[0], Numbers::Words(corners) if *corners != question.mesh.corners)
+        }
+        Call::ExtractBoundaries | Call::HouseWires | Call::Components => count(compared, 1) > 1,
+        _ => false,
+    }
+}
+
+/// A number with a comma after every three digits.
+pub fn grouped(number: u64) -> String {
+    let digits = number.to_string();
+    let first = digits.len() % 3;
+    let mut groups: Vec<&str> = vec![];
+    if first > 0 {
+        groups.push(&digits[..first]);
+    }
+    groups.extend((first..digits.len()).step_by(3).map(|at| &digits[at..at + 3]));
+    groups.join(",")
+}

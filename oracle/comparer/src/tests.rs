@@ -1,0 +1,129 @@
+//! Tests of the comparer, and of what in the Rust rests on the order of its maps.
+
+use crate::check::compare;
+use crate::library::{Asked, Product};
+use crate::meshes;
+use crate::random::Random;
+use crate::run::{run, Subject};
+use crate::shrink::shrink;
+use crate::wrong::answers;
+use judge::reading::numbers::mesh_number;
+use judge::{reading, rust, Call, Mesh, Question};
+use std::collections::{BTreeMap, BTreeSet};
+
+fn words(words: &str) -> Vec<String> {
+    words.split_whitespace().map(|word| word.to_string()).collect()
+}
+
+#[test]
+fn the_rust_is_document_01_on_some_meshes() {
+    assert_eq!(run(None, None, words("600 --random --seed 1")), 0)
+}
+
+#[test]
+fn files_are_compared() {
+    assert_eq!(run(None, None, words("--files 200 --seed 1")), 0)
+}
+
+#[test]
+fn every_slip_is_found() {
+    assert_eq!(run(None, None, words("--self-test --seed 1")), 0)
+}
+
+#[test]
+fn bad_words_are_refused() {
+    for bad in ["--only wires", "--seed x", "some", "--at"] {
+        assert_eq!(run(None, None, words(bad)), 2);
+    }
+}
+
+/// A product that misreads one call.
+struct Misreading(Call, &'static str);
+
+impl Product for Misreading {
+    fn has(&self, call: Call) -> bool {
+        call == self.0
+    }
+
+    fn ask(&self, call: Call, question: &Question) -> Asked {
+        let right = reading::answer(call, question);
+        let (_, wrong) = answers(call).iter().find(|(name, _)| *name == self.1).unwrap();
+        Asked::answering(call, question, &wrong(question, &right).unwrap_or(right))
+    }
+}
+
+/// The smallest question that shows what a product misreads.
+fn smallest(call: Call, name: &'static str) -> Question {
+    let product = Misreading(call, name);
+    let differs = |question: &Question| compare(&product, call, question, None).difference.is_some();
+    let first = (0..5_000).find_map(|i| {
+        let random = Random::of(7, i);
+        let mut subject = Subject::of(&random, call.reads_a_file(), meshes::exhaustive_count() + i);
+        subject.question(&random, call).filter(|question| differs(question)).cloned()
+    });
+    shrink(call, &first.unwrap(), &differs)
+}
+
+#[test]
+fn differences_become_small() {
+    let third_use = smallest(Call::ShellCondition, "uses counted modulo two");
+    assert_eq!(third_use.mesh.corners.iter().step_by(3).copied().collect::<Vec<_>>(), [0, 0, 0]);
+    let both_rings = smallest(Call::RemoveDegenerateFaces, "corner i for both rings");
+    assert_eq!(both_rings.mesh.sizes, [5]);
+    let after_the_end = smallest(Call::ReadPanel, "an index asked before bytes after the end");
+    assert!(after_the_end.file.len() <= 4 + 1 + 36 + 4 + 1);
+    let wraps = smallest(Call::MeshNumber, "sizes added in 32 bits");
+    assert!(wraps.mesh.positions.is_empty() && wraps.mesh.sizes.len() <= 2, "{:?}", wraps);
+}
+
+/// Accepted meshes at random, with few points.
+fn accepted() -> impl Iterator<Item = (Mesh, f64)> {
+    let all = (0..3_000).map(|i| {
+        let case = meshes::random(&Random::of(3, i));
+        (case.mesh, case.tolerance)
+    });
+    let most = |mesh: &Mesh| mesh.positions.len().max(mesh.textures.len()).max(mesh.normals.len());
+    all.filter(move |(mesh, _)| mesh_number(mesh) == 0 && most(mesh) < 90)
+}
+
+/// Whether two columns of corners put the same corners together.
+fn is_same_grouping(one: &[u32], other: &[u32]) -> bool {
+    let pairs: BTreeSet<(usize, u32, u32)> = (0..one.len()).map(|i| (i % 3, one[i], other[i])).collect();
+    let of = |pick: fn(&(usize, u32, u32)) -> (usize, u32)| pairs.iter().map(pick).collect::<BTreeSet<_>>().len();
+    one.len() == other.len() && of(|p| (p.0, p.1)) == pairs.len() && of(|p| (p.0, p.2)) == pairs.len()
+}
+
+#[test]
+fn the_order_of_sets_changes_representatives_but_no_group() {
+    let mut another_representative = 0;
+    for (mesh, tolerance) in accepted() {
+        if reading::numbers::merging_number(&mesh, tolerance) == 0 {
+            let untouched = rust::untouched::put_together_same_attrs(&mesh, tolerance);
+            let ascending = rust::ascending::put_together_same_attrs(&mesh, tolerance);
+            assert_eq!(untouched.pairs, ascending.pairs);
+            assert!(is_same_grouping(&untouched.corners, &ascending.corners));
+            another_representative += (untouched.corners != ascending.corners) as u32;
+        }
+    }
+    assert!(another_representative > 0);
+}
+
+/// The steps of wires that close, each a pair of positions.
+fn steps(wires: &[Vec<u32>]) -> BTreeMap<u32, u32> {
+    wires.iter().flat_map(|wire| (0..wire.len()).map(move |i| (wire[i], wire[(i + 1) % wire.len()]))).collect()
+}
+
+#[test]
+fn the_order_of_maps_changes_where_wires_begin_but_not_their_steps() {
+    let mut another_order = 0;
+    for (mesh, _) in accepted() {
+        let starts: BTreeSet<u32> = reading::edges::hem_edges(&mesh).iter().map(|hem| hem[0]).collect();
+        let ends: BTreeSet<u32> = reading::edges::hem_edges(&mesh).iter().map(|hem| hem[1]).collect();
+        if starts == ends && starts.len() == reading::edges::hem_edges(&mesh).len() {
+            let (untouched, ascending) = (rust::untouched::extract_boundaries(&mesh), rust::ascending::extract_boundaries(&mesh));
+            assert_eq!(steps(&untouched), steps(&ascending));
+            another_order += (untouched != ascending) as u32;
+        }
+    }
+    assert!(another_order > 0);
+}

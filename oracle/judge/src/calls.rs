@@ -1,0 +1,184 @@
+//! The calls of the product's C interface, what can be asked of each, and the one shape of all their answers.
+
+use crate::mesh::{Compacted, Merged, Mesh, Unfolded, Verdict};
+
+#[derive(Clone, Copy, Debug, PartialEq, Eq)]
+pub enum Call {
+    MeshNumber,
+    Face,
+    RemoveUnusedAttrs,
+    RemoveDegenerateFaces,
+    PutTogetherSameAttrs,
+    ShellCondition,
+    HemEdges,
+    ExtractBoundaries,
+    HouseWires,
+    Components,
+    ReadPanel,
+    Sheet,
+}
+
+impl Call {
+    /// In the order of the C interface.
+    pub const ALL: [Call; 12] = [
+        Call::MeshNumber,
+        Call::Face,
+        Call::RemoveUnusedAttrs,
+        Call::RemoveDegenerateFaces,
+        Call::PutTogetherSameAttrs,
+        Call::ShellCondition,
+        Call::HemEdges,
+        Call::ExtractBoundaries,
+        Call::HouseWires,
+        Call::Components,
+        Call::ReadPanel,
+        Call::Sheet,
+    ];
+
+    /// The name in the C interface, without its prefix.
+    pub fn name(self) -> &'static str {
+        match self {
+            Call::MeshNumber => "mesh_number",
+            Call::Face => "face",
+            Call::RemoveUnusedAttrs => "remove_unused_attrs",
+            Call::RemoveDegenerateFaces => "remove_degenerate_faces",
+            Call::PutTogetherSameAttrs => "put_together_same_attrs",
+            Call::ShellCondition => "shell_condition",
+            Call::HemEdges => "hem_edges",
+            Call::ExtractBoundaries => "extract_boundaries",
+            Call::HouseWires => "house_wires",
+            Call::Components => "components",
+            Call::ReadPanel => "read_panel",
+            Call::Sheet => "sheet",
+        }
+    }
+
+    /// Whether the call reads a panel file in the place of a mesh.
+    pub fn reads_a_file(self) -> bool {
+        matches!(self, Call::ReadPanel | Call::Sheet)
+    }
+}
+
+/// All that a call can be given. A call looks at its own part: `face`, `tolerance` and `use_normal` belong to one call each, `file` to
+/// the two that read a panel file, `rooms` holds the length of each lent result list, in the order of the C interface.
+#[derive(Clone, Debug, Default)]
+pub struct Question {
+    pub mesh: Mesh,
+    pub face: usize,
+    pub tolerance: f64,
+    pub use_normal: bool,
+    pub file: Vec<u8>,
+    pub rooms: Vec<usize>,
+}
+
+/// The numbers at the front of one lent list; the room past them stays as it was.
+#[derive(Clone, Debug)]
+pub enum Numbers {
+    Floats(Vec<f64>),
+    Words(Vec<u32>),
+    Bytes(Vec<u8>),
+}
+
+/// A number that is answered beside the lists.
+#[derive(Clone, Copy, Debug, PartialEq, Eq)]
+pub enum Count {
+    Is(u64),
+    Untouched,
+}
+
+/// The number of the table, what stands in each lent list, and each count, in the order of the C interface.
+#[derive(Clone, Debug)]
+pub struct Answer {
+    pub number: u32,
+    pub lists: Vec<Numbers>,
+    pub counts: Vec<Count>,
+}
+
+impl Answer {
+    /// A refusal: nothing is written to any list, each count is 0, and a verdict is not answered.
+    pub fn refused(call: Call, number: u32) -> Answer {
+        use Numbers::{Bytes, Floats, Words};
+        let (floats, words) = (|| Floats(vec![]), || Words(vec![]));
+        let (lists, counts) = match call {
+            Call::MeshNumber => (vec![], 0),
+            Call::Face => (vec![], 2),
+            Call::RemoveUnusedAttrs => (vec![words(), floats(), floats(), floats()], 3),
+            Call::RemoveDegenerateFaces => (vec![words(), words()], 2),
+            Call::PutTogetherSameAttrs => (vec![words()], 3),
+            Call::ShellCondition => return Answer { number, lists: vec![], counts: vec![Count::Untouched] },
+            Call::HemEdges => (vec![words(), words()], 1),
+            Call::ExtractBoundaries | Call::HouseWires | Call::Components => (vec![words(), words()], 2),
+            Call::ReadPanel => (vec![floats(), floats(), floats(), words(), words()], 5),
+            Call::Sheet => (vec![Bytes(vec![])], 1),
+        };
+        Answer { number, lists, counts: vec![Count::Is(0); counts] }
+    }
+
+    fn done(lists: Vec<Numbers>, counts: &[usize]) -> Answer {
+        Answer { number: 0, lists, counts: counts.iter().map(|count| Count::Is(*count as u64)).collect() }
+    }
+
+    pub fn mesh_number(number: u32) -> Answer {
+        Answer { number, lists: vec![], counts: vec![] }
+    }
+
+    pub fn face(start: usize, len: usize) -> Answer {
+        Answer::done(vec![], &[start, len])
+    }
+
+    pub fn compacted(made: Compacted) -> Answer {
+        let counts = [made.positions.len() / 3, made.textures.len() / 2, made.normals.len() / 3];
+        let lists = vec![
+            Numbers::Words(made.corners),
+            Numbers::Floats(made.positions),
+            Numbers::Floats(made.textures),
+            Numbers::Floats(made.normals),
+        ];
+        Answer::done(lists, &counts)
+    }
+
+    pub fn unfolded(made: Unfolded) -> Answer {
+        let counts = [made.corners.len() / 3, made.sizes.len()];
+        Answer::done(vec![Numbers::Words(made.corners), Numbers::Words(made.sizes)], &counts)
+    }
+
+    pub fn merged(made: Merged) -> Answer {
+        let counts = made.pairs.iter().map(|pairs| Count::Is(*pairs)).collect();
+        Answer { number: 0, lists: vec![Numbers::Words(made.corners)], counts }
+    }
+
+    pub fn verdict(verdict: Verdict) -> Answer {
+        Answer::done(vec![], &[verdict as usize])
+    }
+
+    pub fn hem_edges(hems: &[[u32; 2]]) -> Answer {
+        let column = |end: usize| Numbers::Words(hems.iter().map(|hem| hem[end]).collect());
+        Answer::done(vec![column(0), column(1)], &[hems.len()])
+    }
+
+    /// Wires or panels, as a flat list and a list of lengths.
+    pub fn rows(rows: &[Vec<u32>]) -> Answer {
+        let flat: Vec<u32> = rows.iter().flatten().copied().collect();
+        let lengths: Vec<u32> = rows.iter().map(|row| row.len() as u32).collect();
+        let counts = [flat.len(), lengths.len()];
+        Answer::done(vec![Numbers::Words(flat), Numbers::Words(lengths)], &counts)
+    }
+
+    pub fn read(mesh: Mesh) -> Answer {
+        let counts =
+            [mesh.positions.len() / 3, mesh.textures.len() / 2, mesh.normals.len() / 3, mesh.corner_count(), mesh.sizes.len()];
+        let lists = vec![
+            Numbers::Floats(mesh.positions),
+            Numbers::Floats(mesh.textures),
+            Numbers::Floats(mesh.normals),
+            Numbers::Words(mesh.corners),
+            Numbers::Words(mesh.sizes),
+        ];
+        Answer::done(lists, &counts)
+    }
+
+    pub fn sheet(text: String) -> Answer {
+        let length = text.len();
+        Answer::done(vec![Numbers::Bytes(text.into_bytes())], &[length])
+    }
+}

@@ -1,0 +1,37 @@
+//! Document 01, read again: short, plain, and apart from the Rust and from the product. Each file is one section of it.
+
+pub mod cleaning;
+pub mod edges;
+pub mod merging;
+pub mod numbers;
+pub mod panel_file;
+pub mod panels;
+pub mod sheet;
+
+use crate::calls::{Answer, Call, Question};
+
+/// What document 01 says to a question.
+pub fn answer(call: Call, question: &Question) -> Answer {
+    let (mesh, file) = (&question.mesh, &question.file);
+    let number = numbers::number(call, question);
+    if number != 0 && call != Call::MeshNumber {
+        return Answer::refused(call, number);
+    }
+    match call {
+        Call::MeshNumber => Answer::mesh_number(number),
+        Call::Face => {
+            let part = numbers::part_of_face(mesh, question.face);
+            Answer::face(part.start, part.len())
+        }
+        Call::RemoveUnusedAttrs => Answer::compacted(cleaning::remove_unused_attrs(mesh)),
+        Call::RemoveDegenerateFaces => Answer::unfolded(cleaning::remove_degenerate_faces(mesh)),
+        Call::PutTogetherSameAttrs => Answer::merged(merging::put_together_same_attrs(mesh, question.tolerance)),
+        Call::ShellCondition => Answer::verdict(edges::verdict(mesh)),
+        Call::HemEdges => Answer::hem_edges(&edges::hem_edges(mesh)),
+        Call::ExtractBoundaries => Answer::rows(&edges::ported_wires(mesh)),
+        Call::HouseWires => Answer::rows(&edges::house_wires(mesh)),
+        Call::Components => Answer::rows(&panels::components(mesh, question.use_normal)),
+        Call::ReadPanel => Answer::read(panel_file::read(file).unwrap()),
+        Call::Sheet => Answer::sheet(sheet::sheet(file)),
+    }
+}

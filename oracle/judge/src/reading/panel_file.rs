@@ -1,0 +1,84 @@
+//! 'The panel file': its reader, with the order in which it refuses.
+
+use super::cleaning::grouped;
+use super::numbers::{indices_are_off, ATTRIBUTES, CORNERS};
+use crate::mesh::{Corner, Mesh};
+
+/// The mesh that a file holds, or the number with which it is refused. (Number 9, of the rooms, is asked before.)
+pub fn read(file: &[u8]) -> Result<Mesh, u32> {
+    let mut mesh = Mesh::default();
+    let mut faces: Vec<Vec<Corner>> = vec![];
+    let mut rest = file;
+    loop {
+        let (kind, body) = record(&mut rest)?;
+        match kind {
+            0 => break,
+            1 => entry(&mut mesh.positions, 3, body)?,
+            2 => entry(&mut mesh.textures, 2, body)?,
+            3 => entry(&mut mesh.normals, 3, body)?,
+            _ => face(&mut faces, body)?,
+        }
+    }
+    if !rest.is_empty() {
+        return Err(13);
+    }
+    let mesh = mesh.with_faces(&grouped(faces));
+    if indices_are_off(&mesh) {
+        return Err(5);
+    }
+    Ok(mesh)
+}
+
+/// The kind and the body of the next record: header cut 11, kind 12, length 12, body cut 11.
+fn record<'a>(rest: &mut &'a [u8]) -> Result<(usize, &'a [u8]), u32> {
+    if rest.len() < 4 {
+        return Err(11);
+    }
+    let (header, after) = rest.split_at(4);
+    let (length, kind) = (u16::from_le_bytes([header[0], header[1]]) as usize, u16::from_le_bytes([header[2], header[3]]));
+    let right = match kind {
+        0 => length == 0,
+        1 | 3 => length == 24,
+        2 => length == 16,
+        4 => (0..=255).any(|m| length == 1 + 12 * m),
+        _ => return Err(12),
+    };
+    if !right {
+        return Err(12);
+    }
+    if after.len() < length {
+        return Err(11);
+    }
+    let (body, after) = after.split_at(length);
+    *rest = after;
+    Ok((kind as usize, body))
+}
+
+/// One more position, texture point or normal: limit 1.
+fn entry(list: &mut Vec<f64>, width: usize, body: &[u8]) -> Result<(), u32> {
+    if list.len() == ATTRIBUTES * width {
+        return Err(1);
+    }
+    list.extend(body.chunks(8).map(|bytes| f64::from_le_bytes(bytes.try_into().unwrap())));
+    Ok(())
+}
+
+/// One more face: n unlike m 12, n over 32 gives 3, limit 1. Faces of 0, 1 or 2 corners are dropped and don't count.
+fn face(faces: &mut Vec<Vec<Corner>>, body: &[u8]) -> Result<(), u32> {
+    let n = body[0] as usize;
+    if n != (body.len() - 1) / 12 {
+        return Err(12);
+    }
+    if n > 32 {
+        return Err(3);
+    }
+    if n < 3 {
+        return Ok(());
+    }
+    if faces.iter().map(|face| face.len()).sum::<usize>() + n > CORNERS {
+        return Err(1);
+    }
+    let number = |bytes: &[u8]| u32::from_le_bytes(bytes.try_into().unwrap());
+    faces.push(body[1..].chunks(12).map(|c| [number(&c[..4]), number(&c[4..8]), number(&c[8..])]).collect());
+    Ok(())
+}

@@ -1,0 +1,49 @@
+//! The sheet that `meshsheet` prints.
+
+use super::{cleaning, edges, panel_file, panels};
+use crate::mesh::{Mesh, Verdict};
+
+/// The most bytes of a file.
+pub const FILE: usize = 65_536;
+
+/// The stated room for the sheet's bytes.
+pub const ROOM: usize = 65_536;
+
+/// The whole output for a file.
+pub fn sheet(file: &[u8]) -> String {
+    let read = if file.len() > FILE { Err(1) } else { panel_file::read(file) };
+    match read {
+        Err(number) => format!("refused {number}\n"),
+        Ok(mesh) => sheet_of(&cleaned(mesh)),
+    }
+}
+
+/// Folded faces are removed, then unused entries.
+fn cleaned(mesh: Mesh) -> Mesh {
+    let unfolded = cleaning::remove_degenerate_faces(&mesh);
+    let mesh = Mesh { corners: unfolded.corners, sizes: unfolded.sizes, ..mesh };
+    let compacted = cleaning::remove_unused_attrs(&mesh);
+    Mesh {
+        positions: compacted.positions,
+        textures: compacted.textures,
+        normals: compacted.normals,
+        corners: compacted.corners,
+        sizes: mesh.sizes,
+    }
+}
+
+fn sheet_of(mesh: &Mesh) -> String {
+    let (positions, textures, normals) = (mesh.positions.len() / 3, mesh.textures.len() / 2, mesh.normals.len() / 3);
+    let verdict = edges::verdict(mesh);
+    let mut sheet = format!("mesh {positions} {textures} {normals} {}\n", mesh.sizes.len());
+    sheet += &format!("verdict {verdict:?}\n");
+    sheet += &format!("panels {}\n", panels::components(mesh, false).len());
+    if [Verdict::Irregular, Verdict::Regular].contains(&verdict) {
+        return sheet + "hems refused 10\n";
+    }
+    for wire in edges::house_wires(mesh) {
+        let positions: String = wire.iter().map(|position| format!(" {position}")).collect();
+        sheet += &format!("hem{positions}\n");
+    }
+    sheet
+}

@@ -1,0 +1,58 @@
+//! What the Rust answers: untouched, and in the copy whose maps and sets are read in ascending order.
+//!
+//! The Rust checks less than document 01 asks, and panics where document 01 refuses; so it is asked only where the question is accepted.
+
+use crate::calls::{Answer, Call, Question};
+use crate::mesh::{Compacted, Merged, Mesh, Unfolded, Verdict, MISSING};
+use truck_polymesh::{Faces, Point3, PolygonMesh, StandardAttributes, StandardVertex, Vector2, Vector3};
+
+pub mod untouched {
+    use super::*;
+    use truck_meshalgo::{analyzers::*, filters::*};
+    include!("rust_calls.rs");
+
+    /// What the untouched Rust answers, of all that does not rest on the order in which its maps are read.
+    pub fn answer(call: Call, question: &Question) -> Option<Answer> {
+        match call {
+            Call::PutTogetherSameAttrs | Call::ExtractBoundaries => None,
+            _ => answered(call, question),
+        }
+    }
+}
+
+pub mod ascending {
+    use super::*;
+    use truck_meshalgo_ascending::{analyzers::*, filters::*};
+    include!("rust_calls.rs");
+
+    /// What the ascending Rust answers.
+    pub fn answer(call: Call, question: &Question) -> Option<Answer> {
+        answered(call, question)
+    }
+}
+
+/// The product's lists as the Rust's mesh; none where the Rust finds an index out of range.
+pub fn into_rust(mesh: &Mesh) -> Option<PolygonMesh> {
+    let attributes = StandardAttributes {
+        positions: mesh.positions.chunks(3).map(|p| Point3::new(p[0], p[1], p[2])).collect(),
+        uv_coords: mesh.textures.chunks(2).map(|p| Vector2::new(p[0], p[1])).collect(),
+        normals: mesh.normals.chunks(3).map(|p| Vector3::new(p[0], p[1], p[2])).collect(),
+    };
+    let index = |number: u32| if number == MISSING { None } else { Some(number as usize) };
+    let mut pushed = Faces::default();
+    for face in mesh.faces() {
+        let corners: Vec<StandardVertex> =
+            face.iter().map(|c| StandardVertex { pos: c[0] as usize, uv: index(c[1]), nor: index(c[2]) }).collect();
+        pushed.push(&corners);
+    }
+    PolygonMesh::try_new(attributes, pushed).ok()
+}
+
+fn flat_corners(faces: &Faces) -> Vec<u32> {
+    let number = |index: Option<usize>| index.map_or(MISSING, |i| i as u32);
+    faces.face_iter().flatten().flat_map(|v| [v.pos as u32, number(v.uv), number(v.nor)]).collect()
+}
+
+fn narrow(rows: Vec<Vec<usize>>) -> Vec<Vec<u32>> {
+    rows.into_iter().map(|row| row.into_iter().map(|number| number as u32).collect()).collect()
+}

@@ -1,0 +1,74 @@
+// Included twice by rust.rs, over the untouched and over the ascending Rust. The questions are accepted ones.
+
+pub fn remove_unused_attrs(mesh: &Mesh) -> Compacted {
+    let mut rust = into_rust(mesh).unwrap();
+    rust.remove_unused_attrs();
+    Compacted {
+        corners: flat_corners(rust.faces()),
+        positions: rust.positions().iter().flat_map(|p| [p.x, p.y, p.z]).collect(),
+        textures: rust.uv_coords().iter().flat_map(|p| [p.x, p.y]).collect(),
+        normals: rust.normals().iter().flat_map(|p| [p.x, p.y, p.z]).collect(),
+    }
+}
+
+pub fn remove_degenerate_faces(mesh: &Mesh) -> Unfolded {
+    let mut rust = into_rust(mesh).unwrap();
+    rust.remove_degenerate_faces();
+    Unfolded { corners: flat_corners(rust.faces()), sizes: rust.face_iter().map(|face| face.len() as u32).collect() }
+}
+
+pub fn put_together_same_attrs(mesh: &Mesh, tolerance: f64) -> Merged {
+    let mut rust = into_rust(mesh).unwrap();
+    let pairs = compared_pairs(&rust, tolerance);
+    rust.put_together_same_attrs(tolerance);
+    Merged { corners: flat_corners(rust.faces()), pairs }
+}
+
+pub fn shell_condition(mesh: &Mesh) -> Verdict {
+    match into_rust(mesh).unwrap().shell_condition() as u32 {
+        0 => Verdict::Irregular,
+        1 => Verdict::Regular,
+        2 => Verdict::Oriented,
+        _ => Verdict::Closed,
+    }
+}
+
+/// From the Rust's map `boundary`, by (lower, higher).
+pub fn hem_edges(mesh: &Mesh) -> Vec<[u32; 2]> {
+    boundary(into_rust(mesh).unwrap().faces()).into_iter().map(|[start, end]| [start as u32, end as u32]).collect()
+}
+
+pub fn extract_boundaries(mesh: &Mesh) -> Vec<Vec<u32>> {
+    narrow(into_rust(mesh).unwrap().extract_boundaries())
+}
+
+pub fn components(mesh: &Mesh, use_normal: bool) -> Vec<Vec<u32>> {
+    narrow(into_rust(mesh).unwrap().components(use_normal))
+}
+
+/// The start and the length of face k in the flat corners, by the Rust's own order of its faces.
+fn face(mesh: &Mesh, k: usize) -> Answer {
+    let rust = into_rust(mesh).unwrap();
+    let before: usize = rust.face_iter().take(k).map(|face| face.len()).sum();
+    if k < rust.faces().len() {
+        Answer::face(3 * before, 3 * rust.faces()[k].len())
+    } else {
+        Answer::face(0, 0)
+    }
+}
+
+fn answered(call: Call, question: &Question) -> Option<Answer> {
+    let mesh = &question.mesh;
+    Some(match call {
+        Call::MeshNumber => Answer::mesh_number(if into_rust(mesh).is_some() { 0 } else { 5 }),
+        Call::Face => face(mesh, question.face),
+        Call::RemoveUnusedAttrs => Answer::compacted(remove_unused_attrs(mesh)),
+        Call::RemoveDegenerateFaces => Answer::unfolded(remove_degenerate_faces(mesh)),
+        Call::PutTogetherSameAttrs => Answer::merged(put_together_same_attrs(mesh, question.tolerance)),
+        Call::ShellCondition => Answer::verdict(shell_condition(mesh)),
+        Call::HemEdges => Answer::hem_edges(&hem_edges(mesh)),
+        Call::ExtractBoundaries => Answer::rows(&extract_boundaries(mesh)),
+        Call::Components => Answer::rows(&components(mesh, question.use_normal)),
+        Call::HouseWires | Call::ReadPanel | Call::Sheet => return None,
+    })
+}
