@@ -1,9 +1,9 @@
--- `sheet::put_refused_hems` meets its contract: the words of the line are written out. Assumes nothing.
+-- `lines::put_refused_hems` meets its contract: the words of the line are written out. Assumes nothing.
 use Rattle.text.specs.Text.{line, decimal, decimalIn}
-use Rattle.sheet.specs.Sheet.{hemLines}
+use Rattle.lines.specs.Lines.{hemLines}
 use borrow.Author.Needs.{needs}
-use Rattle.sheet.proofs.put_refused_hems.Statement.{statement}
-use Rattle.sheet.proofs.put_refused_hems.Tie as tie
+use Rattle.lines.proofs.put_refused_hems.Statement.{statement}
+use Rattle.lines.proofs.put_refused_hems.Tie as tie
 
 slice-aggregate-put-bytes : tie.Need-slice-aggregate-put-bytes
 slice-aggregate-put-bytes c = search needs

@@ -7,8 +7,8 @@ use Rattle.lists.specs.Lists.{sum}
 use Rattle.mesh.specs.Table.{after}
 use Rattle.edges.specs.Answers.{verdictOf}
 use Rattle.text.specs.Text.{Room}
-use Rattle.sheet.specs.declared.Findings.{Findings}
-use Rattle.sheet.specs.Sheet.{Found, hemLines}
+use Rattle.lines.specs.declared.Findings.{Findings}
+use Rattle.lines.specs.Lines.{Found, hemLines}
 
 -- the wires of a flat list: each takes as many numbers as its length says
 abbrev pub parts : List ℕ → List ℕ → List (List ℕ)

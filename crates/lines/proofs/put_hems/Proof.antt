@@ -1,12 +1,12 @@
--- `sheet::put_hems` meets its contract: the lines of the first k wires are put, `from` is where wire k starts, and k rises to all of them. Assumes nothing.
+-- `lines::put_hems` meets its contract: the lines of the first k wires are put, `from` is where wire k starts, and k rises to all of them. Assumes nothing.
 use Prim.Native.Nat.{_-_}
 use lib.ListN.{length}
 use Rattle.text.proofs.Putting.{written-long}
-use Rattle.sheet.proofs.Wiring.{Hemming, hemming-begins, hemming-within, hemming-room, hemming-turns, hemming-ends}
+use Rattle.lines.proofs.Wiring.{Hemming, hemming-begins, hemming-within, hemming-room, hemming-turns, hemming-ends}
 use borrow.Author.Needs.{needs}
 use native.Mathlib.Omega.{arith}
-use Rattle.sheet.proofs.put_hems.Statement.{statement}
-use Rattle.sheet.proofs.put_hems.Tie as tie
+use Rattle.lines.proofs.put_hems.Statement.{statement}
+use Rattle.lines.proofs.put_hems.Tie as tie
 
 abbrev Inv-loop : tie.InvT-loop
 Inv-loop flat lengths out₀ at to₀ from₀ k₀ out to from k = Hemming flat lengths out₀ out at to from k

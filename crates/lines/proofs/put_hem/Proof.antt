@@ -1,9 +1,9 @@
--- `sheet::put_hem` meets its contract: a line of the wire's numbers. Assumes nothing.
+-- `lines::put_hem` meets its contract: a line of the wire's numbers. Assumes nothing.
 use Rattle.text.specs.Text.{line}
-use Rattle.sheet.specs.Sheet.{hemLine}
+use Rattle.lines.specs.Lines.{hemLine}
 use borrow.Author.Needs.{needs}
-use Rattle.sheet.proofs.put_hem.Statement.{statement}
-use Rattle.sheet.proofs.put_hem.Tie as tie
+use Rattle.lines.proofs.put_hem.Statement.{statement}
+use Rattle.lines.proofs.put_hem.Tie as tie
 
 slice-aggregate-put-line : tie.Need-slice-aggregate-put-line
 slice-aggregate-put-line c = search needs

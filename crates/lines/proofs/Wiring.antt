@@ -11,8 +11,8 @@ use Rattle.lists.specs.Lists.{sum, joined, each}
 use Rattle.lists.proofs.Parts.{sum-step, sum-at}
 use Rattle.text.specs.Text.{Room, Written}
 use Rattle.text.proofs.Putting.{Listing, listing-begins, listing-room, listing-turns, listing-ends}
-use Rattle.sheet.specs.Sheet.{hemLine, hemLines}
-use Rattle.sheet.specs.Working.{parts, wiresBy, Wired}
+use Rattle.lines.specs.Lines.{hemLine, hemLines}
+use Rattle.lines.specs.Working.{parts, wiresBy, Wired}
 
 pub length-parts : (s flat : List ℕ) → length (parts s flat) ≡ length s
 length-parts [] flat = refl

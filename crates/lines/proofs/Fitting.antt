@@ -12,9 +12,9 @@ use Rattle.edges.specs.Answers.{verdictOf}
 use Rattle.text.specs.Text.{bytes, decimal, decimalIn, spaced, line, Room, Written}
 use Rattle.text.proofs.Decimals.{few-digits}
 use Rattle.text.proofs.Putting.{numberText, spaced-numbers, room-first, room-then, written-then}
-use Rattle.sheet.specs.declared.Findings.{Findings}
-use Rattle.sheet.specs.Sheet.{meshLine, verdictLine, panelsLine, hemLine, hemLines, sheetText}
-use Rattle.sheet.specs.Working.{parts, wiresBy, foundBy, Ready}
+use Rattle.lines.specs.declared.Findings.{Findings}
+use Rattle.lines.specs.Lines.{meshLine, verdictLine, panelsLine, hemLine, hemLines, sheetText, refusal}
+use Rattle.lines.specs.Working.{parts, wiresBy, foundBy, Ready}
 
 -- numbers of 32 bits
 abbrev Small : List ℕ → Type 0
@@ -117,6 +117,10 @@ sheet-room f flat lengths out n h r =
             lines-long (f .number) lengths flat h,
           );
     }
+
+pub refusal-room : (n : ℕ) (out : List ℕ) → n < 4294967296 → 65536 ≤ length out → Room (refusal n) out 0
+unfolding refusal
+refusal-room n out h r = record { fits = omega (arith, line-long "refused" (n ∷ []) (one-small n h)) }
 
 -- the four parts of a sheet, each behind those before it
 module _ (f : Findings) (flat lengths : List ℕ) where

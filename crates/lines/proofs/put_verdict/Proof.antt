@@ -1,15 +1,15 @@
--- `sheet::put_verdict` meets its contract: each case has its line written out, and `enum-told` says which case it is. Assumes nothing.
+-- `lines::put_verdict` meets its contract: each case has its line written out, and `enum-told` says which case it is. Assumes nothing.
 use mathlib.Core.Path.{ap}
 use mathlib.Core.List.{List}
 use Prim.Native.Nat.{ℕ}
 use Rattle.text.specs.Text.{line}
 use Rattle.text.proofs.Putting.{room-as, written-as}
 use Rattle.edges.specs.declared.ShellCondition.{ShellCondition}
-use Rattle.sheet.specs.Sheet.{verdictLine}
+use Rattle.lines.specs.Lines.{verdictLine}
 use Rattle.edges.specs.Answers.{verdictOf}
 use borrow.Author.Needs.{needs}
-use Rattle.sheet.proofs.put_verdict.Statement.{statement}
-use Rattle.sheet.proofs.put_verdict.Tie as tie
+use Rattle.lines.proofs.put_verdict.Statement.{statement}
+use Rattle.lines.proofs.put_verdict.Tie as tie
 
 abbrev told : ShellCondition → List ℕ
 told v = verdictLine (verdictOf v)

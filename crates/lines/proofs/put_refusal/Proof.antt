@@ -1,9 +1,11 @@
--- `sheet::put_refusal` meets its contract: a line of one number. Assumes nothing.
+-- `lines::put_refusal` meets its contract: a line of one number, for which there is room (`refusal-room`). Assumes nothing.
 use Rattle.text.specs.Text.{line}
-use Rattle.sheet.specs.Sheet.{refusal}
+use Rattle.lines.specs.Lines.{refusal}
+use Rattle.lines.proofs.Fitting.{refusal-room}
 use borrow.Author.Needs.{needs}
-use Rattle.sheet.proofs.put_refusal.Statement.{statement}
-use Rattle.sheet.proofs.put_refusal.Tie as tie
+use native.Mathlib.Omega.{arith}
+use Rattle.lines.proofs.put_refusal.Statement.{statement}
+use Rattle.lines.proofs.put_refusal.Tie as tie
 
 slice-aggregate-put-line : tie.Need-slice-aggregate-put-line
 slice-aggregate-put-line c = search needs
@@ -13,7 +15,7 @@ slice-aggregate-put-line-2 c = search needs
 
 put-line-requires : tie.Need-put-line-requires
 unfolding refusal line
-put-line-requires c κs = c .before .before .before .before .pre
+put-line-requires c κs = refusal-room _ _ (omega arith) (c .before .before .before .before .pre)
 
 same-length : tie.Need-same-length
 same-length c = search needs

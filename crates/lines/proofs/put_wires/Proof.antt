@@ -1,9 +1,9 @@
--- `sheet::put_wires` meets its contract: with 0 a line for each wire, with another number the one line. Assumes nothing.
+-- `lines::put_wires` meets its contract: with 0 a line for each wire, with another number the one line. Assumes nothing.
 use Rattle.text.proofs.Putting.{room-as, written-as}
-use Rattle.sheet.proofs.Wiring.{hem-lines, refused-lines, wired-zero}
+use Rattle.lines.proofs.Wiring.{hem-lines, refused-lines, wired-zero}
 use borrow.Author.Needs.{needs}
-use Rattle.sheet.proofs.put_wires.Statement.{statement}
-use Rattle.sheet.proofs.put_wires.Tie as tie
+use Rattle.lines.proofs.put_wires.Statement.{statement}
+use Rattle.lines.proofs.put_wires.Tie as tie
 
 put-hems-requires : tie.Need-put-hems-requires
 put-hems-requires c κs = wired-zero (c .before .if1 .taken) (c .before .before .before .before .before .pre)

@@ -1,26 +1,31 @@
-// The sheet of a mesh: its lines as bytes, in a lent list.
+// The lines of the sheet as bytes, in a lent list: what is found in a mesh, or the refusal of a file.
+//
+// The definitions stand in specs/Lines.antt. 65,536 bytes are room for every sheet: there are at most 4,096 numbers in at most 4,096
+// wires, and a number has at most ten digits.
 ghost use mathlib.Core.Path.{_≡_};
 ghost use mathlib.Core.Option.{some, none};
+ghost use Prim.Native.Nat.{_≤_};
+ghost use lib.ListN.{length};
 ghost use Rattle.edges.specs.Answers.{verdictOf};
 ghost use Rattle.text.specs.Text.{Room, Written};
-ghost use Rattle.sheet.specs.Sheet.{meshLine, verdictLine, panelsLine, hemLine, hemLines, sheetText, refusal};
-ghost use Rattle.sheet.specs.Working.{parts, wiresBy, foundBy, Wired, Ready};
+ghost use Rattle.lines.specs.Lines.{meshLine, verdictLine, panelsLine, hemLine, hemLines, sheetText, refusal};
+ghost use Rattle.lines.specs.Working.{parts, wiresBy, foundBy, Wired, Ready};
 use edges::ShellCondition;
 
 // What was found in a mesh, but for its wires: how many positions, texture points, normals, faces and panels there are, the verdict,
 // and the number that house wires answered.
-struct Findings {
-    positions: u32,
-    textures: u32,
-    normals: u32,
-    faces: u32,
-    verdict: ShellCondition,
-    panels: u32,
-    number: u32,
+pub struct Findings {
+    pub positions: u32,
+    pub textures: u32,
+    pub normals: u32,
+    pub faces: u32,
+    pub verdict: ShellCondition,
+    pub panels: u32,
+    pub number: u32,
 }
 
-// The sheet of a mesh, from the front of `out` on.
-fn put_sheet(found: Findings, flat: &[u32], lengths: &[u32], out: &mut [u8]) -> usize
+// The sheet of a mesh, from the front of `out` on, its house wires as a flat list and a list of lengths.
+pub fn put_sheet(found: Findings, flat: &[u32], lengths: &[u32], out: &mut [u8]) -> usize
     requires { ⌜ Ready (now flat) (now lengths) (now out) ⌝ }
     ensures { λ r. ⌜ Written (sheetText (foundBy found (now (flat .entry)) (now (lengths .entry)))) (now (out .entry)) (now (out .exit)) 0 r ⌝ }
 {
@@ -36,6 +41,15 @@ fn put_sheet(found: Findings, flat: &[u32], lengths: &[u32], out: &mut [u8]) -> 
     let b = put_verdict(verdict, out, a);
     let c = put_panels(found.panels, out, b);
     put_wires(found.number, flat, lengths, out, c)
+}
+
+// The whole sheet of a refused file.
+pub fn put_refusal(number: u32, out: &mut [u8]) -> usize
+    requires { ⌜ 65536 ≤ length (now out) ⌝ }
+    ensures { λ r. ⌜ Written (refusal number) (now (out .entry)) (now (out .exit)) 0 r ⌝ }
+{
+    let answer = [number];
+    text::put_line(b"refused", &answer, out, 0)
 }
 
 // The first line: positions, texture points, normals, faces.
@@ -67,15 +81,6 @@ fn put_panels(k: u32, out: &mut [u8], at: usize) -> usize
 {
     let count = [k];
     text::put_line(b"panels", &count, out, at)
-}
-
-// The whole sheet of a refused file.
-fn put_refusal(number: u32, out: &mut [u8], at: usize) -> usize
-    requires { ⌜ Room (refusal number) (now out) at ⌝ }
-    ensures { λ r. ⌜ Written (refusal number) (now (out .entry)) (now (out .exit)) at r ⌝ }
-{
-    let answer = [number];
-    text::put_line(b"refused", &answer, out, at)
 }
 
 // The house wires, or the line that stands for them, by the number that they answered.

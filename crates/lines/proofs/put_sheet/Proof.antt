@@ -1,12 +1,12 @@
--- `sheet::put_sheet` meets its contract: 65,536 bytes are room for the four parts (`sheet-room`), which are put one behind the other. Assumes nothing.
-use Rattle.sheet.proofs.Fitting.{Narrow, sheet-room, mesh-room, verdict-room, panels-room, hems-room, sheet-written}
+-- `lines::put_sheet` meets its contract: 65,536 bytes are room for the four parts (`sheet-room`), which are put one behind the other. Assumes nothing.
+use Rattle.lines.proofs.Fitting.{Narrow, sheet-room, mesh-room, verdict-room, panels-room, hems-room, sheet-written}
 use Rattle.text.specs.Text.{Room}
-use Rattle.sheet.specs.Sheet.{sheetText}
-use Rattle.sheet.specs.Working.{foundBy}
+use Rattle.lines.specs.Lines.{sheetText}
+use Rattle.lines.specs.Working.{foundBy}
 use native.Mathlib.Omega.{arith}
 use borrow.Author.Needs.{needs}
-use Rattle.sheet.proofs.put_sheet.Statement.{statement}
-use Rattle.sheet.proofs.put_sheet.Tie as tie
+use Rattle.lines.proofs.put_sheet.Statement.{statement}
+use Rattle.lines.proofs.put_sheet.Tie as tie
 
 narrow : (c : tie.Start) → Narrow (c .args .found)
 narrow c = record { positions = search needs; textures = search needs; normals = search needs; faces = search needs; panels = search needs }
