@@ -1,7 +1,7 @@
 -- The answers, case by case: a mesh that earns a number, a list that is too short, and a mesh that is accepted; and that an answer is
 -- known by its number and verdict. Assumes nothing.
 use mathlib.Core.Path.{_≡_, refl, sym, ap, _∙_}
-use mathlib.Core.Option.{none, some}
+use mathlib.Core.Option.{Option, none, some}
 use mathlib.Core.Bool.{Bool}
 use mathlib.Core.List.{List, [], _∷_, map}
 use Prim.Native.Nat.{ℕ, zero, suc, _/_, _≤_, _<_}
@@ -13,10 +13,11 @@ use Rattle.mesh.specs.Mesh.{Mesh, faces, rings, positionCount}
 use Rattle.mesh.specs.Table.{meshNumber, when, lent, short, after}
 use Rattle.mesh.proofs.Numbers.{first-is, first-on, row-given}
 use Rattle.mesh.proofs.Accepted.{Accepted, accepted}
-use Rattle.edges.specs.Edges.{edgesOf, verdict, hems}
-use Rattle.edges.specs.Answers.{verdictOf, answerOf, judged, meshEdgesOf, start, end, hemNumber, HemAnswer, Hemmed}
+use Rattle.edges.specs.Edges.{edgesOf, Verdict, verdict, hems}
+use Rattle.edges.specs.Answers.{verdictOf, Answer, answerOf, judged, meshEdgesOf, start, end, hemNumber, HemAnswer, Hemmed}
 use Rattle.edges.specs.Runs.{Edged}
 use Rattle.edges.specs.declared.ShellCondition.{ShellCondition}
+use Rattle.edges.specs.declared.Judged.{Judged}
 use Rattle.edges.specs.declared.Judged.the-variants.{Found, Refused}
 use Rattle.edges.specs.declared.Hems.{Hems}
 
@@ -106,3 +107,32 @@ module _ (m : Mesh) (starts ends : List ℕ) where
       where
         zero-is : hemNumber m (length starts) (length ends) ≡ 0
         zero-is = hem-zero m starts ends (sym e ∙ z) g k
+
+-- ---- an answer is known by its number and verdict
+
+verdict-only : (a b : ShellCondition) → verdictOf a ≡ verdictOf b → a ≡ b
+unfolding verdictOf
+verdict-only ShellCondition.Irregular ShellCondition.Irregular e = refl
+verdict-only ShellCondition.Irregular ShellCondition.Regular e = cc
+verdict-only ShellCondition.Irregular ShellCondition.Oriented e = cc
+verdict-only ShellCondition.Irregular ShellCondition.Closed e = cc
+verdict-only ShellCondition.Regular ShellCondition.Irregular e = cc
+verdict-only ShellCondition.Regular ShellCondition.Regular e = refl
+verdict-only ShellCondition.Regular ShellCondition.Oriented e = cc
+verdict-only ShellCondition.Regular ShellCondition.Closed e = cc
+verdict-only ShellCondition.Oriented ShellCondition.Irregular e = cc
+verdict-only ShellCondition.Oriented ShellCondition.Regular e = cc
+verdict-only ShellCondition.Oriented ShellCondition.Oriented e = refl
+verdict-only ShellCondition.Oriented ShellCondition.Closed e = cc
+verdict-only ShellCondition.Closed ShellCondition.Irregular e = cc
+verdict-only ShellCondition.Closed ShellCondition.Regular e = cc
+verdict-only ShellCondition.Closed ShellCondition.Oriented e = cc
+verdict-only ShellCondition.Closed ShellCondition.Closed e = refl
+
+pub answer-only : (a b : Judged) → answerOf a ≡ answerOf b → a ≡ b
+unfolding answerOf
+answer-only (Found v) (Found w) e =
+    ap Found (verdict-only v w (let q : some (verdictOf v) ≡ some (verdictOf w) = ap (λ (x : Answer). x .verdict) e in cc))
+answer-only (Found v) (Refused n) e = let q : _≡_ {A = Option Verdict} (some (verdictOf v)) none = ap (λ (x : Answer). x .verdict) e in cc
+answer-only (Refused n) (Found v) e = let q : _≡_ {A = Option Verdict} none (some (verdictOf v)) = ap (λ (x : Answer). x .verdict) e in cc
+answer-only (Refused n) (Refused m) e = ap Refused (ap (λ (x : Answer). x .number) e)

@@ -433,7 +433,7 @@ fn close_edge(t: Tally) -> Tally
     requires { ⌜ t .ups + t .downs ≤ 4096 ⌝ }
     ensures { λ r. ⌜ r ≡ run.closed t ⌝ }
 {
-    let n = t.ups + t.downs;
+    let n = uses_of(t);
     let same = either(2 <= t.ups, 2 <= t.downs);
     Tally {
         ups: 0,
@@ -442,6 +442,14 @@ fn close_edge(t: Tally) -> Tally
         alike: either(t.alike, same),
         once: either(t.once, 1 == n),
     }
+}
+
+// How often the present edge is used, in either direction.
+fn uses_of(t: Tally) -> usize
+    requires { ⌜ t .ups + t .downs ≤ 4096 ⌝ }
+    ensures { λ r. ⌜ r ≡ t .ups + t .downs ⌝ }
+{
+    t.ups + t.downs
 }
 
 fn either(a: bool, b: bool) -> bool
