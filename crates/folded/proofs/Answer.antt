@@ -15,7 +15,7 @@ use Rattle.mesh.proofs.Accepted.{accepted}
 use Rattle.grouping.specs.Push.{Placed, cornerCount}
 use Rattle.folded.specs.declared.Removed.{Removed}
 use Rattle.folded.specs.Folded.{removed, unfoldedMesh, resultOf, tooShort, removalNumber, Removal}
-use Rattle.folded.specs.Working.{Ready, refusedBy}
+use Rattle.folded.specs.Working.{Given, refusedBy}
 
 -- what a refusal leaves
 after-refusal : {A : Type 0} (n : ℕ) (new old : A) → (n ≡ 0 → ⊥) → after n new old ≡ old
@@ -55,10 +55,13 @@ module _ (m : Mesh) (o l : List ℕ) (answer : Removed) where
 
 -- an accepted mesh, and room
 module _ (m : Mesh) (o l : List ℕ) (z : meshNumber m ≡ 0) (a : length (m .corners) ≤ length o) (b : length (m .corners) / 3 / 3 ≤ length l) where
-  pub ready : Ready (m .corners) (m .sizes) o l
-  ready =
+  pub given : Given (m .corners) (m .sizes) o l
+  given =
       let h = accepted m z in
-      record { sound = h .sound; least = h .least; most = h .most; corners = a; sizes = omega arith }
+      record {
+        ready = record { fit = record { sound = h .sound; least = h .least; most = h .most }; corners = a; sizes = omega arith };
+        grouped = h .grouped;
+      }
 
   number-0 : 0 ≡ removalNumber m (resultOf o l)
   unfolding removalNumber tooShort short

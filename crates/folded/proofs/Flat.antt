@@ -1,21 +1,20 @@
 -- A face's flat part of the list of corners, read corner by corner: a triangle, a quadrangle, a row. Assumes nothing.
-use mathlib.Core.Path.{_≡_, sym, ap, _∙_}
+use mathlib.Core.Path.{_≡_, refl, sym, ap, _∙_}
 use mathlib.Core.Bool.{Bool, true, false, _||_}
-use mathlib.Core.List.{List, [], _∷_, _++_, map, append-nil}
+use mathlib.Core.List.{List, [], _∷_, map}
 use Prim.Native.Nat.{ℕ, suc, _+_, _*_, _≤_, _<_}
 use native.Mathlib.Omega.{arith}
 use lib.ListN.{length, getD, take, set, length-map, List·getD-map, drop-of-length-le}
 use lib.Seq.{sets}
-use lib.Dec.{eqb}
 use borrow.Author.Tests.{eqb-true}
 use Rattle.lists.specs.Lists.{every, joined}
 use Rattle.lists.proofs.Bools.{and-left, and-right}
 use Rattle.lists.proofs.Writing.{Copying, copy-ends, sets-append}
 use Rattle.lists.proofs.Copies.{front-turns, take-written}
-use Rattle.mesh.specs.Mesh.{Ring, position, threes, cornerAt}
+use Rattle.mesh.specs.Mesh.{Corner, Ring, position, threes, cornerAt}
 use Rattle.mesh.proofs.Corners.{isCorner, threes-step, length-threes, getD-threes}
 use Rattle.grouping.specs.Push.{Placed}
-use Rattle.folding.specs.Folding.{folded}
+use Rattle.folding.specs.Folding.{twice, folded}
 use Rattle.folding.proofs.Placing.{placed-ring}
 
 -- three corners, four corners
@@ -36,13 +35,14 @@ threes-4 cs h =
     ∙ ap (λ (r : Ring). cornerAt cs 0 ∷ cornerAt cs 1 ∷ cornerAt cs 2 ∷ r) (threes-step cs 3 (omega arith))
     ∙ ap (λ (l : List ℕ). cornerAt cs 0 ∷ cornerAt cs 1 ∷ cornerAt cs 2 ∷ cornerAt cs 3 ∷ threes l) (drop-of-length-le cs z)
 
--- a triangle is folded where two of the three are equal
-abbrev pub anyEqual : ℕ → ℕ → ℕ → Bool
-anyEqual a b c = (eqb a b || (eqb a c || false)) || ((eqb b c || false) || (false || false))
-
-pub triangle-folded : (cs : List ℕ) → length cs ≡ 9 → folded (threes cs) ≡ anyEqual (getD cs 0 0) (getD cs 3 0) (getD cs 6 0)
+-- a triangle, a quadrangle is folded where a position stands twice
+pub triangle-folded : (cs : List ℕ) → length cs ≡ 9 → folded (threes cs) ≡ twice (getD cs 0 0 ∷ getD cs 3 0 ∷ getD cs 6 0 ∷ [])
 unfolding folded
 triangle-folded cs h = ap folded (threes-3 cs h)
+
+pub quadrangle-folded : (cs : List ℕ) → length cs ≡ 12 → folded (threes cs) ≡ twice (getD cs 0 0 ∷ getD cs 3 0 ∷ getD cs 6 0 ∷ getD cs 9 0 ∷ [])
+unfolding folded
+quadrangle-folded cs h = ap folded (threes-4 cs h)
 
 -- The positions of a face under way: the first k are read.
 module _ (cs : List ℕ) (n : ℕ) (h : length cs ≡ 3 * n) where
@@ -70,29 +70,52 @@ module _ (cs : List ℕ) (n : ℕ) (h : length cs ≡ 3 * n) where
   row-end l l' k b a c =
       ap (take n) (copy-ends [] (threes cs) l l' 0 k (omega (arith, corners)) c) ∙ take-written l (threes cs) n corners b
 
--- a triangle's three corners are written one behind the other
-pub triangle-written : (t : Ring) (o o1 o2 o3 : List ℕ) (b : ℕ) → length t ≡ 3 → every isCorner t ≡ true → o1 ≡ sets o b (getD t 0 [])
+-- ---- corners that are written one behind the other
+
+-- one corner, and then the rest of the ring
+corner-then : (x : Corner) (r : Ring) (o o1 : List ℕ) (b : ℕ) → isCorner x ≡ true → o1 ≡ sets o b x → sets o b (joined (x ∷ r)) ≡ sets o1 (b + 3) (joined r)
+corner-then x r o o1 b w e =
+    sets-append o b x (joined r)
+    ∙ ap (λ (k : ℕ). sets (sets o b x) (b + k) (joined r)) (eqb-true (length x) 3 w)
+    ∙ ap (λ (l : List ℕ). sets l (b + 3) (joined r)) (sym e)
+
+triangle-written : (t : Ring) (o o1 o2 o3 : List ℕ) (b : ℕ) → length t ≡ 3 → every isCorner t ≡ true → o1 ≡ sets o b (getD t 0 [])
     → o2 ≡ sets o1 (b + 3) (getD t 1 []) → o3 ≡ sets o2 (b + 6) (getD t 2 []) → o3 ≡ sets o b (joined t)
 triangle-written [] o o1 o2 o3 b h w e f g = absurd (let z : _≡_ {A = ℕ} 0 3 = h in omega arith)
 triangle-written (x ∷ []) o o1 o2 o3 b h w e f g = absurd (let z : _≡_ {A = ℕ} 1 3 = h in omega arith)
 triangle-written (x ∷ y ∷ []) o o1 o2 o3 b h w e f g = absurd (let z : _≡_ {A = ℕ} 2 3 = h in omega arith)
 triangle-written (x ∷ y ∷ z ∷ []) o o1 o2 o3 b h w e f g =
     let v = and-right (isCorner x) (every isCorner (y ∷ z ∷ [])) w in
-    let p : length x ≡ 3 = eqb-true (length x) 3 (and-left (isCorner x) (every isCorner (y ∷ z ∷ [])) w) in
-    let q : length y ≡ 3 = eqb-true (length y) 3 (and-left (isCorner y) (every isCorner (z ∷ [])) v) in
+    let u = and-right (isCorner y) (every isCorner (z ∷ [])) v in
     let i : b + 3 + 3 ≡ b + 6 = omega arith in
-    sym (sets-append o b x (y ++ (z ++ []))
-    ∙ ap (λ (k : ℕ). sets (sets o b x) (b + k) (y ++ (z ++ []))) p
-    ∙ ap (λ (l : List ℕ). sets l (b + 3) (y ++ (z ++ []))) (sym e)
-    ∙ sets-append o1 (b + 3) y (z ++ [])
-    ∙ ap (λ (k : ℕ). sets (sets o1 (b + 3) y) (b + 3 + k) (z ++ [])) q
-    ∙ ap (λ (l : List ℕ). sets l (b + 3 + 3) (z ++ [])) (sym f)
-    ∙ ap (λ (k : ℕ). sets o2 k (z ++ [])) i
-    ∙ ap (sets o2 (b + 6)) (append-nil z)
-    ∙ sym g)
+    sym (corner-then x (y ∷ z ∷ []) o o1 b (and-left (isCorner x) (every isCorner (y ∷ z ∷ [])) w) e
+    ∙ corner-then y (z ∷ []) o1 o2 (b + 3) (and-left (isCorner y) (every isCorner (z ∷ [])) v) f
+    ∙ ap (λ (k : ℕ). sets o2 k (joined (z ∷ []))) i
+    ∙ corner-then z [] o2 o3 (b + 6) (and-left (isCorner z) true u) g)
 triangle-written (x ∷ y ∷ z ∷ u ∷ t) o o1 o2 o3 b h w e f g = absurd (let q : suc (suc (suc (suc (length t)))) ≡ 3 = h in omega arith)
 
 pub triangle-placed : (t : Ring) (o o1 o2 o3 l : List ℕ) (c f : ℕ) → length t ≡ 3 → every isCorner t ≡ true → o1 ≡ sets o (3 * c) (getD t 0 [])
     → o2 ≡ sets o1 (3 * c + 3) (getD t 1 []) → o3 ≡ sets o2 (3 * c + 6) (getD t 2 []) → Placed (t ∷ []) o o3 l (set l f 3) c f (c + 3) (f + 1)
 triangle-placed t o o1 o2 o3 l c f h w x y z =
     rw h at (placed-ring t o o3 l c f (triangle-written t o o1 o2 o3 (3 * c) h w x y z))
+
+quadrangle-written : (t : Ring) (o o1 o2 o3 o4 : List ℕ) (b : ℕ) → length t ≡ 4 → every isCorner t ≡ true → o1 ≡ sets o b (getD t 0 [])
+    → o2 ≡ sets o1 (b + 3) (getD t 1 []) → o3 ≡ sets o2 (b + 6) (getD t 2 []) → o4 ≡ sets o3 (b + 9) (getD t 3 []) → o4 ≡ sets o b (joined t)
+quadrangle-written [] o o1 o2 o3 o4 b h w e f g j = absurd (let z : _≡_ {A = ℕ} 0 4 = h in omega arith)
+quadrangle-written (x ∷ t) o o1 o2 o3 o4 b h w e f g j =
+    let i : b + 3 + 3 ≡ b + 6 = omega arith in
+    let k : b + 3 + 6 ≡ b + 9 = omega arith in
+    let v = and-right (isCorner x) (every isCorner t) w in
+    sym (corner-then x t o o1 b (and-left (isCorner x) (every isCorner t) w) e
+    ∙ sym (triangle-written t o1 o2 o3 o4 (b + 3) (let z : suc (length t) ≡ 4 = h in omega arith) v f (g ∙ ap (λ (n : ℕ). sets o2 n (getD t 1 [])) (sym i)) (j ∙ ap (λ (n : ℕ). sets o3 n (getD t 2 [])) (sym k))))
+
+pub quadrangle-placed : (t : Ring) (o o1 o2 o3 o4 l : List ℕ) (c f : ℕ) → length t ≡ 4 → every isCorner t ≡ true → o1 ≡ sets o (3 * c) (getD t 0 [])
+    → o2 ≡ sets o1 (3 * c + 3) (getD t 1 []) → o3 ≡ sets o2 (3 * c + 6) (getD t 2 []) → o4 ≡ sets o3 (3 * c + 9) (getD t 3 [])
+    → Placed (t ∷ []) o o4 l (set l f 4) c f (c + 4) (f + 1)
+quadrangle-placed t o o1 o2 o3 o4 l c f h w x y z u =
+    rw h at (placed-ring t o o4 l c f (quadrangle-written t o o1 o2 o3 o4 (3 * c) h w x y z u))
+
+-- the last test alone
+pub or-none : (b : Bool) → ((b || false) || (false || false)) ≡ b
+or-none true = refl
+or-none false = refl

@@ -60,12 +60,12 @@ pub removing-room : (cs s face o o' l l' : List ℕ) (c f from k : ℕ) → k < 
     → Removing cs s o o' l l' c f from k → Face face (getD s k 0) o' l' c f
 removing-room cs s face o o' l l' c f from k h e y r =
     let a : offsetOf s k + getD s k 0 ≤ sum s = sum-at s k h in
-    let b : 3 * sum s ≡ length cs = y .sound .adds in
+    let b : 3 * sum s ≡ length cs = y .fit .sound .adds in
     record {
-      least = y .least k h;
-      wide = ap length e ∙ face-length cs s (y .sound) k h;
+      least = y .fit .least k h;
+      wide = ap length e ∙ face-length cs s (y .fit .sound) k h;
       room = record {
-        small = y .most k h;
+        small = y .fit .most k h;
         corners = omega (arith, r .corners, r .offset, r .out-long, y .corners);
         sizes = omega (arith, r .faces, r .offset, r .lens-long, y .sizes);
       };
@@ -87,7 +87,7 @@ removing-turns cs s face o o' o'' l l' l'' c f c' f' from k h e y r p x z =
     let g : Ring = threes (faceOf cs s k) in
     let q : Placed (pieces g) o' o'' l' l'' c f c' f' = rw e at p in
     let t = took g (pieces g) o' o'' l' l'' c f c' f' (pieces-sane g) q in
-    let n : length g ≡ getD s k 0 = length-face cs s (y .sound) k h in
+    let n : length g ≡ getD s k 0 = length-face cs s (y .fit .sound) k h in
     let w : every isRing (piecesTo cs s k) ≡ true = pieces-rings (take k (rings s cs)) (every-take isRing k (rings s cs) (rings-are s cs)) in
     let v : offsetOf s (k + 1) ≡ offsetOf s k + getD s k 0 = offset-step s k h in
     record {

@@ -24,11 +24,9 @@ use Rattle.folded.proofs.Result.{every-pieces, count-pieces}
 -- the lists are long enough for every mesh
 pub scratch-ready : (cs s o l p q : List ℕ) → length p ≡ 12288 → length q ≡ 1365 → Ready cs s o l → Ready cs s p q
 scratch-ready cs s o l p q x z y = record {
-  sound = y .sound;
-  least = y .least;
-  most = y .most;
-  corners = omega (arith, y .sound .fits);
-  sizes = omega (arith, y .sound .fits);
+  fit = y .fit;
+  corners = omega (arith, y .fit .sound .fits);
+  sizes = omega (arith, y .fit .sound .fits);
 }
 
 -- c corners and f faces are written to p and q, which hold p' and q' then
@@ -45,25 +43,25 @@ module _ (cs s o l p p' q q' : List ℕ) (c f : ℕ) (y : Ready cs s o l) (x : l
 
   pub few-corners : 3 * c ≤ length cs
   few-corners =
-      omega (arith, w .more, count-pieces (rings s cs), ap sum (sizes-back s cs (le-of-eq (y .sound .adds))), y .sound .adds)
+      omega (arith, w .more, count-pieces (rings s cs), ap sum (sizes-back s cs (le-of-eq (y .fit .sound .adds))), y .fit .sound .adds)
 
   pub few-faces : 9 * f ≤ length cs
   few-faces =
       omega (arith, few-corners, w .most, w .more, faces-count ps (every-pieces isFace (rings s cs) (λ r. pieces-sane r .faces)))
 
   front : take (3 * c) p' ≡ each joined ps
-  front = ap (take (3 * c)) (w .corners) ∙ take-written p (each joined ps) (3 * c) flat (omega (arith, few-corners, y .sound .fits))
+  front = ap (take (3 * c)) (w .corners) ∙ take-written p (each joined ps) (3 * c) flat (omega (arith, few-corners, y .fit .sound .fits))
 
   count : length (map length ps) ≡ f
   count = omega (arith, length-map ps length, w .most)
 
   sizes-front : take f q' ≡ map length ps
-  sizes-front = ap (take f) (w .sizes) ∙ take-written q (map length ps) f count (omega (arith, few-faces, y .sound .fits))
+  sizes-front = ap (take f) (w .sizes) ∙ take-written q (map length ps) f count (omega (arith, few-faces, y .fit .sound .fits))
 
   pub pieces-sound : Sound (take (3 * c) p') (take f q')
   pieces-sound = record {
-    few = rw sizes-front (omega (arith, count, few-faces, y .sound .fits));
-    fits = rw front (omega (arith, flat, few-corners, y .sound .fits));
+    few = rw sizes-front (omega (arith, count, few-faces, y .fit .sound .fits));
+    fits = rw front (omega (arith, flat, few-corners, y .fit .sound .fits));
     adds = rw (front, sizes-front) (sym (length-flat ps whole));
   }
 

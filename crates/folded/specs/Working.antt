@@ -1,11 +1,31 @@
 -- What the functions of the crate hand to one another; a caller needs none of it. Assumes nothing.
 use Prim.Native.Nat.{ℕ, _+_, _*_, _≤_, _<_}
 use mathlib.Core.Path.{_≡_}
-use mathlib.Core.List.{List}
-use lib.ListN.{length, getD}
-use Rattle.folding.specs.Working.{Room}
+use mathlib.Core.Bool.{true, false}
+use mathlib.Core.List.{List, map}
+use lib.ListN.{length, getD, take}
+use lib.Dec.{eqb}
+use Rattle.lists.specs.Lists.{every}
+use Rattle.mesh.specs.Table.{kind, falls}
 use Rattle.mesh.specs.Face.{Sound}
+use Rattle.folding.specs.Working.{Room}
 use Rattle.folded.specs.declared.Removed.{Removed}
+
+-- the flat corners of a face of n corners
+pub record Corners (face : List ℕ) (n : ℕ) : Type 0 where
+  pub small : n ≤ 32
+  pub wide : length face ≡ 3 * n
+
+-- corners and sizes that add up, each face of 3 to 32 corners
+pub record Fit (cs s : List ℕ) : Type 0 where
+  pub sound : Sound cs s
+  pub least : (k : ℕ) → k < length s → 3 ≤ getD s k 0
+  pub most : (k : ℕ) → k < length s → getD s k 0 ≤ 32
+
+-- the first k sizes are those of triangles
+pub record Triangles (s : List ℕ) (k : ℕ) : Type 0 where
+  pub within : k ≤ length s
+  pub first : every (eqb 3) (take k s) ≡ true
 
 -- a face of n corners, three or more, and room for its pieces behind c corners and f faces
 pub record Face (face : List ℕ) (n : ℕ) (out lens : List ℕ) (c f : ℕ) : Type 0 where
@@ -13,13 +33,22 @@ pub record Face (face : List ℕ) (n : ℕ) (out lens : List ℕ) (c f : ℕ) : 
   pub wide : length face ≡ 3 * n
   pub room : Room n out lens c f
 
--- an accepted mesh's corners and sizes, and room for the pieces of all its faces
+-- such corners and sizes, and room for the pieces of all the faces
 pub record Ready (cs s out lens : List ℕ) : Type 0 where
-  pub sound : Sound cs s
-  pub least : (k : ℕ) → k < length s → 3 ≤ getD s k 0
-  pub most : (k : ℕ) → k < length s → getD s k 0 ≤ 32
+  pub fit : Fit cs s
   pub corners : length cs ≤ length out
   pub sizes : length cs < 9 * (length lens + 1)
+
+-- the same behind c corners and f faces
+pub record Behind (cs s out lens : List ℕ) (c f : ℕ) : Type 0 where
+  pub fit : Fit cs s
+  pub corners : 3 * c + length cs ≤ length out
+  pub sizes : 9 * f + length cs < 9 * (length lens + 1)
+
+-- the corners and sizes of an accepted mesh, whose faces are grouped, and room
+pub record Given (cs s out lens : List ℕ) : Type 0 where
+  pub ready : Ready cs s out lens
+  pub grouped : falls (map kind s) ≡ false
 
 -- a refusal: each count beside the number is 0
 abbrev pub refusedBy : ℕ → Removed

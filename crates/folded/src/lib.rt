@@ -7,12 +7,12 @@ ghost use mathlib.Core.Path.{_≡_};
 ghost use mathlib.Core.List.{[], _∷_, map};
 ghost use Prim.Native.Nat.{_+_, _*_, _<_, _≤_};
 ghost use lib.ListN.{length, take};
-ghost use Rattle.lists.specs.Lists.{each};
+ghost use Rattle.lists.specs.Lists.{some, each};
 ghost use Rattle.mesh.specs.Mesh.{meshOf, position, threes, rings};
 ghost use Rattle.grouping.specs.Push.{Placed};
 ghost use Rattle.folding.specs.Folding.{folded, trianglePieces, quadranglePieces, ringPieces, pieces};
 ghost use Rattle.folded.specs.Folded as want;
-ghost use Rattle.folded.specs.Working.{Face, Ready, refusedBy};
+ghost use Rattle.folded.specs.Working.{Corners, Fit, Triangles, Face, Ready, Given, Behind, refusedBy};
 use folding::Fold;
 use grouping::Filled;
 
@@ -66,8 +66,110 @@ fn refused(number: u32) -> Removed
     }
 }
 
-// The pieces of all faces go to lists of their own, and from there to the result, grouped.
+// What is left of the faces of an accepted mesh. Where none is folded, that is all of them, as they stand.
 fn remove(corners: &[u32], sizes: &[u32], newcorners: &mut [u32], newsizes: &mut [u32]) -> Filled
+    requires { ⌜ Given (now corners) (now sizes) (now newcorners) (now newsizes) ⌝ }
+    ensures { λ r. ⌜ Placed (want.removed (rings (now (sizes .entry)) (now (corners .entry)))) (now (newcorners .entry)) (now (newcorners .exit)) (now (newsizes .entry)) (now (newsizes .exit)) 0 0 (r .corners) (r .faces) ⌝ }
+{
+    if any_folded(corners, sizes) {
+        return remove_folded(corners, sizes, newcorners, newsizes);
+    }
+    keep_all(corners, sizes, newcorners, newsizes)
+}
+
+// Whether some face is folded.
+fn any_folded(corners: &[u32], sizes: &[u32]) -> bool
+    requires { ⌜ Fit (now corners) (now sizes) ⌝ }
+    ensures { λ r. ⌜ r ≡ some folded (rings (now (sizes .entry)) (now (corners .entry))) ⌝ }
+{
+    let mut from: usize = 0;
+    let mut k: usize = 0;
+    while k < sizes.len() {
+        let face = mesh::face_at(corners, sizes, k, from);
+        let n = sizes[k] as usize;
+        if is_folded(face, n) {
+            return true;
+        }
+        from += n;
+        k += 1;
+    }
+    false
+}
+
+// All faces, as they stand.
+fn keep_all(corners: &[u32], sizes: &[u32], newcorners: &mut [u32], newsizes: &mut [u32]) -> Filled
+    requires { ⌜ Ready (now corners) (now sizes) (now newcorners) (now newsizes) ⌝ }
+    ensures { λ r. ⌜ Placed (rings (now (sizes .entry)) (now (corners .entry))) (now (newcorners .entry)) (now (newcorners .exit)) (now (newsizes .entry)) (now (newsizes .exit)) 0 0 (r .corners) (r .faces) ⌝ }
+{
+    lists::put(corners, newcorners, 0);
+    lists::put(sizes, newsizes, 0);
+    Filled {
+        corners: corners.len() / 3,
+        faces: sizes.len(),
+    }
+}
+
+// The triangles stand first and leave only triangles: they go straight to the result, and what is left of the others behind them.
+fn remove_folded(
+    corners: &[u32],
+    sizes: &[u32],
+    newcorners: &mut [u32],
+    newsizes: &mut [u32],
+) -> Filled
+    requires { ⌜ Ready (now corners) (now sizes) (now newcorners) (now newsizes) ⌝ }
+    ensures { λ r. ⌜ Placed (want.removed (rings (now (sizes .entry)) (now (corners .entry)))) (now (newcorners .entry)) (now (newcorners .exit)) (now (newsizes .entry)) (now (newsizes .exit)) 0 0 (r .corners) (r .faces) ⌝ }
+{
+    let k = triangles(sizes);
+    let a = 9 * k;
+    let at = all_pieces(&corners[..a], &sizes[..k], newcorners, newsizes);
+    if k == sizes.len() {
+        return at;
+    }
+    remove_behind(&corners[a..], &sizes[k..], newcorners, newsizes, at)
+}
+
+// What is left of faces goes behind what is written.
+fn remove_behind(
+    corners: &[u32],
+    sizes: &[u32],
+    newcorners: &mut [u32],
+    newsizes: &mut [u32],
+    at: Filled,
+) -> Filled
+    requires { ⌜ Behind (now corners) (now sizes) (now newcorners) (now newsizes) (at .corners) (at .faces) ⌝ }
+    ensures { λ r. ⌜ Placed (want.removed (rings (now (sizes .entry)) (now (corners .entry)))) (now (newcorners .entry)) (now (newcorners .exit)) (now (newsizes .entry)) (now (newsizes .exit)) (at .corners) (at .faces) (r .corners) (r .faces) ⌝ }
+{
+    let c = at.corners;
+    let f = at.faces;
+    let b = 3 * c;
+    let left = remove_larger(corners, sizes, &mut newcorners[b..], &mut newsizes[f..]);
+    Filled {
+        corners: c + left.corners,
+        faces: f + left.faces,
+    }
+}
+
+// How many triangles stand first.
+fn triangles(sizes: &[u32]) -> usize
+    ensures { λ r. ⌜ Triangles (now (sizes .entry)) r ⌝ }
+{
+    let mut k: usize = 0;
+    while k < sizes.len() {
+        if sizes[k] != 3 {
+            return k;
+        }
+        k += 1;
+    }
+    k
+}
+
+// The pieces of all faces go to lists of their own, and from there to the result, grouped.
+fn remove_larger(
+    corners: &[u32],
+    sizes: &[u32],
+    newcorners: &mut [u32],
+    newsizes: &mut [u32],
+) -> Filled
     requires { ⌜ Ready (now corners) (now sizes) (now newcorners) (now newsizes) ⌝ }
     ensures { λ r. ⌜ Placed (want.removed (rings (now (sizes .entry)) (now (corners .entry)))) (now (newcorners .entry)) (now (newcorners .exit)) (now (newsizes .entry)) (now (newsizes .exit)) 0 0 (r .corners) (r .faces) ⌝ }
 {
@@ -77,6 +179,20 @@ fn remove(corners: &[u32], sizes: &[u32], newcorners: &mut [u32], newsizes: &mut
     let c = 3 * at.corners;
     let f = at.faces;
     grouping::push_all(&pieces[..c], &lens[..f], newcorners, newsizes)
+}
+
+// Whether a face of n corners is folded.
+fn is_folded(face: &[u32], n: usize) -> bool
+    requires { ⌜ Corners (now face) n ⌝ }
+    ensures { λ r. ⌜ r ≡ folded (threes (now (face .entry))) ⌝ }
+{
+    if n == 3 {
+        return degenerate_triangle(face);
+    }
+    if n == 4 {
+        return folded_quadrangle(face);
+    }
+    folded_ring(face, n)
 }
 
 // Whether a triangle is folded.
@@ -99,6 +215,54 @@ fn degenerate_triangle(face: &[u32]) -> bool
     false
 }
 
+// Whether a quadrangle is folded.
+fn folded_quadrangle(face: &[u32]) -> bool
+    requires { ⌜ length (now face) ≡ 12 ⌝ }
+    ensures { λ r. ⌜ r ≡ folded (threes (now (face .entry))) ⌝ }
+{
+    let a = face[0];
+    let b = face[3];
+    let c = face[6];
+    let d = face[9];
+    if a == b {
+        return true;
+    }
+    if a == c {
+        return true;
+    }
+    if a == d {
+        return true;
+    }
+    if b == c {
+        return true;
+    }
+    if b == d {
+        return true;
+    }
+    c == d
+}
+
+// Whether a larger face of n corners is folded.
+fn folded_ring(face: &[u32], n: usize) -> bool
+    requires { ⌜ Corners (now face) n ⌝ }
+    ensures { λ r. ⌜ r ≡ folded (threes (now (face .entry))) ⌝ }
+{
+    let places = places_of(face, n);
+    folding::first(&places[..n]) < n
+}
+
+// A triangle's corners, by value.
+fn tri_of(face: &[u32]) -> [[u32; 3]; 3]
+    requires { ⌜ length (now face) ≡ 9 ⌝ }
+    ensures { λ r. ⌜ r ≡ threes (now (face .entry)) ⌝ }
+{
+    [
+        [face[0], face[1], face[2]],
+        [face[3], face[4], face[5]],
+        [face[6], face[7], face[8]],
+    ]
+}
+
 // A quadrangle's corners, by value.
 fn quad_of(face: &[u32]) -> [[u32; 3]; 4]
     requires { ⌜ length (now face) ≡ 12 ⌝ }
@@ -114,7 +278,7 @@ fn quad_of(face: &[u32]) -> [[u32; 3]; 4]
 
 // The positions of a face's corners.
 fn places_of(face: &[u32], n: usize) -> [u32; 32]
-    requires { ⌜ (n ≤ 32) × (length (now face) ≡ 3 * n) ⌝ }
+    requires { ⌜ Corners (now face) n ⌝ }
     ensures { λ r. ⌜ take n r ≡ map position (threes (now (face .entry))) ⌝ }
 {
     let mut places = [0u32; 32];
@@ -128,7 +292,7 @@ fn places_of(face: &[u32], n: usize) -> [u32; 32]
 
 // A face's corners, as the front of a row.
 fn row_of(face: &[u32], n: usize) -> [[u32; 3]; 32]
-    requires { ⌜ (n ≤ 32) × (length (now face) ≡ 3 * n) ⌝ }
+    requires { ⌜ Corners (now face) n ⌝ }
     ensures { λ r. ⌜ take n r ≡ threes (now (face .entry)) ⌝ }
 {
     let mut row = [[0u32; 3]; 32];
@@ -141,7 +305,7 @@ fn row_of(face: &[u32], n: usize) -> [[u32; 3]; 32]
     row
 }
 
-// A triangle that a quadrangle has become, behind what is written.
+// A triangle, behind what is written.
 fn put_triangle(tri: [[u32; 3]; 3], out: &mut [u32], lens: &mut [u32], at: Filled) -> Filled
     requires { ⌜ (3 * (at .corners + 3) ≤ length (now out)) × (at .faces < length (now lens)) ⌝ }
     ensures { λ r. ⌜ Placed (tri ∷ []) (now (out .entry)) (now (out .exit)) (now (lens .entry)) (now (lens .exit)) (at .corners) (at .faces) (r .corners) (r .faces) ⌝ }
@@ -158,6 +322,24 @@ fn put_triangle(tri: [[u32; 3]; 3], out: &mut [u32], lens: &mut [u32], at: Fille
     }
 }
 
+// A quadrangle, behind what is written.
+fn put_quadrangle(quad: [[u32; 3]; 4], out: &mut [u32], lens: &mut [u32], at: Filled) -> Filled
+    requires { ⌜ (3 * (at .corners + 4) ≤ length (now out)) × (at .faces < length (now lens)) ⌝ }
+    ensures { λ r. ⌜ Placed (quad ∷ []) (now (out .entry)) (now (out .exit)) (now (lens .entry)) (now (lens .exit)) (at .corners) (at .faces) (r .corners) (r .faces) ⌝ }
+{
+    let c = at.corners;
+    let f = at.faces;
+    folding::put_corner(quad[0], out, 3 * c);
+    folding::put_corner(quad[1], out, 3 * c + 3);
+    folding::put_corner(quad[2], out, 3 * c + 6);
+    folding::put_corner(quad[3], out, 3 * c + 9);
+    lens[f] = 4;
+    Filled {
+        corners: c + 4,
+        faces: f + 1,
+    }
+}
+
 // A triangle, if it is not folded.
 fn triangle_pieces(face: &[u32], out: &mut [u32], lens: &mut [u32], at: Filled) -> Filled
     requires { ⌜ Face (now face) 3 (now out) (now lens) (at .corners) (at .faces) ⌝ }
@@ -166,7 +348,7 @@ fn triangle_pieces(face: &[u32], out: &mut [u32], lens: &mut [u32], at: Filled) 
     if degenerate_triangle(face) {
         return at;
     }
-    grouping::put_face(face, out, lens, at)
+    put_triangle(tri_of(face), out, lens, at)
 }
 
 // What is left of a quadrangle.
@@ -179,7 +361,7 @@ fn quadrangle_pieces(face: &[u32], out: &mut [u32], lens: &mut [u32], at: Filled
         Fold::Goes => at,
         Fold::WithoutQ1 => put_triangle(folding::without_q1(quad), out, lens, at),
         Fold::WithoutQ3 => put_triangle(folding::without_q3(quad), out, lens, at),
-        Fold::Stays => grouping::put_face(face, out, lens, at),
+        Fold::Stays => put_quadrangle(quad, out, lens, at),
     }
 }
 

@@ -1,7 +1,7 @@
 -- What is known of the pieces of a face: none is folded, each has three corners or more, there are no more corners than the face has,
 -- and each is a corner of the face. Assumes nothing.
 use mathlib.Core.Path.{_≡_, refl, sym, ap, _∙_}
-use mathlib.Core.Bool.{Bool, true, false, not}
+use mathlib.Core.Bool.{Bool, true, false, not, _||_}
 use mathlib.Core.List.{List, [], _∷_, _++_, map, map-append}
 use Prim.Native.Nat.{ℕ, suc, _+_, _-_, _≤_, _<_}
 use native.Mathlib.Omega.{arith}
@@ -10,7 +10,7 @@ use lib.Seq.{drop-drop}
 use lib.Dec.{leb, eqb}
 use borrow.Author.Tests.{le-leb, lt-leb, eqb-true, eqb-false, ne-eqb, eq-eqb}
 use Rattle.lists.specs.Lists.{every, only, sum}
-use Rattle.lists.proofs.Bools.{by-cases, and-both, and-left, and-right}
+use Rattle.lists.proofs.Bools.{by-cases, and-both, and-left, and-right, or-false-left, or-false-right}
 use Rattle.lists.proofs.Parts.{every-append, every-take, every-drop, sum-append}
 use Rattle.lists.proofs.Only.{only-append, every-self, every-only}
 use Rattle.mesh.specs.Mesh.{Corner, Ring, position}
@@ -212,6 +212,35 @@ module _ (a b c d : Corner) where
       by-cases (eqb (position d) (position a)) (λ da. less-q3 (rw (ac, bd, ab, bc, cd, da)) (eqb-false _ _ ab) (eqb-false _ _ ac) (eqb-false _ _ bc)) (λ da.
       stays (rw (ac, bd, ab, bc, cd, da)) (rw (ab, ac, ne-eqb (position a) (position d) (λ f. eqb-false _ _ da (sym f)), bc, bd, cd))))))))
 
+  -- a quadrangle that is not folded stays
+  quad-same : folded quad ≡ false → foldOf quad ≡ Stays
+  unfolding folded foldOf
+  quad-same e =
+      let from-a = eqb (position a) (position b) || (eqb (position a) (position c) || (eqb (position a) (position d) || false)) in
+      let from-b = eqb (position b) (position c) || (eqb (position b) (position d) || false) in
+      let from-c = eqb (position c) (position d) || false in
+      let l : from-a ≡ false = or-false-left from-a (from-b || (from-c || (false || false))) e in
+      let m : (from-b || (from-c || (false || false))) ≡ false = or-false-right from-a (from-b || (from-c || (false || false))) e in
+      let n : from-b ≡ false = or-false-left from-b (from-c || (false || false)) m in
+      let o : from-c ≡ false = or-false-left from-c (false || false) (or-false-right from-b (from-c || (false || false)) m) in
+      let ab = or-false-left (eqb (position a) (position b)) (eqb (position a) (position c) || (eqb (position a) (position d) || false)) l in
+      let acd = or-false-right (eqb (position a) (position b)) (eqb (position a) (position c) || (eqb (position a) (position d) || false)) l in
+      let ac = or-false-left (eqb (position a) (position c)) (eqb (position a) (position d) || false) acd in
+      let ad = or-false-left (eqb (position a) (position d)) false (or-false-right (eqb (position a) (position c)) (eqb (position a) (position d) || false) acd) in
+      let bc = or-false-left (eqb (position b) (position c)) (eqb (position b) (position d) || false) n in
+      let bd = or-false-left (eqb (position b) (position d)) false (or-false-right (eqb (position b) (position c)) (eqb (position b) (position d) || false) n) in
+      let cd = or-false-left (eqb (position c) (position d)) false o in
+      let da = ne-eqb (position d) (position a) (λ f. eqb-false (position a) (position d) ad (sym f)) in
+      rw (ac, bd, ab, bc, cd, da)
+
+pub quadrangle-same : (q : Ring) → length q ≡ 4 → folded q ≡ false → quadranglePieces q ≡ q ∷ []
+quadrangle-same [] h e = absurd (let z : _≡_ {A = ℕ} 0 4 = h in omega arith)
+quadrangle-same (a ∷ []) h e = absurd (let z : _≡_ {A = ℕ} 1 4 = h in omega arith)
+quadrangle-same (a ∷ b ∷ []) h e = absurd (let z : _≡_ {A = ℕ} 2 4 = h in omega arith)
+quadrangle-same (a ∷ b ∷ c ∷ []) h e = absurd (let z : _≡_ {A = ℕ} 3 4 = h in omega arith)
+quadrangle-same (a ∷ b ∷ c ∷ d ∷ []) h e = quadrangle-left (a ∷ b ∷ c ∷ d ∷ []) Stays (sym (quad-same a b c d e))
+quadrangle-same (a ∷ b ∷ c ∷ d ∷ x ∷ q) h e = absurd (let z : suc (suc (suc (suc (suc (length q))))) ≡ 4 = h in omega arith)
+
 pub quadrangle-sane : (q : Ring) → length q ≡ 4 → Sane q (quadranglePieces q)
 quadrangle-sane [] h = absurd (let z : _≡_ {A = ℕ} 0 4 = h in omega arith)
 quadrangle-sane (a ∷ []) h = absurd (let z : _≡_ {A = ℕ} 1 4 = h in omega arith)
@@ -242,3 +271,20 @@ pieces-sane r =
     by-cases (eqb (length r) 4)
     (λ f. let h = eqb-true _ _ f in rw (pieces-quadrangle r h) (quadrangle-sane r h))
     (λ f. rw (pieces-ring r (eqb-false _ _ e) (eqb-false _ _ f)) (ring-sane r)))
+
+-- a face that is not folded stays as it is
+pub pieces-same : (r : Ring) → 3 ≤ length r → folded r ≡ false → pieces r ≡ r ∷ []
+pieces-same r h e =
+    by-cases (eqb (length r) 3)
+    (λ t. pieces-triangle r (eqb-true _ _ t) ∙ triangle-stays r e)
+    (λ t.
+    by-cases (eqb (length r) 4)
+    (λ f. pieces-quadrangle r (eqb-true _ _ f) ∙ quadrangle-same r (eqb-true _ _ f) e)
+    (λ f. pieces-ring r (eqb-false _ _ t) (eqb-false _ _ f) ∙ ring-stays r e h))
+
+-- a triangle leaves triangles only
+pub triangle-triangles : (r : Ring) → length r ≡ 3 → every (λ (p : Ring). eqb (length p) 3) (pieces r) ≡ true
+triangle-triangles r h =
+    by-cases (folded r)
+    (λ e. rw (pieces-triangle r h, triangle-goes r e))
+    (λ e. rw (pieces-triangle r h, triangle-stays r e) (rw (eq-eqb (length r) 3 h)))

@@ -83,7 +83,7 @@ pub fn without_q3(quad: [[u32; 3]; 4]) -> [[u32; 3]; 3]
 }
 
 // The first place after i with i's position, or how many there are.
-pub fn mate(places: &[u32], i: usize) -> usize
+fn mate(places: &[u32], i: usize) -> usize
     requires { ⌜ i < length (now places) ⌝ }
     ensures { λ r. ⌜ r ≡ mateOf (now (places .entry)) i ⌝ }
 {

@@ -2,10 +2,10 @@
 use mathlib.Core.Path.{_≡_, refl, sym, ap, _∙_}
 use mathlib.Core.List.{List, [], _∷_, _++_, map, append-nil}
 use Prim.Native.Nat.{ℕ, zero, suc, _+_, _-_, _≤_, _<_}
-use native.Mathlib.Nat.{zero-add, sub-zero}
+use native.Mathlib.Nat.{zero-add, add-zero, add-suc, sub-zero}
 use native.Mathlib.Omega.{arith}
-use lib.ListN.{length, getD, take, drop, set, length-drop}
-use lib.Seq.{sets, length-take-le, getD-take, getD-drop, drop-length, take-nil, take-append-seam}
+use lib.ListN.{length, getD, take, drop, set, length-drop, take-append-drop}
+use lib.Seq.{sets, length-take-le, getD-take, getD-drop, drop-length, take-nil, take-append-seam, take-set-le, drop-set-add}
 use Rattle.lists.proofs.Writing.{Copying, copy-turns, sets-front}
 
 module _ {A : Type 0} where
@@ -42,6 +42,18 @@ module _ {A : Type 0} where
   drop-take l (suc j) zero = rw (let z : 0 - suc j ≡ 0 = omega arith in z)
   drop-take [] (suc j) (suc n) = sym (take-nil (suc n - suc j))
   drop-take (x ∷ l) (suc j) (suc n) = rw (let z : suc n - suc j ≡ n - j = omega arith in z) (drop-take l j n)
+
+  sets-tail-from : (l : List A) (a i : ℕ) (vs : List A) → take a l ++ sets (drop a l) i vs ≡ sets l (a + i) vs
+  sets-tail-from l a i [] = take-append-drop a l
+  sets-tail-from l a i (v ∷ vs) =
+      ap (λ (t : List A). take a l ++ sets t (suc i) vs) (sym (drop-set-add a l i v))
+      ∙ ap (λ (t : List A). t ++ sets (drop a (set l (a + i) v)) (suc i) vs) (sym (take-set-le a l (a + i) v (omega arith)))
+      ∙ sets-tail-from (set l (a + i) v) a (suc i) vs
+      ∙ ap (λ (k : ℕ). sets (set l (a + i) v) k vs) (add-suc a i)
+
+  -- what is written to a list from a on is written to the front of what stands there
+  pub sets-tail : (l : List A) (a : ℕ) (vs : List A) → take a l ++ sets (drop a l) 0 vs ≡ sets l a vs
+  sets-tail l a vs = sets-tail-from l a 0 vs ∙ ap (λ (k : ℕ). sets l k vs) (add-zero a)
 
 module _ {A B : Type 0} (f : A → B) where
   pub map-take : (n : ℕ) (l : List A) → map f (take n l) ≡ take n (map f l)

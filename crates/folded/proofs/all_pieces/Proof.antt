@@ -18,7 +18,7 @@ loop-holds : tie.Need-loop-holds Inv-loop μ-loop
 loop-holds c = removing-begins _ _ _ _
 
 face-at-requires : tie.Need-face-at-requires Inv-loop μ-loop
-face-at-requires c κs = record { sound = c .before .before .before .before .before .before .pre .sound; is-face = c .loop-test .taken; offset = c .before .loop .inv .offset }
+face-at-requires c κs = record { sound = c .before .before .before .before .before .before .pre .fit .sound; is-face = c .loop-test .taken; offset = c .before .loop .inv .offset }
 
 mul-n : tie.Need-mul-n Inv-loop μ-loop
 mul-n c = search needs
@@ -35,7 +35,7 @@ face-pieces-requires c κs =
 
 add-from : tie.Need-add-from Inv-loop μ-loop
 add-from c =
-    omega (arith, face-fits _ _ (c .before .before .before .before .before .before .before .before .before .before .before .before .before .before .before .pre .sound) (c .before .before .before .before .before .before .before .before .before .before .loop .k) (c .before .before .before .before .before .before .before .before .before .loop-test .taken), c .before .before .before .before .before .before .before .before .before .before .loop .inv .offset)
+    omega (arith, face-fits _ _ (c .before .before .before .before .before .before .before .before .before .before .before .before .before .before .before .pre .fit .sound) (c .before .before .before .before .before .before .before .before .before .before .loop .k) (c .before .before .before .before .before .before .before .before .before .loop-test .taken), c .before .before .before .before .before .before .before .before .before .before .loop .inv .offset)
 
 add-k : tie.Need-add-k Inv-loop μ-loop
 add-k c = search needs

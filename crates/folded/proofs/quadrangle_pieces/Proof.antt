@@ -4,7 +4,7 @@ use mathlib.Core.List.{[], _∷_}
 use Rattle.mesh.specs.Mesh.{Ring}
 use Rattle.grouping.proofs.Placing.{placed-none}
 use Rattle.folding.specs.Folding.{withoutQ1, withoutQ3}
-use Rattle.folded.proofs.OneFace.{placed-as, face-room, quad-left}
+use Rattle.folded.proofs.OneFace.{placed-as, quad-left}
 use borrow.Author.Needs.{needs}
 use Rattle.folded.proofs.quadrangle_pieces.Statement.{statement}
 use Rattle.folded.proofs.quadrangle_pieces.Tie as tie
@@ -39,8 +39,8 @@ put-triangle-requires-2 c κs = search needs
 enum-told-4 : tie.Need-enum-told-4
 enum-told-4 c = search needs
 
-put-face-requires : tie.Need-put-face-requires
-put-face-requires c κs = face-room _ _ _ _ _ _ (c .before .before .before .before .before .before .before .before .before .pre)
+put-quadrangle-requires : tie.Need-put-quadrangle-requires
+put-quadrangle-requires c κs = search needs
 
 returns : tie.Need-returns
 returns c =
@@ -76,7 +76,8 @@ same-length-6 c = search needs
 
 returns-4 : tie.Need-returns-4
 returns-4 c =
-    placed-as (quad-left (c .before .before .before .before .before .before .before .before .before .before .before .before .before .before .args .face .now) (c .before .before .before .before .before .before .before .before .before .before .quad-of .result) _ _ (c .before .before .before .before .before .before .before .before .before .before .quad-of .ensures) (c .before .before .before .before .before .before .before .before .before .degenerate-quadrangle .ensures) (c .before .before .before .before .before .before .before .enum-told4 .given .1)) (c .before .before .before .before .put-face .ensures)
+    let e = c .before .before .before .before .before .before .before .before .before .before .quad-of .ensures in
+    placed-as (quad-left (c .before .before .before .before .before .before .before .before .before .before .before .before .before .before .args .face .now) (c .before .before .before .before .before .before .before .before .before .before .quad-of .result) _ _ e (c .before .before .before .before .before .before .before .before .before .degenerate-quadrangle .ensures) (c .before .before .before .before .before .before .before .enum-told4 .given .1) ∙ ap (λ (t : Ring). t ∷ []) (sym e)) (c .before .before .before .before .put-quadrangle .ensures)
 
 pub quadrangle-pieces-spec : {M : Type 1} → statement M
 quadrangle-pieces-spec =
@@ -92,7 +93,7 @@ quadrangle-pieces-spec =
     without-q3-requires
     put-triangle-requires-2
     enum-told-4
-    put-face-requires
+    put-quadrangle-requires
     returns
     same-length
     same-length-2

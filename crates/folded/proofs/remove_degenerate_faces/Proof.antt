@@ -1,6 +1,6 @@
 -- `folded::remove_degenerate_faces` meets its contract: each way out gives its row of the table, and 0 the faces that are left. Assumes nothing.
 use mathlib.Core.Path.{sym, _∙_}
-use Rattle.folded.proofs.Answer.{refused-mesh, refused-corners, refused-sizes, ready, done}
+use Rattle.folded.proofs.Answer.{refused-mesh, refused-corners, refused-sizes, given, done}
 use borrow.Author.Needs.{needs}
 use Rattle.folded.proofs.remove_degenerate_faces.Statement.{statement}
 use Rattle.folded.proofs.remove_degenerate_faces.Tie as tie
@@ -31,7 +31,7 @@ returns-3 c =
 
 remove-requires : tie.Need-remove-requires
 remove-requires c κs =
-    ready _ _ _ (sym (c .before .before .before .before .before .number .ensures) ∙ c .before .before .before .before .if1 .left) (c .before .before .before .if2 .left) (c .before .before .if3 .left)
+    given _ _ _ (sym (c .before .before .before .before .before .number .ensures) ∙ c .before .before .before .before .if1 .left) (c .before .before .before .if2 .left) (c .before .before .if3 .left)
 
 same-length : tie.Need-same-length
 same-length c = search needs

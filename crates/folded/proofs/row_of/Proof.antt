@@ -58,10 +58,10 @@ loop-less : tie.Need-loop-less Inv-loop μ-loop
 loop-less c = search needs
 
 loop-again : tie.Need-loop-again Inv-loop μ-loop
-loop-again c = row-turn (c .before .before .before .before .before .args .face .now) (c .before .before .before .before .before .args .n) (c .before .before .before .before .before .pre .1) _ _ _ (c .before .before .before .loop-test .taken) (c .before .before .before .before .loop .inv)
+loop-again c = row-turn (c .before .before .before .before .before .args .face .now) (c .before .before .before .before .before .args .n) (c .before .before .before .before .before .pre .wide) _ _ _ (c .before .before .before .loop-test .taken) (c .before .before .before .before .loop .inv)
 
 returns : tie.Need-returns Inv-loop μ-loop
-returns c = row-end (c .before .before .args .face .now) (c .before .before .args .n) (c .before .before .pre .1) _ _ _ (omega arith) (c .loop-test .left) (c .before .loop .inv)
+returns c = row-end (c .before .before .args .face .now) (c .before .before .args .n) (c .before .before .pre .wide) _ _ _ (omega arith) (c .loop-test .left) (c .before .loop .inv)
 
 pub row-of-spec : {M : Type 1} → statement M
 row-of-spec =

@@ -1,0 +1,111 @@
+-- A mesh in which no face is folded: how that is seen, and that all its faces stay as they stand. Assumes nothing.
+use mathlib.Core.Path.{_≡_, refl, sym, ap, _∙_}
+use mathlib.Core.Bool.{Bool, true, false}
+use mathlib.Core.List.{List, [], _∷_, map}
+use Prim.Native.Nat.{ℕ, suc, _+_, _*_, _/_, _≤_, _<_}
+use native.Mathlib.Nat.{le-of-eq}
+use native.Mathlib.Omega.{arith}
+use lib.ListN.{length, getD, take}
+use lib.Seq.{sets}
+use lib.Dec.{ltb}
+use borrow.Author.Tests.{le-leb, leb-true, ltb-true, ltb-false}
+use Rattle.lists.specs.Lists.{every, some, each, sum}
+use Rattle.lists.proofs.Bools.{by-cases, and-both, and-left, and-right, or-false-left, or-false-right}
+use Rattle.lists.proofs.Parts.{Searching, search-begins, search-turns, search-finds, search-ends}
+use Rattle.mesh.specs.Mesh.{Ring, position, threes, rings}
+use Rattle.mesh.specs.Table.{kind, falls}
+use Rattle.mesh.specs.Face.{faceOf, offsetOf, Sound}
+use Rattle.mesh.proofs.Corners.{length-threes}
+use Rattle.mesh.proofs.Faces.{length-rings, getD-rings, face-length, offset-step, sizes-back, corners-back}
+use Rattle.grouping.specs.Push.{Placed, pushed}
+use Rattle.grouping.proofs.Pushed.{pushed-same}
+use Rattle.folding.specs.Folding.{folded, firstOf, firstIn, pieces}
+use Rattle.folding.proofs.Search.{folded-found, folded-missing}
+use Rattle.folding.proofs.Pieces.{isFace, pieces-same}
+use Rattle.folded.specs.Folded.{removed}
+use Rattle.folded.specs.Working.{Corners, Fit, Given}
+
+-- ---- one face
+
+-- the search in a larger face says whether it is folded
+pub ring-folded : (face ps : List ℕ) (n i : ℕ) → Corners face n → take n ps ≡ map position (threes face) → i ≡ firstOf (take n ps) → ltb i n ≡ folded (threes face)
+ring-folded face ps n i h e f =
+    let c : length (threes face) ≡ n = length-threes face ∙ (omega (arith, h .wide)) in
+    let z : i ≡ firstIn (threes face) = f ∙ ap firstOf e in
+    by-cases (ltb i n)
+    (λ t. t ∙ sym (folded-found (threes face) (let q : i < n = ltb-true i n t in omega arith)))
+    (λ t. t ∙ sym (folded-missing (threes face) (let q : n ≤ i = ltb-false i n t in omega arith)))
+
+-- ---- all faces, one by one: none of the first k is folded
+
+pub record Looking (cs s : List ℕ) (from k : ℕ) : Type 0 where
+  pub offset : from ≡ offsetOf s k
+  pub search : Searching folded (rings s cs) k
+
+pub looking-begins : (cs s : List ℕ) → Looking cs s 0 0
+looking-begins cs s = record { offset = refl; search = search-begins folded [] (rings s cs) }
+
+pub looking-face : (cs s face : List ℕ) (k : ℕ) → Fit cs s → k < length s → face ≡ faceOf cs s k → Corners face (getD s k 0)
+looking-face cs s face k y h e = record { small = y .most k h; wide = ap length e ∙ face-length cs s (y .sound) k h }
+
+face-is : (cs s face : List ℕ) (k : ℕ) (b : Bool) → k < length s → face ≡ faceOf cs s k → b ≡ folded (threes face) → folded (getD (rings s cs) k []) ≡ b
+face-is cs s face k b h e f = ap folded (getD-rings s cs k h ∙ ap threes (sym e)) ∙ sym f
+
+pub looking-turns : (cs s face : List ℕ) (from k : ℕ) (b : Bool) → k < length s → face ≡ faceOf cs s k → b ≡ folded (threes face) → b ≡ false
+    → Looking cs s from k → Looking cs s (from + getD s k 0) (k + 1)
+looking-turns cs s face from k b h e f z l = record {
+  offset = omega (arith, l .offset, offset-step s k h);
+  search = search-turns folded [] (rings s cs) k (rw (length-rings s cs) h) (face-is cs s face k b h e f ∙ z) (l .search);
+}
+
+pub looking-finds : (cs s face : List ℕ) (k : ℕ) (b : Bool) → k < length s → face ≡ faceOf cs s k → b ≡ folded (threes face) → b ≡ true → true ≡ some folded (rings s cs)
+looking-finds cs s face k b h e f z = search-finds folded [] (rings s cs) k (rw (length-rings s cs) h) (face-is cs s face k b h e f ∙ z)
+
+pub looking-ends : (cs s : List ℕ) (from k : ℕ) → length s ≤ k → Looking cs s from k → false ≡ some folded (rings s cs)
+looking-ends cs s from k h l = search-ends folded [] (rings s cs) k (rw (length-rings s cs) h) (l .search)
+
+-- ---- where none is folded
+
+each-same : (fs : List Ring) → every isFace fs ≡ true → some folded fs ≡ false → each pieces fs ≡ fs
+each-same [] e h = refl
+each-same (r ∷ fs) e h =
+    rw (pieces-same r (leb-true 3 (length r) (and-left (isFace r) (every isFace fs) e)) (or-false-left (folded r) (some folded fs) h))
+    (ap (λ (l : List Ring). r ∷ l) (each-same fs (and-right (isFace r) (every isFace fs) e) (or-false-right (folded r) (some folded fs) h)))
+
+-- faces of three corners or more, by their sizes
+faces-of : (fs : List Ring) → ((k : ℕ) → k < length (map length fs) → 3 ≤ getD (map length fs) k 0) → every isFace fs ≡ true
+faces-of [] f = refl
+faces-of (r ∷ fs) f =
+    and-both (isFace r) (every isFace fs)
+    (le-leb 3 (length r) (f 0 (omega arith)))
+    (faces-of fs (λ k h. f (suc k) (let g : k < length (map length fs) = h in omega arith)))
+
+pub removed-same : (cs s o l : List ℕ) → Given cs s o l → some folded (rings s cs) ≡ false → removed (rings s cs) ≡ rings s cs
+unfolding removed
+removed-same cs s o l g h =
+    let b : map length (rings s cs) ≡ s = sizes-back s cs (le-of-eq (g .ready .fit .sound .adds)) in
+    let e : every isFace (rings s cs) ≡ true = faces-of (rings s cs) (rw b (g .ready .fit .least)) in
+    ap pushed (each-same (rings s cs) e h)
+    ∙ pushed-same (rings s cs) e (ap (λ (t : List ℕ). falls (map kind t)) b ∙ g .grouped)
+
+-- all faces are written as they stand
+pub kept-all : (cs s o o' l l' : List ℕ) → Sound cs s → o' ≡ sets o 0 cs → l' ≡ sets l 0 s → Placed (rings s cs) o o' l l' 0 0 (length cs / 3) (length s)
+kept-all cs s o o' l l' y e f =
+    let b : map length (rings s cs) ≡ s = sizes-back s cs (le-of-eq (y .adds)) in
+    record {
+      corners = e ∙ ap (sets o 0) (sym (corners-back s cs (y .adds)));
+      sizes = f ∙ ap (sets l 0) (sym b);
+      more = omega (arith, ap sum b, y .adds);
+      most = omega (arith, length-rings s cs);
+    }
+
+-- no more faces than a third of the corners
+pub faces-few : (cs s : List ℕ) → Fit cs s → 9 * length s ≤ length cs
+faces-few cs s y = omega (arith, least-sum s (y .least), y .sound .adds)
+  where
+    least-sum : (l : List ℕ) → ((k : ℕ) → k < length l → 3 ≤ getD l k 0) → 3 * length l ≤ sum l
+    least-sum [] f = omega arith
+    least-sum (n ∷ l) f =
+        let a : 3 ≤ n = f 0 (omega arith) in
+        let b : 3 * length l ≤ sum l = least-sum l (λ k h. f (suc k) (let g : k < length l = h in omega arith)) in
+        omega arith

@@ -1,0 +1,72 @@
+-- `folded::remove_behind` meets its contract: what is written to all that stands behind is written behind. Assumes nothing.
+use Rattle.folded.proofs.TwoParts.{left-corners, left-faces}
+use Rattle.folded.proofs.TwoParts.{placed-tail}
+use native.Mathlib.Omega.{arith}
+use borrow.Author.Needs.{needs}
+use Rattle.folded.proofs.remove_behind.Statement.{statement}
+use Rattle.folded.proofs.remove_behind.Tie as tie
+
+mul-b : tie.Need-mul-b
+mul-b c = search needs
+
+mul-remove-larger : tie.Need-mul-remove-larger
+mul-remove-larger c = search needs
+
+sub-remove-larger : tie.Need-sub-remove-larger
+sub-remove-larger c = search needs
+
+part-remove-larger-start : tie.Need-part-remove-larger-start
+part-remove-larger-start c = search needs
+
+part-remove-larger-end : tie.Need-part-remove-larger-end
+part-remove-larger-end c = search needs
+
+mul-remove-larger-2 : tie.Need-mul-remove-larger-2
+mul-remove-larger-2 c = search needs
+
+sub-remove-larger-2 : tie.Need-sub-remove-larger-2
+sub-remove-larger-2 c = search needs
+
+part-remove-larger-start-2 : tie.Need-part-remove-larger-start-2
+part-remove-larger-start-2 c = search needs
+
+part-remove-larger-end-2 : tie.Need-part-remove-larger-end-2
+part-remove-larger-end-2 c = search needs
+
+remove-larger-requires : tie.Need-remove-larger-requires
+remove-larger-requires c κs = search needs
+
+add-t10 : tie.Need-add-t10
+add-t10 c = omega (arith, left-corners _ _ _ _ _ _ _ _ (c .before .before .before .before .before .before .before .before .before .before .before .before .pre .fit) (c .before .before .before .before .before .remove-larger .ensures))
+
+add-t17 : tie.Need-add-t17
+add-t17 c = omega (arith, left-faces _ _ _ _ _ _ _ _ (c .before .before .before .before .before .before .before .before .before .before .before .before .before .pre .fit) (c .before .before .before .before .before .before .remove-larger .ensures))
+
+same-length : tie.Need-same-length
+same-length c = search needs
+
+same-length-2 : tie.Need-same-length-2
+same-length-2 c = search needs
+
+returns : tie.Need-returns
+returns c = placed-tail _ _ _ _ _ _ _ _ _ (c .before .before .before .before .before .before .remove-larger .ensures)
+
+pub remove-behind-spec : {M : Type 1} → statement M
+remove-behind-spec =
+    tie.close
+    (tie.spec
+    mul-b
+    mul-remove-larger
+    sub-remove-larger
+    part-remove-larger-start
+    part-remove-larger-end
+    mul-remove-larger-2
+    sub-remove-larger-2
+    part-remove-larger-start-2
+    part-remove-larger-end-2
+    remove-larger-requires
+    add-t10
+    add-t17
+    same-length
+    same-length-2
+    returns)
