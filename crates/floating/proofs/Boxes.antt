@@ -87,7 +87,7 @@ module _ (s : List Float) where
 
 -- ---- the scaled list, of which the first i points are written
 
-length-coordinates : (ps : List Point) → length (each coordinates ps) ≡ 3 * length ps
+pub length-coordinates : (ps : List Point) → length (each coordinates ps) ≡ 3 * length ps
 length-coordinates [] = refl
 length-coordinates (p ∷ ps) = let e : length (each coordinates ps) ≡ 3 * length ps = length-coordinates ps in omega arith
 

@@ -1,14 +1,16 @@
 -- What the functions under the call ask and leave, for one list. Assumes nothing.
 use mathlib.Core.Path.{_≡_}
 use mathlib.Core.Bool.{Bool, true, false}
-use mathlib.Core.List.{List}
-use Prim.Native.Nat.{ℕ, _*_, _≤_, _<_}
+use mathlib.Core.List.{List, [], _∷_}
+use Prim.Native.Nat.{ℕ, _+_, _*_, _/_, _%_, _≤_, _<_}
 use lib.ListN.{length, getD}
 use lib.Seq.{slice}
 use lib.Ieee.{Float}
 use Rattle.lists.specs.Lists.{some, has}
-use Rattle.floating.specs.Limits.{distant}
+use Rattle.mesh.specs.Mesh.{Corner, position, texture, normal, missing}
+use Rattle.floating.specs.Limits.{unfit, boundless, distant}
 use Rattle.merging.specs.Centre.{representative, sentTo}
+use Rattle.merging.specs.Merging.{unlessMissing}
 
 -- n points of width w in the list s, and a group of them at the places from `from` to below `to` of `order`
 pub record Grouped (w n : ℕ) (s : List Float) (order : List ℕ) (from to : ℕ) : Type 0 where
@@ -41,3 +43,24 @@ pub record Settled (n : ℕ) (to : ℕ → ℕ) (map map' : List ℕ) : Type 0 w
   pub long : length map' ≡ length map
   pub each : (k : ℕ) → k < n → getD map' k 0 ≡ to k
   pub small : (k : ℕ) → k < n → getD map' k 0 < n
+
+-- positions that rows 1, 2 and 7 let through, with a tolerance that row 6 does
+pub record Scalable (s : List Float) (t : Float) : Type 0 where
+  pub few : length s ≤ 6144
+  pub even : length s % 3 ≡ 0
+  pub bounded : some boundless s ≡ false
+  pub fit : unfit t ≡ false
+
+-- a corner by the three maps
+unfoldable pub sentCorner : List ℕ → List ℕ → List ℕ → Corner → Corner
+sentCorner p t n c =
+    getD p (position c) 0 ∷ unlessMissing (λ i. getD t i 0) (texture c) ∷ unlessMissing (λ i. getD n i 0) (normal c) ∷ []
+
+-- corners whose indices the maps have
+pub record Indexed (cs p t n out : List ℕ) : Type 0 where
+  pub even : length cs % 3 ≡ 0
+  pub few : length cs ≤ 12288
+  pub room : length cs ≤ length out
+  pub positions : (k : ℕ) → k < length cs / 3 → getD cs (3 * k) 0 < length p
+  pub textures : (k : ℕ) → k < length cs / 3 → (getD cs (3 * k + 1) 0 ≡ missing → ⊥) → getD cs (3 * k + 1) 0 < length t
+  pub normals : (k : ℕ) → k < length cs / 3 → (getD cs (3 * k + 2) 0 ≡ missing → ⊥) → getD cs (3 * k + 2) 0 < length n

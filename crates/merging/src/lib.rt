@@ -3,20 +3,25 @@
 // The Rust's `create_blocks`, `create_adjacency` and `create_components` are the crate `nearby`; its `centralize` is here, and so
 // is what is done for each of the three lists.
 ghost use mathlib.Core.Path.{_≡_};
-ghost use mathlib.Core.Bool.{Bool, true, false};
-ghost use mathlib.Core.List.{List, [], _∷_};
-ghost use Prim.Native.Nat.{ℕ, _+_, _*_, _≤_, _<_};
+ghost use mathlib.Core.Bool.{Bool, true, false, _||_};
+ghost use mathlib.Core.List.{List, [], _∷_, map};
+ghost use Prim.Native.Nat.{ℕ, _+_, _*_, _/_, _≤_, _<_};
 ghost use lib.ListN.{length, getD};
-ghost use lib.Seq.{slice};
+ghost use lib.Seq.{slice, sets};
 ghost use lib.Ieee.{Float};
+ghost use Rattle.lists.specs.Lists.{some, joined};
+ghost use Rattle.mesh.specs.Mesh.{meshOf, missing, threes};
+ghost use Rattle.floating.specs.Limits.{boundless, distant};
 ghost use Rattle.floating.specs.Points.{leading};
+ghost use Rattle.floating.specs.Scaling.{scaledList};
 ghost use Rattle.nearby.specs.Pairs.{comparedPairs};
 ghost use Rattle.nearby.specs.Walk.{groups};
 ghost use Rattle.nearby.specs.Engine.{nearBy, Listed};
 ghost use Rattle.merging.specs.Centre as centre;
-ghost use Rattle.merging.specs.Merging.{mergedTo};
-ghost use Rattle.merging.specs.Working.{Grouped, Sent, Mergeable, Settled};
+ghost use Rattle.merging.specs.Merging.{mergeNumber, mergedTo, unlessMissing, PutTogether};
+ghost use Rattle.merging.specs.Working.{Grouped, Sent, Mergeable, Settled, Scalable, Indexed, sentCorner};
 use floating::Point;
+use mesh::MISSING;
 
 // The number, and how many pairs were compared among positions, texture points and normals.
 pub struct Merged {
@@ -24,6 +29,196 @@ pub struct Merged {
     pub positions: usize,
     pub textures: usize,
     pub normals: usize,
+}
+
+// Takes the mesh in five lists and a tolerance, and lends `out` for the new corners, which needs the room of the corners; the
+// attribute lists and the face sizes don't change. Answers 0 and how many pairs were compared in each list; or 1 to 5 as the mesh
+// earns, 6 for the tolerance, 7 for a coordinate, 8 for a texture or normal coordinate too large for the tolerance, or 9 where
+// `out` is too short, with counts of 0 and nothing written.
+pub fn put_together_same_attrs(
+    positions: &[f64],
+    textures: &[f64],
+    normals: &[f64],
+    corners: &[u32],
+    sizes: &[u32],
+    tolerance: f64,
+    out: &mut [u32],
+) -> Merged
+    ensures { λ r. ⌜ PutTogether (meshOf (now (positions .entry)) (now (textures .entry)) (now (normals .entry)) (now (corners .entry)) (now (sizes .entry))) tolerance (now (out .entry)) r (now (out .exit)) ⌝ }
+{
+    let number = number(
+        positions,
+        textures,
+        normals,
+        corners,
+        sizes,
+        tolerance,
+        out.len(),
+    );
+    if number != 0 {
+        return Merged {
+            number: number,
+            positions: 0,
+            textures: 0,
+            normals: 0,
+        };
+    }
+    merge(positions, textures, normals, corners, sizes, tolerance, out)
+}
+
+// ---- the number
+
+// The first row of 1 to 9 whose rule says so, or 0; `room` is that of the lent list of corners.
+pub fn number(
+    positions: &[f64],
+    textures: &[f64],
+    normals: &[f64],
+    corners: &[u32],
+    sizes: &[u32],
+    tolerance: f64,
+    room: usize,
+) -> u32
+    ensures { λ r. ⌜ r ≡ mergeNumber (meshOf (now (positions .entry)) (now (textures .entry)) (now (normals .entry)) (now (corners .entry)) (now (sizes .entry))) tolerance room ⌝ }
+{
+    let number = mesh::number(positions, textures, normals, corners, sizes);
+    if number != 0 {
+        return number;
+    }
+    if floating::is_unfit(tolerance) {
+        return 6;
+    }
+    if any_boundless(positions, textures, normals) {
+        return 7;
+    }
+    if any_distant(textures, normals, tolerance) {
+        return 8;
+    }
+    if room < corners.len() {
+        return 9;
+    }
+    0
+}
+
+// Row 7, over all three lists, unused entries too.
+fn any_boundless(positions: &[f64], textures: &[f64], normals: &[f64]) -> bool
+    ensures { λ r. ⌜ r ≡ (some boundless (now (positions .entry)) || some boundless (now (textures .entry)) || some boundless (now (normals .entry))) ⌝ }
+{
+    if has_boundless(positions) {
+        return true;
+    }
+    if has_boundless(textures) {
+        return true;
+    }
+    has_boundless(normals)
+}
+
+fn has_boundless(s: &[f64]) -> bool
+    ensures { λ r. ⌜ r ≡ some boundless (now (s .entry)) ⌝ }
+{
+    let mut k: usize = 0;
+    while k < s.len() {
+        if floating::is_boundless(s[k]) {
+            return true;
+        }
+        k += 1;
+    }
+    false
+}
+
+// Row 8, of texture points and normals; no scaled position reaches it.
+fn any_distant(textures: &[f64], normals: &[f64], t: f64) -> bool
+    ensures { λ r. ⌜ r ≡ (some (distant t) (now (textures .entry)) || some (distant t) (now (normals .entry))) ⌝ }
+{
+    if has_distant(textures, t) {
+        return true;
+    }
+    has_distant(normals, t)
+}
+
+fn has_distant(s: &[f64], t: f64) -> bool
+    ensures { λ r. ⌜ r ≡ some (distant t) (now (s .entry)) ⌝ }
+{
+    let mut k: usize = 0;
+    while k < s.len() {
+        if floating::is_distant(t, s[k]) {
+            return true;
+        }
+        k += 1;
+    }
+    false
+}
+
+// ---- the three lists of a mesh that earns 0
+
+fn merge(
+    positions: &[f64],
+    textures: &[f64],
+    normals: &[f64],
+    corners: &[u32],
+    sizes: &[u32],
+    t: f64,
+    out: &mut [u32],
+) -> Merged
+    requires { ⌜ mergeNumber (meshOf (now positions) (now textures) (now normals) (now corners) (now sizes)) t (length (now out)) ≡ 0 ⌝ }
+    ensures { λ r. ⌜ PutTogether (meshOf (now (positions .entry)) (now (textures .entry)) (now (normals .entry)) (now (corners .entry)) (now (sizes .entry))) t (now (out .entry)) r (now (out .exit)) ⌝ }
+{
+    let mut pmap = [0u32; 2048];
+    let mut tmap = [0u32; 2048];
+    let mut nmap = [0u32; 2048];
+    let p = merge_positions(positions, t, &mut pmap);
+    let u = merge_list(textures, 2, t, textures.len() / 2, &mut tmap);
+    let n = merge_list(normals, 3, t, normals.len() / 3, &mut nmap);
+    send_corners(corners, &pmap, &tmap, &nmap, out);
+    Merged {
+        number: 0,
+        positions: p,
+        textures: u,
+        normals: n,
+    }
+}
+
+// Positions are first scaled; with no positions nothing is scaled.
+fn merge_positions(positions: &[f64], t: f64, map: &mut [u32]) -> usize
+    requires { ⌜ (Scalable (now positions) t) × (length (now positions) / 3 ≤ length (now map)) ⌝ }
+    ensures { λ r. ⌜ (r ≡ comparedPairs t 3 (scaledList (now (positions .entry)))) × (Settled (length (now (positions .entry)) / 3) (mergedTo t 3 (scaledList (now (positions .entry)))) (now (map .entry)) (now (map .exit))) ⌝ }
+{
+    if positions.len() == 0 {
+        return 0;
+    }
+    let mut room = [0.0f64; 6144];
+    floating::scale(positions, &mut room);
+    let end = positions.len();
+    let scaled = &room[..end];
+    merge_list(scaled, 3, t, end / 3, map)
+}
+
+// ---- corners
+
+// Indices in corners become the representative's.
+fn send_corners(corners: &[u32], pmap: &[u32], tmap: &[u32], nmap: &[u32], out: &mut [u32])
+    requires { ⌜ Indexed (now corners) (now pmap) (now tmap) (now nmap) (now out) ⌝ }
+    ensures { λ _. ⌜ now (out .exit) ≡ sets (now (out .entry)) 0 (joined (map (sentCorner (now (pmap .entry)) (now (tmap .entry)) (now (nmap .entry))) (threes (now (corners .entry))))) ⌝ }
+{
+    let count = corners.len() / 3;
+    let mut k: usize = 0;
+    while k < count {
+        let at = 3 * k;
+        out[at] = pmap[corners[at] as usize];
+        out[at + 1] = sent(tmap, corners[at + 1]);
+        out[at + 2] = sent(nmap, corners[at + 2]);
+        k += 1;
+    }
+}
+
+// A missing index stays missing.
+fn sent(map: &[u32], i: u32) -> u32
+    requires { ⌜ ((i ≡ missing → ⊥) → i < length (now map)) ⌝ }
+    ensures { λ r. ⌜ r ≡ unlessMissing (λ j. getD (now (map .entry)) j 0) i ⌝ }
+{
+    if i == MISSING {
+        return i;
+    }
+    map[i as usize]
 }
 
 // ---- a group, at the places from `from` to below `to` of `order`

@@ -1,0 +1,26 @@
+use mathlib.Core.Path.{sym, _∙_}
+use denote.Ref.{now}
+use borrow.Author.Needs.{needs}
+use Rattle.mesh.specs.Mesh.{meshOf}
+use Rattle.merging.proofs.Whole.{refused}
+use Rattle.merging.proofs.put_together_same_attrs.Statement.{statement}
+use Rattle.merging.proofs.put_together_same_attrs.Tie as tie
+
+number-requires : tie.Need-number-requires
+number-requires c κs = search needs
+
+returns : tie.Need-returns
+returns c = refused (meshOf (now (c .before .before .before .before .before .before .before .before .args .positions)) (now (c .before .before .before .before .before .before .before .before .args .textures)) (now (c .before .before .before .before .before .before .before .before .args .normals)) (now (c .before .before .before .before .before .before .before .before .args .corners)) (now (c .before .before .before .before .before .before .before .before .args .sizes))) (c .before .before .before .before .before .before .before .before .args .tolerance) (now (c .before .before .before .before .before .before .before .before .args .out)) _ (c .before .number .ensures) (c .if1 .taken)
+
+merge-requires : tie.Need-merge-requires
+merge-requires c κs = sym (c .before .before .number .ensures) ∙ c .before .if1 .left
+
+same-length : tie.Need-same-length
+same-length c = search needs
+
+returns-2 : tie.Need-returns-2
+returns-2 c = search needs
+
+pub put-together-same-attrs-spec : {M : Type 1} → statement M
+put-together-same-attrs-spec =
+    tie.close (tie.spec number-requires returns merge-requires same-length returns-2)
