@@ -1,11 +1,11 @@
 -- Hem edges are uses: there are no more of them, and what holds of every use holds of every hem edge. Assumes nothing.
-use mathlib.Core.Path.{_≡_, refl, sym, ap, _∙_}
-use mathlib.Core.Bool.{Bool, true, false, cond, _&&_}
+use mathlib.Core.Path.{_≡_, refl, sym, _∙_}
+use mathlib.Core.Bool.{Bool, true, false, cond}
 use mathlib.Core.List.{List, [], _∷_, map}
-use Prim.Native.Nat.{ℕ, suc, _≤_, _<_}
+use Prim.Native.Nat.{suc, _≤_, _<_}
 use native.Mathlib.Omega.{arith}
 use lib.ListN.{length, length-map}
-use Rattle.lists.specs.Lists.{bump, only, some, every}
+use Rattle.lists.specs.Lists.{bump, some, every}
 use Rattle.lists.proofs.Bools.{and-both, and-left, and-right, or-left, or-right}
 use Rattle.lists.proofs.Counting.{count-some}
 use Rattle.lists.proofs.Only.{only-length}

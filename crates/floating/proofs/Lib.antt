@@ -5,3 +5,7 @@ pub mod Cut
 pub mod Places
 pub mod Rows
 pub mod Boxes
+pub mod Units
+pub mod Heights
+pub mod Within
+pub mod Bounded

@@ -1,12 +1,10 @@
 -- What a call that answered a number leaves, and the rooms of two lent lists. Assumes nothing.
 use mathlib.Core.Path.{_≡_, refl}
-use mathlib.Core.Bool.{Bool, true, false}
-use mathlib.Core.List.{List, [], _∷_}
+use mathlib.Core.Bool.{true, false}
+use mathlib.Core.List.{[], _∷_}
 use Prim.Native.Nat.{ℕ, zero, suc, _≤_, _<_}
-use lib.Dec.{ltb}
 use borrow.Author.Tests.{lt-ltb, le-ltb}
-use Rattle.lists.proofs.Bools.{or-left, or-right}
-use Rattle.mesh.specs.Table.{Lent, lent, short, after}
+use Rattle.mesh.specs.Table.{lent, short, after}
 
 pub after-refused : {A : Type 0} (n : ℕ) (new old : A) → (n ≡ 0 → ⊥) → after n new old ≡ old
 after-refused zero new old h = absurd (h refl)

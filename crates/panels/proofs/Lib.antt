@@ -11,3 +11,5 @@ pub mod Valid
 pub mod Walking
 pub mod Nearby
 pub mod Popping
+pub mod Listed
+pub mod Whole

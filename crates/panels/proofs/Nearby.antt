@@ -1,7 +1,7 @@
 -- The neighbours of a face, as the rules record them, are what its part of the row of entries stands for. Assumes nothing.
 use mathlib.Core.Path.{_≡_, refl, sym, ap, ap₂, _∙_, subst}
 use mathlib.Core.Bool.{Bool, true, false}
-use mathlib.Core.List.{List, [], _∷_, _++_, map}
+use mathlib.Core.List.{List, [], _∷_, map}
 use Prim.Native.Nat.{ℕ, zero, suc, _+_, _*_, _-_, _%_, _≤_, _<_}
 use native.Mathlib.Nat.{add-zero}
 use native.Mathlib.Numerals.{add-one}
@@ -9,13 +9,12 @@ use native.Mathlib.Omega.{arith}
 use lib.Dec.{eqb}
 use lib.ListN.{length, getD, drop}
 use lib.Seq.{slice, getD-drop, drop-drop}
-use borrow.Author.Tests.{eq-eqb, ne-eqb, eqb-true, eqb-false}
+use borrow.Author.Tests.{eq-eqb, eqb-true}
 use Rattle.lists.specs.Lists.{keepIf, only, each, span}
-use Rattle.lists.proofs.Bools.{by-cases}
 use Rattle.lists.proofs.Cases.{iff}
 use Rattle.lists.proofs.Buckets.{length-span, span-at, start, start-grows}
-use Rattle.sorting.specs.Sorting.{keyIs, sortedBy, endsBy, All}
-use Rattle.sorting.proofs.Laws.{sorted-all, sorted-length, sorted-part, ends-at}
+use Rattle.sorting.specs.Sorting.{keyIs, sortedBy, All}
+use Rattle.sorting.proofs.Laws.{sorted-all, sorted-part, ends-at}
 use Rattle.panels.specs.Panels.{Join, neighbours}
 use Rattle.panels.specs.Joins.{flatJoin, flatJoins, joinsOf}
 use Rattle.panels.specs.Walk.{otherEnd, nearBetween, beginOf, Adjacent}

@@ -10,7 +10,7 @@ use lib.ListN.{length, getD, take, drop, length-drop}
 use lib.Seq.{slice, length-take-le, getD-take, getD-drop}
 use borrow.Author.Tests.{eqb-true}
 use Rattle.lists.specs.Lists.{has}
-use Rattle.lists.proofs.Bools.{by-cases, true-false}
+use Rattle.lists.proofs.Bools.{by-cases}
 use Rattle.lists.proofs.Parts.{some-append}
 use Rattle.lists.proofs.Counting.{clash}
 use Rattle.lists.proofs.Members.{In, in-head, in-tail, free, once-free}

@@ -1,20 +1,19 @@
 -- The joins that are recorded: one more use, and that the marks of first uses give the joins of the rules. Assumes nothing.
 use mathlib.Core.Path.{_≡_, refl, sym, ap, ap₂, _∙_, subst}
 use mathlib.Core.Logic.{⊎-elim}
-use mathlib.Core.Bool.{Bool, true, false, cond, _&&_}
+use mathlib.Core.Bool.{true, false}
 use mathlib.Core.Option.{Option, none, some}
 use mathlib.Core.List.{List, [], _∷_, _++_, append-nil, append-assoc, map}
 use Prim.Native.Nat.{ℕ, zero, suc, _+_, _*_, _≤_, _<_}
-use native.Mathlib.Nat.{zero-add, not-suc-le-zero, le-of-suc-le-suc, eq-or-lt-of-le}
+use native.Mathlib.Nat.{not-suc-le-zero, le-of-suc-le-suc, eq-or-lt-of-le}
 use native.Mathlib.Numerals.{add-one}
 use native.Mathlib.Omega.{arith}
 use lib.Dec.{eqb}
-use lib.ListN.{length, getD, take, set, length-append, length-map, List·getD-map}
+use lib.ListN.{length, getD, take, set, length-append}
 use lib.Seq.{sets, length-sets, take-suc, take-length, getD-take, length-take-le}
 use borrow.Author.Tests.{eq-eqb, ne-eqb, eqb-true, eqb-false}
-use Rattle.lists.specs.Lists.{every, each, span}
+use Rattle.lists.specs.Lists.{every, each}
 use Rattle.lists.proofs.Bools.{by-cases}
-use Rattle.lists.proofs.Cases.{iff}
 use Rattle.lists.proofs.Parts.{each-append}
 use Rattle.lists.proofs.Writing.{sets-append}
 use Rattle.lists.proofs.Buckets.{each-span-snoc, each-span-suc}

@@ -3,17 +3,16 @@ use mathlib.Core.Path.{_≡_, refl, sym, ap, ap₂, _∙_, subst}
 use mathlib.Core.Bool.{Bool, true, false, cond, _&&_, _||_}
 use mathlib.Core.List.{List, [], _∷_, _++_, map}
 use Prim.Native.Nat.{ℕ, zero, suc, _+_, _*_, _/_, _≤_, _<_}
-use native.Mathlib.Nat.{not-suc-le-zero}
 use native.Mathlib.Omega.{arith}
 use lib.Dec.{ltb, eqb}
 use lib.ListN.{length, getD, take, drop, length-append, length-map, List·getD-map}
 use lib.Seq.{take-nil, drop-nil}
-use borrow.Author.Tests.{lt-ltb, ltb-true, eq-eqb, ne-eqb, eqb-true, eqb-false}
+use borrow.Author.Tests.{lt-ltb, ltb-true, eq-eqb, eqb-true, eqb-false}
 use Rattle.lists.specs.Lists.{every, sum}
 use Rattle.lists.proofs.Bools.{by-cases, and-both, and-left, and-right, or-left, or-right}
 use Rattle.lists.proofs.Cases.{iff}
 use Rattle.lists.proofs.Parts.{every-append, every-at}
-use Rattle.mesh.specs.Mesh.{Mesh, Corner, Ring, position, normal, missing, threes, rings, cornerAt, positionCount, normalCount}
+use Rattle.mesh.specs.Mesh.{Mesh, Corner, Ring, position, normal, missing, threes, rings}
 use Rattle.mesh.proofs.Corners.{length-threes, getD-threes}
 use Rattle.mesh.proofs.Faces.{sizes-back}
 use Rattle.mesh.proofs.Accepted.{Accepted, Found}
@@ -21,6 +20,7 @@ use Rattle.edges.specs.Edges.{runEdges, ringEdges}
 use Rattle.panels.specs.Panels.{Key, pairKey, keyOf, sameKey, faceKeys, Use, usesFrom}
 use Rattle.panels.specs.Columns.{normalDigit, chosen, entryOf, faceUses}
 use Rattle.panels.specs.Firsts.{sameUse, KeyColumns}
+use Rattle.panels.specs.Rows.{Keyable}
 use Rattle.panels.proofs.Using.{ring-length}
 
 -- a position, and a normal, as an accepted mesh has them
@@ -107,24 +107,35 @@ every-all p d [] f = refl
 every-all p d (x ∷ l) f =
     and-both (p x) (every p l) (f 0 (omega arith)) (every-all p d l (λ k h. f (suc k) (omega arith)))
 
-pub faces-good : (m : Mesh) → Accepted m → every (every goodCorner) (rings (m .sizes) (m .corners)) ≡ true
-faces-good m a =
-    rings-every goodCorner (m .sizes) (m .corners)
-    (every-all goodCorner [] (threes (m .corners))
+pub faces-good : (cs s : List ℕ) → Keyable cs s → every (every goodCorner) (rings s cs) ≡ true
+faces-good cs s a =
+    rings-every goodCorner s cs
+    (every-all goodCorner [] (threes cs)
     (λ k h.
-    let l : length (threes (m .corners)) ≡ length (m .corners) / 3 = length-threes (m .corners) in
-    let f : Found m k = a .corner k (omega arith) in
-    subst (λ (c : Corner). goodCorner c ≡ true) (sym (getD-threes (m .corners) k (omega arith)))
-    (and-both (ltb (getD (m .corners) (3 * k) 0) 2048) (isNormal (getD (m .corners) (3 * k + 2) 0))
-    (lt-ltb (getD (m .corners) (3 * k) 0) 2048 (let p : getD (m .corners) (3 * k) 0 < length (m .positions) / 3 = f .position in let q : length (m .positions) ≤ 6144 = a .limits .positions in omega arith))
-    (by-cases (eqb (getD (m .corners) (3 * k + 2) 0) missing)
-    (λ t. or-left (eqb (getD (m .corners) (3 * k + 2) 0) missing) (ltb (getD (m .corners) (3 * k + 2) 0) 2048) t)
+    let l : length (threes cs) ≡ length cs / 3 = length-threes cs in
+    subst (λ (c : Corner). goodCorner c ≡ true) (sym (getD-threes cs k (omega arith)))
+    (and-both (ltb (getD cs (3 * k) 0) 2048) (isNormal (getD cs (3 * k + 2) 0))
+    (lt-ltb (getD cs (3 * k) 0) 2048 (a .position k (omega arith)))
+    (by-cases (eqb (getD cs (3 * k + 2) 0) missing)
+    (λ t. or-left (eqb (getD cs (3 * k + 2) 0) missing) (ltb (getD cs (3 * k + 2) 0) 2048) t)
     (λ t.
-    or-right (eqb (getD (m .corners) (3 * k + 2) 0) missing) (ltb (getD (m .corners) (3 * k + 2) 0) 2048)
-    (lt-ltb (getD (m .corners) (3 * k + 2) 0) 2048
-    (let p : getD (m .corners) (3 * k + 2) 0 < length (m .normals) / 3 = f .normal (eqb-false (getD (m .corners) (3 * k + 2) 0) missing t) in
-    let q : length (m .normals) ≤ 6144 = a .limits .normals in
-    omega arith)))))))
+    or-right (eqb (getD cs (3 * k + 2) 0) missing) (ltb (getD cs (3 * k + 2) 0) 2048)
+    (lt-ltb (getD cs (3 * k + 2) 0) 2048 (a .normal k (omega arith) (eqb-false (getD cs (3 * k + 2) 0) missing t))))))))
+
+pub keyable : (m : Mesh) → Accepted m → Keyable (m .corners) (m .sizes)
+keyable m a = record {
+  sound = a .sound;
+  position = λ k h.
+      let f : Found m k = a .corner k h in
+      let p : getD (m .corners) (3 * k) 0 < length (m .positions) / 3 = f .position in
+      let q : length (m .positions) ≤ 6144 = a .limits .positions in
+      omega arith;
+  normal = λ k h ne.
+      let f : Found m k = a .corner k h in
+      let p : getD (m .corners) (3 * k + 2) 0 < length (m .normals) / 3 = f .normal ne in
+      let q : length (m .normals) ≤ 6144 = a .limits .normals in
+      omega arith;
+}
 
 -- ---- digits tell normals apart
 

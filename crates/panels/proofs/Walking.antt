@@ -8,12 +8,11 @@ use Prim.Native.Nat.{ℕ, zero, suc, _+_, _-_, _%_, min, _≤_, _<_}
 use native.Mathlib.Numerals.{add-one}
 use native.Mathlib.Omega.{arith}
 use lib.Dec.{eqb}
-use lib.ListN.{length, getD, take, drop, set, length-append, length-set, length-take, drop-of-length-le}
-use lib.Seq.{slice, slice-cons, length-take-le, take-suc-set, drop-set-lt, drop-drop, getD-set-same, getD-set-other}
+use lib.ListN.{length, getD, take, drop, set, length-set, length-take, drop-of-length-le}
+use lib.Seq.{slice-cons, length-take-le, take-suc-set, drop-set-lt, drop-drop, getD-set-same, getD-set-other}
 use borrow.Author.Tests.{eq-eqb, ne-eqb, eqb-true, eqb-false}
 use Rattle.lists.specs.Lists.{count, has}
 use Rattle.lists.proofs.Bools.{by-cases}
-use Rattle.lists.proofs.Counting.{clash}
 use Rattle.lists.proofs.Members.{In, in-cases, in-snoc, has-snoc, once-snoc, free, free-snoc, once-free}
 use Rattle.panels.specs.Panels.{Search, look}
 use Rattle.panels.specs.Walk.{otherEnd, beginOf, nearBetween, stackOf, stateOf, markOf, Listing, Stepped}

@@ -56,3 +56,17 @@ pub record FaceRoom (part out : List ℕ) (at : ℕ) : Type 0 where
 pub record ColumnRoom (cs s out : List ℕ) : Type 0 where
   pub sound : Sound cs s
   pub room : length out ≡ length cs / 3
+
+-- the same for the four digits of the keys
+pub record DigitRoom (cs s lower higher n m : List ℕ) : Type 0 where
+  pub sound : Sound cs s
+  pub lower-long : length lower ≡ length cs / 3
+  pub higher-long : length higher ≡ length cs / 3
+  pub n-long : length n ≡ length cs / 3
+  pub m-long : length m ≡ length cs / 3
+
+pub record Digits (normals : Bool) (fs : List Ring) (lower higher n m : List ℕ) : Type 0 where
+  pub lower-is : lower ≡ column normals 0 fs
+  pub higher-is : higher ≡ column normals 1 fs
+  pub n-is : n ≡ column normals 2 fs
+  pub m-is : m ≡ column normals 3 fs

@@ -5,11 +5,11 @@ use mathlib.Core.Bool.{Bool, true, false, cond}
 use mathlib.Core.List.{List, [], _∷_, _++_, map}
 use Prim.Native.Nat.{ℕ, zero, suc, _+_, _-_, _%_, _≤_, _<_}
 use lib.Dec.{eqb}
-use lib.ListN.{length, getD, take, drop}
-use lib.Seq.{slice}
+use lib.ListN.{length, getD, take, drop, replicate}
+use lib.Seq.{slice, sets}
 use Rattle.lists.specs.Lists.{count, has, joined, span}
 use Rattle.sorting.specs.Sorting.{sortedBy, endsBy}
-use Rattle.panels.specs.Panels.{Search, neighbours, look, search′, panelsFrom}
+use Rattle.panels.specs.Panels.{Search, panelsFrom}
 use Rattle.panels.specs.Joins.{flatJoins, joinsOf}
 
 -- ---- neighbours in a row
@@ -131,3 +131,19 @@ pub record PanelledMore (i : ℕ) (joins ends flat lengths : List ℕ) (n k : �
   pub more-panels : k ≤ k′
   pub rest-faces : drop n′ flat′ ≡ drop n′ flat
   pub rest-panels : drop k′ lengths′ ≡ drop k′ lengths
+
+-- what listing all panels rests on: no face is listed yet, and there is room
+pub record Partable (joins order ends seen stack flat lengths : List ℕ) : Type 0 where
+  pub adjacent : Adjacent joins order ends
+  pub small : length ends ≤ 1365
+  pub unseen : seen ≡ replicate (length ends) 0
+  pub stack-long : length stack ≡ length ends
+  pub faces-room : length ends ≤ length flat
+  pub panels-room : length ends ≤ length lengths
+
+-- all panels are listed
+pub record Parted (panels : List (List ℕ)) (flat lengths flat′ lengths′ : List ℕ) (faces count : ℕ) : Type 0 where
+  pub faces-are : faces ≡ length (joined panels)
+  pub count-is : count ≡ length panels
+  pub flat-is : flat′ ≡ sets flat 0 (joined panels)
+  pub lengths-are : lengths′ ≡ sets lengths 0 (map length panels)

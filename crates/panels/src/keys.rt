@@ -8,7 +8,7 @@ ghost use lib.ListN.{length};
 ghost use lib.Seq.{sets};
 ghost use Rattle.mesh.specs.Mesh.{rings, threes};
 ghost use Rattle.panels.specs.Panels.{keyOf};
-ghost use Rattle.panels.specs.Columns.{normalDigit, chosen, entryOf, nextOf, edgeAt, faceUses, column, AtCorner, FaceRoom, ColumnRoom};
+ghost use Rattle.panels.specs.Columns.{normalDigit, chosen, entryOf, nextOf, edgeAt, faceUses, column, AtCorner, FaceRoom, ColumnRoom, DigitRoom, Digits};
 
 pub const LOWER: u32 = 0;
 
@@ -19,6 +19,25 @@ pub const LOWER_NORMAL: u32 = 2;
 pub const HIGHER_NORMAL: u32 = 3;
 
 pub const FACE: u32 = 4;
+
+// The four digits of the keys of all uses: lower and higher position, and n and m, the normals there.
+pub fn put_digits(
+    corners: &[u32],
+    sizes: &[u32],
+    normals: bool,
+    lower: &mut [u32],
+    higher: &mut [u32],
+    n: &mut [u32],
+    m: &mut [u32],
+)
+    requires { ⌜ DigitRoom (now corners) (now sizes) (now lower) (now higher) (now n) (now m) ⌝ }
+    ensures { λ _. ⌜ Digits normals (rings (now (sizes .entry)) (now (corners .entry))) (now (lower .exit)) (now (higher .exit)) (now (n .exit)) (now (m .exit)) ⌝ }
+{
+    put_column(corners, sizes, normals, LOWER, lower);
+    put_column(corners, sizes, normals, HIGHER, higher);
+    put_column(corners, sizes, normals, LOWER_NORMAL, n);
+    put_column(corners, sizes, normals, HIGHER_NORMAL, m);
+}
 
 // Column `which` of all uses.
 pub fn put_column(corners: &[u32], sizes: &[u32], normals: bool, which: u32, out: &mut [u32])

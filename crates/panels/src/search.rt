@@ -9,6 +9,70 @@ ghost use Rattle.panels.specs.Panels.{neighbours, look, search′};
 ghost use Rattle.panels.specs.Joins.{joinsOf};
 ghost use Rattle.panels.specs.Walk as walk;
 
+// How many faces are listed, in how many panels.
+pub struct Counts {
+    pub faces: usize,
+    pub panels: usize,
+}
+
+// All panels, from the lowest face on. The entries of the joins stand by face in `order`, and end where `ends` says.
+pub fn list_panels(
+    joins: &[u32],
+    order: &[u32],
+    ends: &[u32],
+    seen: &mut [u32],
+    stack: &mut [u32],
+    flat: &mut [u32],
+    lengths: &mut [u32],
+) -> Counts
+    requires { ⌜ walk.Partable (now joins) (now order) (now ends) (now seen) (now stack) (now flat) (now lengths) ⌝ }
+    ensures { λ r. ⌜ walk.Parted (walk.panelsBelow (length (now (ends .entry))) (length (now (ends .entry))) (now (joins .entry))) (now (flat .entry)) (now (lengths .entry)) (now (flat .exit)) (now (lengths .exit)) (r .faces) (r .panels) ⌝ }
+{
+    let mut n: usize = 0;
+    let mut k: usize = 0;
+    let mut i: usize = 0;
+    while i < ends.len() {
+        let counts = list_panel(joins, order, ends, i, seen, stack, flat, lengths, n, k);
+        n = counts.faces;
+        k = counts.panels;
+        i += 1;
+    }
+    Counts {
+        faces: n,
+        panels: k,
+    }
+}
+
+// The panel of face `i`, if that is in none yet, behind `k` panels of `n` faces.
+fn list_panel(
+    joins: &[u32],
+    order: &[u32],
+    ends: &[u32],
+    i: usize,
+    seen: &mut [u32],
+    stack: &mut [u32],
+    flat: &mut [u32],
+    lengths: &mut [u32],
+    n: usize,
+    k: usize,
+) -> Counts
+    requires { ⌜ walk.PanelAt i (now joins) (now order) (now ends) (now seen) (now stack) (now flat) (now lengths) n k ⌝ }
+    ensures { λ r. ⌜ walk.PanelledMore (i + 1) (now (joins .entry)) (now (ends .entry)) (now (flat .entry)) (now (lengths .entry)) n k (now (seen .exit)) (now (stack .exit)) (now (flat .exit)) (now (lengths .exit)) (r .faces) (r .panels) ⌝ }
+{
+    if seen[i] != 0 {
+        return Counts {
+            faces: n,
+            panels: k,
+        };
+    }
+    let m = search(joins, order, ends, i as u32, seen, stack, flat, n);
+    lengths[k] = (m - n) as u32;
+    Counts {
+        faces: m,
+        panels: k + 1,
+    }
+}
+
 // How many faces are on the stack, and how many are listed.
 pub struct Marks {
     pub top: usize,

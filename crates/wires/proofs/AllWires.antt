@@ -3,7 +3,7 @@
 use mathlib.Core.Path.{_≡_, refl, sym, ap, ap₂, _∙_, subst}
 use mathlib.Core.Bool.{Bool, true, false}
 use mathlib.Core.Logic.{⊎-elim}
-use mathlib.Core.Option.{Option, none, some}
+use mathlib.Core.Option.{some}
 use mathlib.Core.List.{List, [], _∷_, _++_, append-assoc, append-nil, map, map-append}
 use Prim.Native.Nat.{ℕ, suc, _+_, _-_, _≤_, _<_}
 use native.Mathlib.Nat.{le-of-suc-le-suc, eq-or-lt-of-le}
@@ -12,7 +12,7 @@ use native.Mathlib.Omega.{arith}
 use lib.Dec.{leb, ltb}
 use lib.ListN.{length, getD, set, length-set, length-append, length-map}
 use lib.Seq.{sets, length-sets}
-use borrow.Author.Tests.{ltb-true, ltb-false, leb-true}
+use borrow.Author.Tests.{ltb-true, ltb-false}
 use Rattle.lists.specs.Lists.{joined, keepIf}
 use Rattle.lists.proofs.Bools.{by-cases}
 use Rattle.lists.proofs.Parts.{joined-append}
@@ -22,7 +22,7 @@ use Rattle.wires.specs.Hems.{Written, outs, pairs}
 use Rattle.wires.specs.House.{leastStart, Walk}
 use Rattle.wires.specs.Ported.{entry}
 use Rattle.wires.specs.Tables.{leftFrom, left, Stands}
-use Rattle.wires.specs.Tracing.{trace, traces, Begun, Ended, Unwritten, OneMore, Room, AllLeft}
+use Rattle.wires.specs.Tracing.{trace, traces, Unwritten, OneMore, Room, AllLeft}
 use Rattle.wires.proofs.Entries.{entry-none, entry-outs, trace-kept, trace-outs, start-traced, traces-step, traces-end}
 use Rattle.wires.proofs.Tables.{length-pairs, none-left, entry-left, least-left, left-none}
 

@@ -1,32 +1,31 @@
 -- The numbers of the two calls, row by row, and the answers that go with them. Assumes nothing.
-use mathlib.Core.Path.{_≡_, refl, sym, ap, _∙_}
-use mathlib.Core.Bool.{Bool, true, false, not}
+use mathlib.Core.Path.{_≡_, refl, sym, _∙_, subst}
+use mathlib.Core.Bool.{Bool, true, false}
 use mathlib.Core.List.{List, [], _∷_, map}
-use Prim.Native.Nat.{ℕ, _*_, _/_, _≤_, _<_}
-use native.Mathlib.Omega.{arith}
+use Prim.Native.Nat.{ℕ, _*_, _≤_, _<_}
 use lib.ListN.{length}
 use lib.Seq.{sets}
 use Rattle.lists.specs.Lists.{joined}
-use Rattle.mesh.specs.Mesh.{Mesh, faces}
-use Rattle.mesh.specs.Table.{meshNumber, when, firstOf, lent, short}
+use Rattle.mesh.specs.Mesh.{Mesh}
+use Rattle.mesh.specs.Table.{meshNumber, when, firstOf}
 use Rattle.mesh.proofs.After.{after-refused, after-done, two-roomy, first-short, second-short}
 use Rattle.mesh.proofs.Numbers.{first-is, first-on, row-given, row-passed}
-use Rattle.edges.specs.Edges.{Verdict, edgesOf, verdict}
 use Rattle.wires.specs.Hems.{Written}
-use Rattle.wires.specs.Answers.{cornerCount, portedShort, houseShort, wired, unwired, portedNumber, houseNumber, Answered}
+use Rattle.wires.specs.Answers.{cornerCount, portedShort, houseShort, unwired, portedNumber, houseNumber, Answered, Refused}
 
 -- ---- a refusal and a result
 
 pub refusal :
-    {n : ℕ} {ws : List (List ℕ)} (flat lengths : List ℕ) {number numbers wires : ℕ} → number ≡ n → (n ≡ 0 → ⊥) → numbers ≡ 0 → wires ≡ 0
+    {n k : ℕ} {ws : List (List ℕ)} (flat lengths : List ℕ) {number numbers wires : ℕ} → n ≡ k → (k ≡ 0 → ⊥) → Refused k number numbers wires
     → Answered n ws flat lengths flat lengths number numbers wires
-refusal {n} {ws} flat lengths e h a b =
+refusal {n} {k} {ws} flat lengths e h r =
+    let z : n ≡ 0 → ⊥ = λ q. h (sym e ∙ q) in
     record {
-      number-is = e;
-      flat-count = a ∙ sym (after-refused n (length (joined ws)) 0 h);
-      wire-count = b ∙ sym (after-refused n (length ws) 0 h);
-      flat-is = sym (after-refused n (sets flat 0 (joined ws)) flat h);
-      lengths-is = sym (after-refused n (sets lengths 0 (map length ws)) lengths h);
+      number-is = r .number-is ∙ sym e;
+      flat-count = r .no-numbers ∙ sym (after-refused n (length (joined ws)) 0 z);
+      wire-count = r .no-wires ∙ sym (after-refused n (length ws) 0 z);
+      flat-is = sym (after-refused n (sets flat 0 (joined ws)) flat z);
+      lengths-is = sym (after-refused n (sets lengths 0 (map length ws)) lengths z);
     }
 
 pub result :
@@ -40,6 +39,13 @@ result {n} {ws} {flat} {lengths} {flat′} {lengths′} {number} e z w =
       flat-is = w .flat-is ∙ sym (after-done n (sets flat 0 (joined ws)) flat z);
       lengths-is = w .lengths-is ∙ sym (after-done n (sets lengths 0 (map length ws)) lengths z);
     }
+
+-- the same answer, under another name of its number
+pub renumbered :
+    {n k : ℕ} {ws : List (List ℕ)} {flat lengths flat′ lengths′ : List ℕ} {number numbers wires : ℕ} → k ≡ n
+    → Answered n ws flat lengths flat′ lengths′ number numbers wires → Answered k ws flat lengths flat′ lengths′ number numbers wires
+renumbered {n} {k} {ws} {flat} {lengths} {flat′} {lengths′} {number} {numbers} {wires} e a =
+    subst (λ (i : ℕ). Answered i ws flat lengths flat′ lengths′ number numbers wires) (sym e) a
 
 -- ---- the rows of ported wires
 
@@ -67,6 +73,10 @@ module _ (m : Mesh) (flat lengths : ℕ) where
 
 -- ---- the rows of house wires
 
+only-row : (b : Bool) → firstOf (when b 10 ∷ []) ≡ when b 10
+only-row true = refl
+only-row false = refl
+
 module _ (m : Mesh) (flat lengths : ℕ) where
   pub house-mesh : (meshNumber m ≡ 0 → ⊥) → houseNumber m flat lengths ≡ meshNumber m
   unfolding houseNumber
@@ -92,8 +102,5 @@ module _ (m : Mesh) (flat lengths : ℕ) where
           past-mesh
           ∙ row-passed (houseShort m flat lengths) 8 (when (unwired m) 10 ∷ []) (two-roomy flat (cornerCount (m .corners)) lengths (cornerCount (m .corners)) k h)
 
-      pub house-unwired : wired (verdict (edgesOf (faces m))) ≡ false → houseNumber m flat lengths ≡ 10
-      house-unwired q = past-room ∙ row-given (unwired m) 9 [] (ap not q)
-
-      pub house-done : wired (verdict (edgesOf (faces m))) ≡ true → houseNumber m flat lengths ≡ 0
-      house-done q = past-room ∙ row-passed (unwired m) 9 [] (ap not q)
+      pub house-verdict : houseNumber m flat lengths ≡ when (unwired m) 10
+      house-verdict = past-room ∙ only-row (unwired m)

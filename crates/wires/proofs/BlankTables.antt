@@ -1,17 +1,16 @@
 -- From blank tables to all wires: what the two functions that fill the tables leave is what the tracer is given, and its wires are the
 -- ported and the house wires. The sizes of the tables are numbers of no matter here. Assumes nothing.
-use mathlib.Core.Path.{_≡_, refl, sym, ap, ap₂, _∙_, subst}
-use mathlib.Core.List.{List, [], _∷_}
-use Prim.Native.Nat.{ℕ, _+_, _*_, _≤_, _<_}
+use mathlib.Core.Path.{_≡_, sym, ap, ap₂, _∙_, subst}
+use mathlib.Core.List.{List}
+use Prim.Native.Nat.{ℕ, _≤_, _<_}
 use native.Mathlib.Omega.{arith}
-use lib.ListN.{length, getD, replicate, length-replicate, getD-replicate}
+use lib.ListN.{length, getD, length-replicate, getD-replicate}
 use lib.Seq.{sets}
-use Rattle.edges.specs.Edges.{Edge}
-use Rattle.wires.specs.Hems.{pairs, EdgeLists, Portable, Houseable, Written}
+use Rattle.wires.specs.Hems.{pairs, EdgeLists, Written}
 use Rattle.wires.specs.House.{houseWires}
 use Rattle.wires.specs.Ported.{portedWires}
 use Rattle.wires.specs.Tables.{left, Stands, numbered, chained, nextsFrom, Startable, Linkable, LinkedAll, nobody, blank}
-use Rattle.wires.specs.Tracing.{traces, Room, AllLeft, PortedIn, HouseIn}
+use Rattle.wires.specs.Tracing.{traces, AllLeft, PortedIn, HouseIn}
 use Rattle.wires.proofs.Closing.{Used, house-used}
 use Rattle.wires.proofs.Entries.{Roomy, traces-roomy}
 use Rattle.wires.proofs.Tables.{length-pairs}

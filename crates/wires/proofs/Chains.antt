@@ -1,8 +1,8 @@
 -- House wires by the two tables: with the first hem edge at each position and the next of each edge all edges are left, and the tables
 -- fit them. Assumes nothing.
-use mathlib.Core.Path.{_≡_, refl, sym, ap, ap₂, _∙_, subst}
-use mathlib.Core.Bool.{Bool, true, false}
-use mathlib.Core.List.{List, [], _∷_, _++_}
+use mathlib.Core.Path.{_≡_, refl, sym, ap, _∙_, subst}
+use mathlib.Core.Bool.{true}
+use mathlib.Core.List.{List, [], _∷_}
 use Prim.Native.Nat.{ℕ, zero, suc, _+_, _-_, _≤_, _<_}
 use native.Mathlib.Nat.{add-zero, zero-add}
 use native.Mathlib.Omega.{arith}
@@ -10,12 +10,11 @@ use lib.Dec.{leb, eqb}
 use lib.ListN.{length, getD, set, drop, replicate, length-set, length-drop, length-replicate, getD-replicate, List·getD-append}
 use lib.Seq.{sets, length-sets, getD-set-same, getD-set-other, getD-drop}
 use borrow.Author.Tests.{le-leb, eqb-true, eqb-false}
-use Rattle.lists.specs.Lists.{keepIf}
 use Rattle.lists.proofs.Bools.{by-cases}
 use Rattle.lists.proofs.Writing.{sets-front}
 use Rattle.edges.specs.Edges.{Edge}
 use Rattle.wires.specs.Hems.{EdgeLists, pairs}
-use Rattle.wires.specs.Tables.{leftFrom, left, Next, Linked, Stands, chained, nextsFrom, nobody}
+use Rattle.wires.specs.Tables.{leftFrom, left, Next, Stands, chained, nextsFrom, nobody}
 use Rattle.wires.proofs.Tables.{edgeAt, length-pairs, pairs-at}
 
 -- ---- the first table, of edges that are numbered from k on

@@ -1,17 +1,17 @@
 -- Following a wire: what was passed, and before it what is still to come, is the whole wire. Assumes nothing.
-use mathlib.Core.Path.{_≡_, refl, sym, ap, ap₂, _∙_, subst}
+use mathlib.Core.Path.{_≡_, refl, sym, ap, ap₂, _∙_}
 use mathlib.Core.List.{List, [], _∷_, _++_, append-assoc, append-nil}
 use Prim.Native.Nat.{ℕ, suc, _+_, _≤_, _<_}
-use native.Mathlib.Nat.{add-zero, add-assoc}
+use native.Mathlib.Nat.{add-zero}
 use native.Mathlib.Omega.{arith}
-use lib.ListN.{length, getD, set, length-set, length-append}
-use lib.Seq.{sets, length-sets}
+use lib.ListN.{length, set, length-set, length-append}
+use lib.Seq.{sets}
 use Rattle.lists.proofs.Writing.{sets-snoc}
 use Rattle.edges.specs.Edges.{Edge}
 use Rattle.wires.specs.House.{Walk, longer}
 use Rattle.wires.specs.Ported.{entry}
-use Rattle.wires.specs.Tables.{left, Stands}
-use Rattle.wires.specs.Tracing.{onward, taken, trace, traceOn, Underway, StepTaken, Begun, Ended}
+use Rattle.wires.specs.Tables.{left}
+use Rattle.wires.specs.Tracing.{trace, traceOn, Underway, StepTaken, Begun, Ended}
 use Rattle.wires.proofs.Entries.{trace-step, trace-home, trace-away}
 
 pub record Following (starts ends nexts firsts₀ : List ℕ) (f : ℕ) (flat₀ : List ℕ) (at : ℕ) (firsts flat : List ℕ) (m c : ℕ) : Type 0 where

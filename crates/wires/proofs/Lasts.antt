@@ -4,21 +4,21 @@ use mathlib.Core.Path.{_≡_, refl, sym, ap, ap₂, _∙_, subst}
 use mathlib.Core.Bool.{Bool, true, false, cond}
 use mathlib.Core.Logic.{⊎-elim}
 use mathlib.Core.List.{List, [], _∷_, _++_, append-assoc, append-nil}
-use Prim.Native.Nat.{ℕ, zero, suc, _+_, _≤_, _<_}
-use native.Mathlib.Nat.{zero-add, add-zero, add-suc, suc-add, le-of-suc-le-suc, eq-or-lt-of-le}
+use Prim.Native.Nat.{ℕ, suc, _+_, _≤_, _<_}
+use native.Mathlib.Nat.{add-zero, eq-or-lt-of-le}
 use native.Mathlib.Numerals.{add-one}
 use native.Mathlib.Omega.{arith}
 use lib.Dec.{leb, ltb, eqb}
 use lib.ListN.{length, getD, set, replicate, length-set, length-append, length-replicate, getD-replicate, List·getD-append}
 use lib.Seq.{getD-set-same, getD-set-other, getD-at}
-use borrow.Author.Tests.{leb-true, leb-false, le-leb, lt-leb, ltb-true, ltb-false, eqb-true, eqb-false, eq-eqb, ne-eqb}
+use borrow.Author.Tests.{leb-true, le-leb, ltb-true, ltb-false, eqb-true, eqb-false, eq-eqb, ne-eqb}
 use Rattle.lists.specs.Lists.{keepIf, only}
 use Rattle.lists.proofs.Bools.{by-cases}
 use Rattle.lists.proofs.Only.{only-append}
 use Rattle.edges.specs.Edges.{Edge}
 use Rattle.wires.specs.Hems.{EdgeLists, pairs}
 use Rattle.wires.specs.Ported.{put, fill, portedWires}
-use Rattle.wires.specs.Tables.{leftFrom, left, Next, Linked, Stands, numbered, nobody}
+use Rattle.wires.specs.Tables.{leftFrom, left, Stands, numbered, nobody}
 use Rattle.wires.specs.Tracing.{traces}
 use Rattle.wires.proofs.Entries.{traces-enough}
 use Rattle.wires.proofs.Tables.{edgeAt, length-pairs, pairs-at, startsOf, starts-of}

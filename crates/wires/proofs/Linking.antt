@@ -1,11 +1,11 @@
 -- The loops that fill the two tables. Assumes nothing.
 use mathlib.Core.Path.{_≡_, refl, sym, ap, ap₂, _∙_}
 use mathlib.Core.List.{List, [], _∷_}
-use Prim.Native.Nat.{ℕ, zero, suc, _+_, _≤_, _<_}
+use Prim.Native.Nat.{ℕ, suc, _+_, _≤_, _<_}
 use native.Mathlib.Numerals.{add-one}
 use native.Mathlib.Omega.{arith}
 use lib.ListN.{length, getD, set, drop, length-set}
-use lib.Seq.{sets, length-sets, drop-cons, drop-length, set-comm}
+use lib.Seq.{sets, drop-cons, drop-length, set-comm}
 use Rattle.wires.specs.Tables.{numbered, chained, nextsFrom, LinkedAll}
 
 -- ---- one after the other

@@ -2,16 +2,15 @@
 -- position is the one with the smallest end, and house wires are followed as ported wires are. Assumes nothing.
 use mathlib.Core.Path.{_≡_, refl, sym, ap, _∙_, subst}
 use mathlib.Core.Logic.{_⊎_, inl, inr, ⊎-elim}
-use mathlib.Core.Bool.{Bool, true, false, cond, _&&_}
+use mathlib.Core.Bool.{Bool, true, false, cond}
 use mathlib.Core.Option.{Option, none, some}
 use mathlib.Core.List.{List, [], _∷_, map}
-use Prim.Native.Nat.{ℕ, zero, suc, _+_, _≤_, _<_, min}
+use Prim.Native.Nat.{ℕ, zero, suc, _≤_, _<_}
 use native.Mathlib.Omega.{arith}
 use lib.Dec.{leb, eqb}
 use lib.ListN.{length}
-use borrow.Author.Tests.{leb-true, leb-false, eqb-true, eqb-false, eq-eqb, ne-eqb}
+use borrow.Author.Tests.{leb-true, leb-false, eqb-true, eqb-false}
 use Rattle.lists.specs.Lists.{some as has-some}
-use Rattle.lists.proofs.Bools.{by-cases}
 use Rattle.lists.proofs.Counting.{clash, or-either, count-length}
 use Rattle.edges.specs.Edges.{Edge, same, flip, key, hems}
 use Rattle.edges.proofs.SameEdge.{same-true, Before}
@@ -22,8 +21,8 @@ use Rattle.wires.specs.House.{lesser, leastStart, leastEnd, without, Wal
 use Rattle.wires.specs.Ported.{entry, follow}
 use Rattle.wires.specs.Tracing.{trace, traces, traceOn, onward, taken}
 use Rattle.wires.proofs.Balance.{at}
-use Rattle.wires.proofs.Closing.{Left, Walked, end-none, end-some, start-none, start-some, taken-left, taken-length, some-out, walked, left-home}
-use Rattle.wires.proofs.Entries.{Found, entry-some, entry-none, found-less, trace-step, trace-home, trace-away, start-traced, traces-step, traces-end}
+use Rattle.wires.proofs.Closing.{Left, Walked, end-some, start-none, start-some, taken-left, some-out, walked, left-home}
+use Rattle.wires.proofs.Entries.{entry-some, entry-none, found-less, trace-step, trace-home, trace-away, start-traced, traces-step, traces-end}
 
 -- ---- ends that rise at each start
 

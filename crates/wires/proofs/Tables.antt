@@ -1,23 +1,22 @@
 -- The two tables stand for what is left of the hem edges: the first at a position is its entry, and with its next in its place the
 -- rest is what is left without it. Assumes nothing.
 use mathlib.Core.Path.{_≡_, refl, sym, ap, ap₂, _∙_, subst}
-use mathlib.Core.Bool.{Bool, true, false, cond, _&&_}
+use mathlib.Core.Bool.{Bool, true, false}
 use mathlib.Core.Option.{Option, none, some}
 use mathlib.Core.List.{List, [], _∷_, map}
-use Prim.Native.Nat.{ℕ, zero, suc, _+_, _≤_, _<_, min}
-use native.Mathlib.Nat.{add-suc, suc-add, add-zero, zero-add}
+use Prim.Native.Nat.{ℕ, zero, suc, _+_, _≤_, _<_}
+use native.Mathlib.Nat.{zero-add}
 use native.Mathlib.Omega.{arith}
 use lib.Dec.{leb, eqb}
 use lib.ListN.{length, getD, set, length-set}
 use lib.Seq.{getD-set-same, getD-set-other}
-use borrow.Author.Tests.{leb-true, leb-false, le-leb, lt-leb, eqb-true, eqb-false, eq-eqb, ne-eqb}
-use Rattle.lists.specs.Lists.{bump, keepIf}
+use borrow.Author.Tests.{leb-true, le-leb, lt-leb, eqb-true, eqb-false, eq-eqb, ne-eqb}
+use Rattle.lists.specs.Lists.{keepIf}
 use Rattle.lists.proofs.Bools.{by-cases}
-use Rattle.lists.proofs.Counting.{bump-up}
-use Rattle.edges.specs.Edges.{Edge, same}
+use Rattle.edges.specs.Edges.{Edge}
 use Rattle.edges.proofs.SameEdge.{same-refl}
 use Rattle.wires.specs.Hems.{EdgeLists, outs, pairs}
-use Rattle.wires.specs.House.{lesser, leastStart, without}
+use Rattle.wires.specs.House.{leastStart, without}
 use Rattle.wires.specs.Ported.{entry}
 use Rattle.wires.specs.Tables.{leftFrom, left, Next, Linked}
 use Rattle.wires.proofs.Closing.{start-none, start-some}

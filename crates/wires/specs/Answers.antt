@@ -8,6 +8,7 @@ use lib.Seq.{sets}
 use Rattle.lists.specs.Lists.{joined}
 use Rattle.mesh.specs.Mesh.{Mesh, faces}
 use Rattle.mesh.specs.Table.{meshNumber, when, firstOf, lent, short, after}
+use Rattle.edges.specs.Runs.{Edged}
 use Rattle.edges.specs.Edges.{Edge, edgesOf, Verdict, Irregular, Regular, Oriented, Closed, verdict, hems}
 use Rattle.wires.specs.House.{houseWires}
 use Rattle.wires.specs.Ported.{portedWires}
@@ -58,3 +59,23 @@ PortedAnswer m flat lengths flat′ lengths′ number numbers wires =
 abbrev pub HouseAnswer : Mesh → List ℕ → List ℕ → List ℕ → List ℕ → ℕ → ℕ → ℕ → Type 0
 HouseAnswer m flat lengths flat′ lengths′ number numbers wires =
     Answered (houseNumber m (length flat) (length lengths)) (houseWires (hems (edgesOf (faces m)))) flat lengths flat′ lengths′ number numbers wires
+
+-- between the functions: the wires of a mesh that is accepted
+pub record PortedOf (corners sizes : List ℕ) (positions : ℕ) (flat lengths : List ℕ) : Type 0 where
+  pub edged : Edged corners sizes positions
+  pub numbers : 2 * cornerCount corners ≤ length flat
+  pub wires : cornerCount corners ≤ length lengths
+
+pub record HouseOf (corners sizes : List ℕ) (positions : ℕ) (flat lengths : List ℕ) : Type 0 where
+  pub edged : Edged corners sizes positions
+  pub numbers : cornerCount corners ≤ length flat
+  pub wires : cornerCount corners ≤ length lengths
+
+pub record Refused (n number numbers wires : ℕ) : Type 0 where
+  pub number-is : number ≡ n
+  pub no-numbers : numbers ≡ 0
+  pub no-wires : wires ≡ 0
+
+abbrev pub HouseDone : List Edge → List ℕ → List ℕ → List ℕ → List ℕ → ℕ → ℕ → ℕ → Type 0
+HouseDone es flat lengths flat′ lengths′ number numbers wires =
+    Answered (when (not (wired (verdict es))) 10) (houseWires (hems es)) flat lengths flat′ lengths′ number numbers wires

@@ -1,6 +1,5 @@
 -- The two tables are what the tracer is given, and its wires are the house wires. Assumes nothing.
 use Rattle.wires.proofs.BlankTables.{house-linkable, house-left, house-wires-are, written-as}
-use native.Mathlib.Omega.{arith}
 use borrow.Author.Needs.{needs}
 use Rattle.wires.proofs.house_in.Statement.{statement}
 use Rattle.wires.proofs.house_in.Tie as tie

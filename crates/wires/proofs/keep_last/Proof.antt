@@ -1,5 +1,5 @@
 -- What the table will be is the same at each turn. The measure is the edges that are left. Assumes nothing.
-use Prim.Native.Nat.{ℕ, _-_}
+use Prim.Native.Nat.{_-_}
 use lib.ListN.{length}
 use Rattle.wires.proofs.Linking.{Numbering, number-begins, number-turns, number-ends}
 use borrow.Author.Needs.{needs}

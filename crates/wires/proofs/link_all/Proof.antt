@@ -1,6 +1,5 @@
 -- The tables are those of the edges from k on. The measure is k. Assumes nothing.
 use Prim.Native.Nat.{_-_}
-use lib.ListN.{length}
 use Rattle.wires.proofs.Linking.{Chaining, chain-begins, chain-turns, chain-ends}
 use borrow.Author.Needs.{needs}
 use native.Mathlib.Omega.{arith}

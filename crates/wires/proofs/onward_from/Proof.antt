@@ -1,6 +1,6 @@
 -- Where the first edge at c is no edge's number there is no entry; else the tables say that it is the entry, and what is left without it. Assumes nothing.
 use Rattle.wires.proofs.Steps.{back-home, onward-by}
-use mathlib.Core.Path.{ap, _∙_}
+use mathlib.Core.Path.{ap}
 use lib.ListN.{getD}
 use Prim.Native.Nat.{ℕ}
 use native.Mathlib.Omega.{arith}

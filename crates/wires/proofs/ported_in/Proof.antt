@@ -1,6 +1,5 @@
 -- The table of last edges is what the tracer is given, and its wires are the ported wires. Assumes nothing.
 use Rattle.wires.proofs.BlankTables.{ported-startable, ported-left, ported-traced, written-as}
-use native.Mathlib.Omega.{arith}
 use borrow.Author.Needs.{needs}
 use Rattle.wires.proofs.ported_in.Statement.{statement}
 use Rattle.wires.proofs.ported_in.Tie as tie

@@ -1,5 +1,5 @@
 -- What is written and what is still to come are all wires. The measure is the positions and the edges that are left. Assumes nothing.
-use Prim.Native.Nat.{ℕ, _+_, _-_}
+use Prim.Native.Nat.{_+_, _-_}
 use lib.ListN.{length}
 use Rattle.wires.specs.Tables.{left}
 use Rattle.wires.proofs.AllWires.{Gathering, gather-begins, gather-skips, gather-ready, gather-less, gather-turns, gather-ends}

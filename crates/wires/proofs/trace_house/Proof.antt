@@ -1,7 +1,6 @@
 -- The tables are blank. Assumes nothing.
 use mathlib.Core.Path.{refl}
 use Rattle.wires.specs.Tables.{blank}
-use native.Mathlib.Omega.{arith}
 use borrow.Author.Needs.{needs}
 use Rattle.wires.proofs.trace_house.Statement.{statement}
 use Rattle.wires.proofs.trace_house.Tie as tie

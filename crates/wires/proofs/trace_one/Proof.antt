@@ -1,6 +1,6 @@
 -- The wire is what `trace_wire` ensures, and its length a small number. Assumes nothing.
 use mathlib.Core.Path.{_≡_, refl, ap}
-use Prim.Native.Nat.{ℕ, _-_}
+use Prim.Native.Nat.{_-_}
 use lib.ListN.{length, set}
 use Rattle.wires.specs.Tables.{left}
 use Rattle.wires.specs.Tracing.{trace}

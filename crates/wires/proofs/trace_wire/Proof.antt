@@ -4,7 +4,6 @@ use Rattle.wires.specs.Tables.{left}
 use Rattle.wires.specs.Tracing.{trace}
 use Rattle.wires.proofs.Following.{Following, follow-begins, follow-turns, follow-less, follow-ends}
 use borrow.Author.Needs.{needs}
-use native.Mathlib.Omega.{arith}
 use Rattle.wires.proofs.trace_wire.Statement.{statement}
 use Rattle.wires.proofs.trace_wire.Tie as tie
 

@@ -1,0 +1,44 @@
+-- `lines::put_sheet` meets its contract: 65,536 bytes are room for the four parts (`sheet-room`), which are put one behind the other. Assumes nothing.
+use Rattle.lines.proofs.Fitting.{Narrow, sheet-room, mesh-room, verdict-room, panels-room, hems-room, sheet-written}
+use Rattle.text.specs.Text.{Room}
+use Rattle.lines.specs.Lines.{sheetText}
+use Rattle.lines.specs.Working.{foundBy}
+use native.Mathlib.Omega.{arith}
+use borrow.Author.Needs.{needs}
+use Rattle.lines.proofs.put_sheet.Statement.{statement}
+use Rattle.lines.proofs.put_sheet.Tie as tie
+
+narrow : (c : tie.Start) → Narrow (c .args .found)
+narrow c = record { positions = search needs; textures = search needs; normals = search needs; faces = search needs; panels = search needs }
+
+whole-room : (c : tie.After-shared-slice-known) → Room (sheetText (foundBy (c .before .args .found) (c .before .args .flat .now) (c .before .args .lengths .now))) (c .before .args .out .now) 0
+whole-room c = sheet-room _ _ _ _ (narrow (c .before)) (λ i. omega (arith, c .shared-slice-known .given i)) (c .before .pre)
+
+put-mesh-requires : tie.Need-put-mesh-requires
+put-mesh-requires c κs = mesh-room _ _ _ _ (whole-room (c .before .before .before))
+
+put-verdict-requires : tie.Need-put-verdict-requires
+put-verdict-requires c κs = verdict-room _ _ _ _ _ _ (whole-room (c .before .before .before .before .before .before .before)) (c .before .before .before .put-mesh .ensures)
+
+put-panels-requires : tie.Need-put-panels-requires
+put-panels-requires c κs = panels-room _ _ _ _ _ _ _ _ (whole-room (c .before .before .before .before .before .before .before .before .before .before .before)) (c .before .before .before .before .before .before .before .put-mesh .ensures) (c .before .before .before .put-verdict .ensures)
+
+put-wires-requires : tie.Need-put-wires-requires
+put-wires-requires c κs = record { within = c .before .before .before .before .before .before .before .before .before .before .before .before .before .before .before .before .pre .within; room = hems-room _ _ _ _ _ _ _ _ _ _ (whole-room (c .before .before .before .before .before .before .before .before .before .before .before .before .before .before .before)) (c .before .before .before .before .before .before .before .before .before .before .before .put-mesh .ensures) (c .before .before .before .before .before .before .before .put-verdict .ensures) (c .before .before .before .put-panels .ensures) }
+
+same-length : tie.Need-same-length
+same-length c = search needs
+
+returns : tie.Need-returns
+returns c = sheet-written _ _ _ _ _ _ _ _ _ _ _ _ (c .before .before .before .before .before .before .before .before .before .before .before .before .before .before .put-mesh .ensures) (c .before .before .before .before .before .before .before .before .before .before .put-verdict .ensures) (c .before .before .before .before .before .before .put-panels .ensures) (c .before .before .put-wires .ensures)
+
+pub put-sheet-spec : {M : Type 1} → statement M
+put-sheet-spec =
+    tie.close
+    (tie.spec
+    put-mesh-requires
+    put-verdict-requires
+    put-panels-requires
+    put-wires-requires
+    same-length
+    returns)

@@ -1,0 +1,108 @@
+-- `lines::put_verdict` meets its contract: each case has its line written out, and `enum-told` says which case it is. Assumes nothing.
+use mathlib.Core.Path.{ap}
+use mathlib.Core.List.{List}
+use Prim.Native.Nat.{ℕ}
+use Rattle.text.specs.Text.{line}
+use Rattle.text.proofs.Putting.{room-as, written-as}
+use Rattle.edges.specs.declared.ShellCondition.{ShellCondition}
+use Rattle.lines.specs.Lines.{verdictLine}
+use Rattle.edges.specs.Answers.{verdictOf}
+use borrow.Author.Needs.{needs}
+use Rattle.lines.proofs.put_verdict.Statement.{statement}
+use Rattle.lines.proofs.put_verdict.Tie as tie
+
+abbrev told : ShellCondition → List ℕ
+told v = verdictLine (verdictOf v)
+
+enum-told : tie.Need-enum-told
+enum-told c = search needs
+
+slice-aggregate-put-bytes : tie.Need-slice-aggregate-put-bytes
+slice-aggregate-put-bytes c = search needs
+
+put-bytes-requires : tie.Need-put-bytes-requires
+unfolding verdictLine verdictOf line
+put-bytes-requires c κs = room-as (ap told (c .before .before .enum-told .given .1)) (c .before .before .before .before .before .pre)
+
+enum-told-2 : tie.Need-enum-told-2
+enum-told-2 c = search needs
+
+slice-aggregate-put-bytes-2 : tie.Need-slice-aggregate-put-bytes-2
+slice-aggregate-put-bytes-2 c = search needs
+
+put-bytes-requires-2 : tie.Need-put-bytes-requires-2
+unfolding verdictLine verdictOf line
+put-bytes-requires-2 c κs = room-as (ap told (c .before .before .enum-told2 .given .1)) (c .before .before .before .before .before .pre)
+
+enum-told-3 : tie.Need-enum-told-3
+enum-told-3 c = search needs
+
+slice-aggregate-put-bytes-3 : tie.Need-slice-aggregate-put-bytes-3
+slice-aggregate-put-bytes-3 c = search needs
+
+put-bytes-requires-3 : tie.Need-put-bytes-requires-3
+unfolding verdictLine verdictOf line
+put-bytes-requires-3 c κs = room-as (ap told (c .before .before .enum-told3 .given .1)) (c .before .before .before .before .before .pre)
+
+enum-told-4 : tie.Need-enum-told-4
+enum-told-4 c = search needs
+
+slice-aggregate-put-bytes-4 : tie.Need-slice-aggregate-put-bytes-4
+slice-aggregate-put-bytes-4 c = search needs
+
+put-bytes-requires-4 : tie.Need-put-bytes-requires-4
+unfolding verdictLine verdictOf line
+put-bytes-requires-4 c κs = room-as (ap told (c .before .before .enum-told4 .given .1)) (c .before .before .before .before .before .pre)
+
+same-length : tie.Need-same-length
+same-length c = search needs
+
+returns : tie.Need-returns
+unfolding verdictLine verdictOf line
+returns c = written-as (ap told (c .before .before .before .before .before .enum-told .given .1)) (c .before .before .put-bytes .ensures)
+
+same-length-2 : tie.Need-same-length-2
+same-length-2 c = search needs
+
+returns-2 : tie.Need-returns-2
+unfolding verdictLine verdictOf line
+returns-2 c = written-as (ap told (c .before .before .before .before .before .enum-told2 .given .1)) (c .before .before .put-bytes2 .ensures)
+
+same-length-3 : tie.Need-same-length-3
+same-length-3 c = search needs
+
+returns-3 : tie.Need-returns-3
+unfolding verdictLine verdictOf line
+returns-3 c = written-as (ap told (c .before .before .before .before .before .enum-told3 .given .1)) (c .before .before .put-bytes3 .ensures)
+
+same-length-4 : tie.Need-same-length-4
+same-length-4 c = search needs
+
+returns-4 : tie.Need-returns-4
+unfolding verdictLine verdictOf line
+returns-4 c = written-as (ap told (c .before .before .before .before .before .enum-told4 .given .1)) (c .before .before .put-bytes4 .ensures)
+
+pub put-verdict-spec : {M : Type 1} → statement M
+put-verdict-spec =
+    tie.close
+    (tie.spec
+    enum-told
+    slice-aggregate-put-bytes
+    put-bytes-requires
+    enum-told-2
+    slice-aggregate-put-bytes-2
+    put-bytes-requires-2
+    enum-told-3
+    slice-aggregate-put-bytes-3
+    put-bytes-requires-3
+    enum-told-4
+    slice-aggregate-put-bytes-4
+    put-bytes-requires-4
+    same-length
+    returns
+    same-length-2
+    returns-2
+    same-length-3
+    returns-3
+    same-length-4
+    returns-4)

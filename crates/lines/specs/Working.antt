@@ -1,0 +1,44 @@
+-- What the functions of the crate hand to one another; a caller needs none of it. Assumes nothing.
+use Prim.Native.Nat.{ℕ, _≤_}
+use mathlib.Core.Option.{Option, none, some}
+use mathlib.Core.List.{List, [], _∷_}
+use lib.ListN.{length, take, drop}
+use Rattle.lists.specs.Lists.{sum}
+use Rattle.mesh.specs.Table.{after}
+use Rattle.edges.specs.Answers.{verdictOf}
+use Rattle.text.specs.Text.{Room}
+use Rattle.lines.specs.declared.Findings.{Findings}
+use Rattle.lines.specs.Lines.{Found, hemLines}
+
+-- the wires of a flat list: each takes as many numbers as its length says
+abbrev pub parts : List ℕ → List ℕ → List (List ℕ)
+parts [] flat = []
+parts (n ∷ s) flat = take n flat ∷ parts s (drop n flat)
+
+-- the wires, or none where house wires answered another number than 0
+unfoldable pub wiresBy : ℕ → List ℕ → List ℕ → Option (List (List ℕ))
+wiresBy number flat lengths = after number (some (parts lengths flat)) none
+
+-- what was found, with its wires
+unfoldable pub foundBy : Findings → List ℕ → List ℕ → Found
+foundBy f flat lengths = record {
+  positions = f .positions;
+  textures = f .textures;
+  normals = f .normals;
+  faces = f .faces;
+  verdict = verdictOf (f .verdict);
+  panels = f .panels;
+  wires = wiresBy (f .number) flat lengths;
+}
+
+-- lengths that do not go beyond the flat list, and room for the lines of the wires
+pub record Wired (number : ℕ) (flat lengths out : List ℕ) (at : ℕ) : Type 0 where
+  pub within : sum lengths ≤ length flat
+  pub room : Room (hemLines (wiresBy number flat lengths)) out at
+
+-- as many numbers and as many wires as a mesh can have, and room for every sheet
+pub record Ready (flat lengths out : List ℕ) : Type 0 where
+  pub within : sum lengths ≤ length flat
+  pub few : length flat ≤ 4096
+  pub few-wires : length lengths ≤ 4096
+  pub room : 65536 ≤ length out

@@ -1,0 +1,48 @@
+-- The steps of the code, and no rules of document 01: what the parts of the call rest on, and the rows that they use. Assumes nothing.
+use mathlib.Core.Path.{_≡_}
+use mathlib.Core.List.{List}
+use Prim.Native.Nat.{ℕ, _+_, _*_, _/_, _≤_, _<_}
+use lib.ListN.{length, getD, replicate}
+use Rattle.mesh.specs.Mesh.{missing}
+use Rattle.mesh.specs.Face.{Sound}
+use Rattle.panels.specs.Joins.{flatJoins, joinsOf}
+
+-- corners whose positions are below 2,048, and whose normals are missing or below 2,048
+pub record Keyable (cs s : List ℕ) : Type 0 where
+  pub sound : Sound cs s
+  pub position : (k : ℕ) → k < length cs / 3 → getD cs (3 * k) 0 < 2048
+  pub normal : (k : ℕ) → k < length cs / 3 → (getD cs (3 * k + 2) 0 ≡ missing → ⊥) → getD cs (3 * k + 2) 0 < 2048
+
+-- room for all joins
+pub record JoinRoom (cs s joins : List ℕ) : Type 0 where
+  pub keyable : Keyable cs s
+  pub room : 8192 ≤ length joins
+
+-- rows of one number for each corner
+pub record KeyRows (cs s lower higher n m order firsts faces joins : List ℕ) : Type 0 where
+  pub keyable : Keyable cs s
+  pub lower-long : length lower ≡ length cs / 3
+  pub higher-long : length higher ≡ length cs / 3
+  pub n-long : length n ≡ length cs / 3
+  pub m-long : length m ≡ length cs / 3
+  pub order-long : length order ≡ length cs / 3
+  pub firsts-long : length firsts ≡ length cs / 3
+  pub faces-long : length faces ≡ length cs / 3
+  pub room : 8192 ≤ length joins
+
+-- joins of f faces, and room for the panels
+pub record Divisible (joins : List ℕ) (f : ℕ) (flat lengths : List ℕ) : Type 0 where
+  pub whole : joins ≡ flatJoins (joinsOf joins)
+  pub fits : length joins ≤ 8192
+  pub below : (e : ℕ) → e < length joins → getD joins e 0 < f
+  pub small : f ≤ 1365
+  pub faces-room : f ≤ length flat
+  pub panels-room : f ≤ length lengths
+
+-- two rows of one number for each entry of the joins, and three of one for each face, the marks among them clear
+pub record PartRows (joins entries order ends seen stack flat lengths : List ℕ) : Type 0 where
+  pub divisible : Divisible joins (length ends) flat lengths
+  pub entries-long : length entries ≡ length joins
+  pub order-long : length order ≡ length joins
+  pub unseen : seen ≡ replicate (length ends) 0
+  pub stack-long : length stack ≡ length ends
