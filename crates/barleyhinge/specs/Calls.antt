@@ -6,9 +6,14 @@ use mathlib.Core.Bool.{cond, _&&_}
 use lib.ListN.{length, take, drop}
 use lib.Dec.{ltb, eqb}
 use Rattle.mesh.specs.Mesh.{Mesh}
-use Rattle.mesh.specs.Table.{shapeNumber}
+use Rattle.mesh.specs.Table.{shapeNumber, meshNumber, after}
 use Rattle.mesh.specs.Face.{offsetOf, facePart}
 use Rattle.compaction.specs.declared.Compacted.{Compacted}
+use Rattle.folded.specs.declared.Removed.{Removed}
+use Rattle.edges.specs.Edges.{Verdict, verdict}
+use Rattle.edges.specs.Answers.{meshEdgesOf}
+use Rattle.edges.specs.declared.HemEdges.{HemEdges}
+use Rattle.panelfile.specs.declared.Panel.{Panel}
 
 -- where the part of face k starts in the list of corners: behind three numbers for each corner of the faces before it; 0 where
 -- the part is empty
@@ -24,3 +29,28 @@ pub record PartAnswer (m : Mesh) (k start len : ℕ) : Type 0 where
 -- what compaction answers: the number returned, and the counts of positions, texture points and normals
 abbrev pub compactedBy : ℕ → ℕ → ℕ → ℕ → Compacted
 compactedBy number p t n = record { number = number; positions = p; textures = t; normals = n }
+
+-- what the removal of folded faces answers: the number returned, and the counts of corners and faces
+abbrev pub removedBy : ℕ → ℕ → ℕ → Removed
+removedBy number c f = record { number = number; corners = c; faces = f }
+
+-- the verdicts by number, from the weakest to the strongest
+unfoldable pub verdictNumber : Verdict → ℕ
+verdictNumber Verdict.Irregular = 0
+verdictNumber Verdict.Regular = 1
+verdictNumber Verdict.Oriented = 2
+verdictNumber Verdict.Closed = 3
+
+-- the verdict of a mesh: it is answered only with 0
+pub record VerdictAnswer (m : Mesh) (before behind number : ℕ) : Type 0 where
+  pub returned : number ≡ meshNumber m
+  pub answered : behind ≡ after number (verdictNumber (verdict (meshEdgesOf m))) before
+
+-- what hem edges answer: the number returned, and how many there are
+abbrev pub hemmedBy : ℕ → ℕ → HemEdges
+hemmedBy number n = record { number = number; count = n }
+
+-- what the reader answers: the number returned, and the counts of positions, texture points, normals, corners and faces
+abbrev pub readBy : ℕ → ℕ → ℕ → ℕ → ℕ → ℕ → Panel
+readBy number p t n c f =
+    record { number = number; positions = p; textures = t; normals = n; corners = c; faces = f }

@@ -8,7 +8,13 @@ ghost use mathlib.Core.Path.{_≡_};
 ghost use Rattle.mesh.specs.Mesh.{meshOf};
 ghost use Rattle.mesh.specs.Table.{meshNumber};
 ghost use Rattle.compaction.specs.Compaction as compacting;
+ghost use Rattle.folded.specs.Folded as folding;
+ghost use Rattle.edges.specs.Edges.{Verdict};
+ghost use Rattle.edges.specs.Answers.{verdictOf, HemAnswer};
+ghost use Rattle.panelfile.specs.Answer.{PanelRead};
 ghost use Rattle.barleyhinge.specs.Calls as call;
+use edges::Judged;
+use edges::ShellCondition;
 
 // The number that a mesh earns, 0 to 5.
 #[no_mangle]
@@ -80,4 +86,112 @@ pub extern "C" fn bh_remove_unused_attrs(
     *texturecount = made.textures;
     *normalcount = made.normals;
     made.number
+}
+
+// Removal of folded faces.
+#[no_mangle]
+pub extern "C" fn bh_remove_degenerate_faces(
+    positions: &[f64],
+    textures: &[f64],
+    normals: &[f64],
+    corners: &[u32],
+    sizes: &[u32],
+    newcorners: &mut [u32],
+    newsizes: &mut [u32],
+    cornercount: &mut usize,
+    facecount: &mut usize,
+) -> u32
+    ensures { λ r. ⌜ folding.Removal (meshOf (now (positions .entry)) (now (textures .entry)) (now (normals .entry)) (now (corners .entry)) (now (sizes .entry))) (folding.resultOf (now (newcorners .entry)) (now (newsizes .entry))) (folding.resultOf (now (newcorners .exit)) (now (newsizes .exit))) (call.removedBy r (now (cornercount .exit)) (now (facecount .exit))) ⌝ }
+{
+    let left = folded::remove_degenerate_faces(
+        positions,
+        textures,
+        normals,
+        corners,
+        sizes,
+        newcorners,
+        newsizes,
+    );
+    *cornercount = left.corners;
+    *facecount = left.faces;
+    left.number
+}
+
+// The verdict, by number: 0 Irregular, 1 Regular, 2 Oriented, 3 Closed. It is written only with 0.
+#[no_mangle]
+pub extern "C" fn bh_shell_condition(
+    positions: &[f64],
+    textures: &[f64],
+    normals: &[f64],
+    corners: &[u32],
+    sizes: &[u32],
+    verdict: &mut u32,
+) -> u32
+    ensures { λ r. ⌜ call.VerdictAnswer (meshOf (now (positions .entry)) (now (textures .entry)) (now (normals .entry)) (now (corners .entry)) (now (sizes .entry))) (now (verdict .entry)) (now (verdict .exit)) r ⌝ }
+{
+    let judged = edges::shell_condition(positions, textures, normals, corners, sizes);
+    match judged {
+        Judged::Found(condition) => {
+            *verdict = verdict_number(condition);
+            0
+        }
+        Judged::Refused(number) => number,
+    }
+}
+
+// The number of a verdict.
+fn verdict_number(condition: ShellCondition) -> u32
+    ensures { λ r. ⌜ r ≡ call.verdictNumber (verdictOf condition) ⌝ }
+{
+    match condition {
+        ShellCondition::Irregular => 0,
+        ShellCondition::Regular => 1,
+        ShellCondition::Oriented => 2,
+        ShellCondition::Closed => 3,
+    }
+}
+
+// The hem edges: where each starts, where each ends, and how many there are.
+#[no_mangle]
+pub extern "C" fn bh_hem_edges(
+    positions: &[f64],
+    textures: &[f64],
+    normals: &[f64],
+    corners: &[u32],
+    sizes: &[u32],
+    starts: &mut [u32],
+    ends: &mut [u32],
+    count: &mut usize,
+) -> u32
+    ensures { λ r. ⌜ HemAnswer (meshOf (now (positions .entry)) (now (textures .entry)) (now (normals .entry)) (now (corners .entry)) (now (sizes .entry))) (now (starts .entry)) (now (ends .entry)) (now (starts .exit)) (now (ends .exit)) (call.hemmedBy r (now (count .exit))) ⌝ }
+{
+    let hems = edges::hem_edges(positions, textures, normals, corners, sizes, starts, ends);
+    *count = hems.count;
+    hems.number
+}
+
+// The reader of a panel file.
+#[no_mangle]
+pub extern "C" fn bh_read_panel(
+    file: &[u8],
+    positions: &mut [f64],
+    textures: &mut [f64],
+    normals: &mut [f64],
+    corners: &mut [u32],
+    sizes: &mut [u32],
+    positioncount: &mut usize,
+    texturecount: &mut usize,
+    normalcount: &mut usize,
+    cornercount: &mut usize,
+    facecount: &mut usize,
+) -> u32
+    ensures { λ r. ⌜ PanelRead (now (file .entry)) (call.readBy r (now (positioncount .exit)) (now (texturecount .exit)) (now (normalcount .exit)) (now (cornercount .exit)) (now (facecount .exit))) (now (positions .entry)) (now (positions .exit)) (now (textures .entry)) (now (textures .exit)) (now (normals .entry)) (now (normals .exit)) (now (corners .entry)) (now (corners .exit)) (now (sizes .entry)) (now (sizes .exit)) ⌝ }
+{
+    let panel = panelfile::read_panel(file, positions, textures, normals, corners, sizes);
+    *positioncount = panel.positions;
+    *texturecount = panel.textures;
+    *normalcount = panel.normals;
+    *cornercount = panel.corners;
+    *facecount = panel.faces;
+    panel.number
 }
