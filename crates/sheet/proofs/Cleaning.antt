@@ -1,8 +1,8 @@
 -- Removal and compaction in lists at the full limits: on an accepted mesh both are done, and what they give stands at the front
 -- of the lists, an accepted mesh again. Assumes nothing.
-use mathlib.Core.Path.{sym, ap}
+use mathlib.Core.Path.{_≡_, _∙_, sym, ap}
 use mathlib.Core.List.{List}
-use Prim.Native.Nat.{ℕ}
+use Prim.Native.Nat.{_*_, _/_, ℕ}
 use native.Mathlib.Omega.{arith}
 use lib.ListN.{length, take, length-map}
 use lib.Ieee.{Float}

@@ -1,10 +1,11 @@
 -- What is found in an accepted mesh: how many panels it has, and its house wires at the front of the two lists, as the sheet's lines
 -- take them. Assumes nothing.
+use mathlib.Core.Path.{_∙_}
+use mathlib.Core.List.{List, [], map}
+use Prim.Native.Nat.{_/_, _≤_, ℕ, zero, suc}
 use mathlib.Core.Path.{_≡_, refl, sym, ap}
 use mathlib.Core.Bool.{true, false, cond, not}
 use mathlib.Core.Option.{none, some}
-use mathlib.Core.List.{List, [], map}
-use Prim.Native.Nat.{ℕ, zero, suc}
 use native.Mathlib.Omega.{arith}
 use lib.ListN.{length, take, length-map}
 use lib.Seq.{sets, length-sets, length-take-le}

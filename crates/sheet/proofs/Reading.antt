@@ -1,8 +1,8 @@
 -- The file's mesh in lists at the full limits: the reader is never short of room, so that it answers the file's own number, and
 -- what it accepts stands at the front of the lists. Assumes nothing.
-use mathlib.Core.Path.{refl, sym, ap}
+use mathlib.Core.Path.{_≡_, _∙_, refl, sym, ap}
 use mathlib.Core.List.{List, []}
-use Prim.Native.Nat.{ℕ, zero, suc}
+use Prim.Native.Nat.{_*_, _≤_, ℕ, zero, suc}
 use native.Mathlib.Omega.{arith}
 use lib.ListN.{take}
 use lib.Ieee.{Float}
@@ -11,8 +11,8 @@ use Rattle.mesh.specs.Table.{meshNumber, short}
 use Rattle.mesh.proofs.Accepted.{Accepted, accepted}
 use Rattle.mesh.proofs.After.{after-done}
 use Rattle.mesh.proofs.Numbers.{first-head}
-use Rattle.text.specs.Text.{Written}
 use Rattle.lines.specs.Lines.{sheetText, refusal}
+use Rattle.lines.specs.Working.{Sheeted}
 use Rattle.panelfile.specs.declared.Panel.{Panel}
 use Rattle.panelfile.specs.Reading.{readAll, finish, fullRoom, panelNumber, panelMesh}
 use Rattle.panelfile.specs.Answer.{PanelRead}
@@ -23,8 +23,8 @@ use Rattle.sheet.proofs.Fronts.{Front, front-positions, front-textures,
 
 -- ---- texts that are equal
 
-pub written-as : {a b out out′ : List ℕ} {at next : ℕ} → a ≡ b → Written a out out′ at next → Written b out out′ at next
-written-as e w = rw (sym e) w
+pub sheeted-as : {a b out out′ : List ℕ} {n : ℕ} → a ≡ b → Sheeted a out out′ n → Sheeted b out out′ n
+sheeted-as e w = rw (sym e) w
 
 pub printed-refused : (n : ℕ) (m : Mesh) → (n ≡ 0 → ⊥) → refusal n ≡ printed n m
 unfolding printed

@@ -1,6 +1,6 @@
 -- The sheet of a panel file (added), as document 01, 'The panel file and the sheet', has it: from the file's bytes to the sheet's.
 -- Its lines stand in lines' specs/Lines.antt. Assumes nothing.
-use Prim.Native.Nat.{ℕ, zero, suc}
+use Prim.Native.Nat.{ℕ, zero, suc, _≤_}
 use mathlib.Core.Path.{_≡_}
 use mathlib.Core.Bool.{cond, false}
 use mathlib.Core.Option.{none, some}
@@ -55,9 +55,10 @@ sheetOf file = printed (fileNumber file) (panelMesh file)
 unfoldable pub sheetNumber : ℕ → ℕ
 sheetNumber room = when (short (lent room 65536 ∷ [])) 9
 
--- what the call answers and leaves: the sheet from the front on, room past it unchanged, and its length; with 9 nothing is written, and
--- the length is 0
+-- what the call answers and leaves: the sheet from the front on, room past it unchanged, and its length, which is never more than the
+-- list has; with 9 nothing is written, and the length is 0
 pub record Printed (file out out′ : List ℕ) (r : Answer) : Type 0 where
   pub number : r .number ≡ sheetNumber (length out)
   pub count : r .length ≡ after (r .number) (length (sheetOf file)) 0
   pub bytes : out′ ≡ after (r .number) (sets out 0 (sheetOf file)) out
+  pub fits : r .length ≤ length out

@@ -7,8 +7,8 @@ ghost use Prim.Native.Nat.{_≤_};
 ghost use mathlib.Core.List.{[]};
 ghost use lib.ListN.{length};
 ghost use Rattle.mesh.specs.Mesh.{meshOf};
-ghost use Rattle.text.specs.Text.{Written};
 ghost use Rattle.lines.specs.Lines.{sheetText};
+ghost use Rattle.lines.specs.Working.{Sheeted};
 ghost use Rattle.panelfile.specs.Reading.{panelNumber, panelMesh};
 ghost use Rattle.compaction.specs.Compaction.{compacted};
 ghost use Rattle.sheet.specs.Sheet.{cleaned, foundIn, printed, Printed};
@@ -49,7 +49,7 @@ pub fn sheet(file: &[u8], out: &mut [u8]) -> Answer
 // The sheet of a file: lists for its mesh.
 fn from_file(file: &[u8], out: &mut [u8]) -> usize
     requires { ⌜ 65536 ≤ length (now out) ⌝ }
-    ensures { λ r. ⌜ Written (printed (panelNumber [] (now (file .entry))) (panelMesh (now (file .entry)))) (now (out .entry)) (now (out .exit)) 0 r ⌝ }
+    ensures { λ r. ⌜ Sheeted (printed (panelNumber [] (now (file .entry))) (panelMesh (now (file .entry)))) (now (out .entry)) (now (out .exit)) r ⌝ }
 {
     let mut positions = [0.0f64; 6144];
     let mut textures = [0.0f64; 4096];
@@ -78,7 +78,7 @@ fn read_in(
     out: &mut [u8],
 ) -> usize
     requires { ⌜ FileRoom (now positions) (now textures) (now normals) (now corners) (now sizes) (now out) ⌝ }
-    ensures { λ r. ⌜ Written (printed (panelNumber [] (now (file .entry))) (panelMesh (now (file .entry)))) (now (out .entry)) (now (out .exit)) 0 r ⌝ }
+    ensures { λ r. ⌜ Sheeted (printed (panelNumber [] (now (file .entry))) (panelMesh (now (file .entry)))) (now (out .entry)) (now (out .exit)) r ⌝ }
 {
     let panel = panelfile::read_panel(file, positions, textures, normals, corners, sizes);
     let number = panel.number;
@@ -110,7 +110,7 @@ fn from_mesh(
     out: &mut [u8],
 ) -> usize
     requires { ⌜ Ready (meshOf (now positions) (now textures) (now normals) (now corners) (now sizes)) (now out) ⌝ }
-    ensures { λ r. ⌜ Written (sheetText (foundIn (cleaned (meshOf (now (positions .entry)) (now (textures .entry)) (now (normals .entry)) (now (corners .entry)) (now (sizes .entry)))))) (now (out .entry)) (now (out .exit)) 0 r ⌝ }
+    ensures { λ r. ⌜ Sheeted (sheetText (foundIn (cleaned (meshOf (now (positions .entry)) (now (textures .entry)) (now (normals .entry)) (now (corners .entry)) (now (sizes .entry)))))) (now (out .entry)) (now (out .exit)) r ⌝ }
 {
     let mut newcorners = [0u32; 12288];
     let mut newsizes = [0u32; 1365];
@@ -138,7 +138,7 @@ fn unfold_in(
     out: &mut [u8],
 ) -> usize
     requires { ⌜ MeshRoom (meshOf (now positions) (now textures) (now normals) (now corners) (now sizes)) (now newcorners) (now newsizes) (now out) ⌝ }
-    ensures { λ r. ⌜ Written (sheetText (foundIn (cleaned (meshOf (now (positions .entry)) (now (textures .entry)) (now (normals .entry)) (now (corners .entry)) (now (sizes .entry)))))) (now (out .entry)) (now (out .exit)) 0 r ⌝ }
+    ensures { λ r. ⌜ Sheeted (sheetText (foundIn (cleaned (meshOf (now (positions .entry)) (now (textures .entry)) (now (normals .entry)) (now (corners .entry)) (now (sizes .entry)))))) (now (out .entry)) (now (out .exit)) r ⌝ }
 {
     let left = folded::remove_degenerate_faces(
         positions,
@@ -171,7 +171,7 @@ fn from_unfolded(
     out: &mut [u8],
 ) -> usize
     requires { ⌜ Ready (meshOf (now positions) (now textures) (now normals) (now corners) (now sizes)) (now out) ⌝ }
-    ensures { λ r. ⌜ Written (sheetText (foundIn (compacted (meshOf (now (positions .entry)) (now (textures .entry)) (now (normals .entry)) (now (corners .entry)) (now (sizes .entry)))))) (now (out .entry)) (now (out .exit)) 0 r ⌝ }
+    ensures { λ r. ⌜ Sheeted (sheetText (foundIn (compacted (meshOf (now (positions .entry)) (now (textures .entry)) (now (normals .entry)) (now (corners .entry)) (now (sizes .entry)))))) (now (out .entry)) (now (out .exit)) r ⌝ }
 {
     let mut newcorners = [0u32; 12288];
     let mut newpositions = [0.0f64; 6144];
@@ -205,7 +205,7 @@ fn compact_in(
     out: &mut [u8],
 ) -> usize
     requires { ⌜ CleanRoom (meshOf (now positions) (now textures) (now normals) (now corners) (now sizes)) (now newcorners) (now newpositions) (now newtextures) (now newnormals) (now out) ⌝ }
-    ensures { λ r. ⌜ Written (sheetText (foundIn (compacted (meshOf (now (positions .entry)) (now (textures .entry)) (now (normals .entry)) (now (corners .entry)) (now (sizes .entry)))))) (now (out .entry)) (now (out .exit)) 0 r ⌝ }
+    ensures { λ r. ⌜ Sheeted (sheetText (foundIn (compacted (meshOf (now (positions .entry)) (now (textures .entry)) (now (normals .entry)) (now (corners .entry)) (now (sizes .entry)))))) (now (out .entry)) (now (out .exit)) r ⌝ }
 {
     let left = compaction::remove_unused_attrs(
         positions,
@@ -242,7 +242,7 @@ fn from_clean(
     out: &mut [u8],
 ) -> usize
     requires { ⌜ Ready (meshOf (now positions) (now textures) (now normals) (now corners) (now sizes)) (now out) ⌝ }
-    ensures { λ r. ⌜ Written (sheetText (foundIn (meshOf (now (positions .entry)) (now (textures .entry)) (now (normals .entry)) (now (corners .entry)) (now (sizes .entry))))) (now (out .entry)) (now (out .exit)) 0 r ⌝ }
+    ensures { λ r. ⌜ Sheeted (sheetText (foundIn (meshOf (now (positions .entry)) (now (textures .entry)) (now (normals .entry)) (now (corners .entry)) (now (sizes .entry))))) (now (out .entry)) (now (out .exit)) r ⌝ }
 {
     let mut flat = [0u32; 4096];
     let mut lengths = [0u32; 4096];
@@ -270,7 +270,7 @@ fn found_in(
     out: &mut [u8],
 ) -> usize
     requires { ⌜ WireRoom (meshOf (now positions) (now textures) (now normals) (now corners) (now sizes)) (now flat) (now lengths) (now out) ⌝ }
-    ensures { λ r. ⌜ Written (sheetText (foundIn (meshOf (now (positions .entry)) (now (textures .entry)) (now (normals .entry)) (now (corners .entry)) (now (sizes .entry))))) (now (out .entry)) (now (out .exit)) 0 r ⌝ }
+    ensures { λ r. ⌜ Sheeted (sheetText (foundIn (meshOf (now (positions .entry)) (now (textures .entry)) (now (normals .entry)) (now (corners .entry)) (now (sizes .entry))))) (now (out .entry)) (now (out .exit)) r ⌝ }
 {
     let verdict = edges::verdict_of(corners, sizes, positions.len() / 3);
     let parts = panels::components(

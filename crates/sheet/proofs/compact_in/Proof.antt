@@ -1,4 +1,5 @@
-use Rattle.sheet.proofs.Reading.{written-as}
+-- `compact_in` meets its contract: what compaction gives stands at the front of the lists, and the sheet is that of the mesh there (`Cleaning`). Assumes nothing.
+use Rattle.sheet.proofs.Reading.{sheeted-as}
 use Rattle.sheet.proofs.Cleaning.{smaller-positions, smaller-textures, smaller-normals, smaller-corners, smaller-ready, smaller-text}
 use native.Mathlib.Omega.{arith}
 use borrow.Author.Needs.{needs}
@@ -64,7 +65,7 @@ same-length-5 : tie.Need-same-length-5
 same-length-5 c = search needs
 
 returns : tie.Need-returns
-returns c = written-as (smaller-text (c .before .before .before .before .before .before .before .before .before .before .before .before .before .before .before .before .before .before .before .before .before .before .before .before .before .before .before .before .before .before .before .before .before .before .pre) ((c .before .before .before .before .before .before .before .before .before .before .before .before .before .before .before .before .before .before .before .remove-unused-attrs) .ensures)) ((c .before .before .from-clean) .ensures)
+returns c = sheeted-as (smaller-text (c .before .before .before .before .before .before .before .before .before .before .before .before .before .before .before .before .before .before .before .before .before .before .before .before .before .before .before .before .before .before .before .before .before .before .pre) ((c .before .before .before .before .before .before .before .before .before .before .before .before .before .before .before .before .before .before .before .remove-unused-attrs) .ensures)) ((c .before .before .from-clean) .ensures)
 
 pub compact-in-spec : {M : Type 1} → statement M
 compact-in-spec =

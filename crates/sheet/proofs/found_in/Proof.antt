@@ -1,7 +1,8 @@
+-- `found_in` meets its contract: the findings, and the wires at the front of the lists, are what is found in the mesh (`Finding`). Assumes nothing.
 use Rattle.mesh.specs.Mesh.{faces}
 use Rattle.edges.proofs.Answering.{edged}
 use Rattle.mesh.proofs.Accepted.{accepted}
-use Rattle.sheet.proofs.Reading.{written-as}
+use Rattle.sheet.proofs.Reading.{sheeted-as}
 use Rattle.sheet.proofs.Finding.{parts-few, flat-fits, lengths-fit, flat-counted, lengths-counted, lines-ready, found-are}
 use native.Mathlib.Omega.{arith}
 use borrow.Author.Needs.{needs}
@@ -64,7 +65,7 @@ same-length-3 c = search needs
 
 returns : tie.Need-returns
 unfolding faces
-returns c = written-as (found-are (c .before .before .before .before .before .before .before .before .before .before .before .before .before .before .before .before .before .before .before .before .before .before .before .before .before .before .before .before .before .pre) ((c .before .before .before .before .before .before .before .before .before .before .before .before .before .before .before .before .before .components) .ensures) ((c .before .before .before .before .before .before .before .before .before .before .house-wires) .ensures) _ ((c .before .before .before .before .before .before .before .before .before .before .before .before .before .before .before .before .before .before .before .before .verdict-of) .ensures)) ((c .before .before .put-sheet) .ensures)
+returns c = sheeted-as (found-are (c .before .before .before .before .before .before .before .before .before .before .before .before .before .before .before .before .before .before .before .before .before .before .before .before .before .before .before .before .before .pre) ((c .before .before .before .before .before .before .before .before .before .before .before .before .before .before .before .before .before .components) .ensures) ((c .before .before .before .before .before .before .before .before .before .before .house-wires) .ensures) _ ((c .before .before .before .before .before .before .before .before .before .before .before .before .before .before .before .before .before .before .before .before .verdict-of) .ensures)) ((c .before .before .put-sheet) .ensures)
 
 pub found-in-spec : {M : Type 1} → statement M
 found-in-spec =

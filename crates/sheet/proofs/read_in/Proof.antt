@@ -1,4 +1,5 @@
-use Rattle.sheet.proofs.Reading.{read-few, written-as, read-fronts, read-ready, read-text, refused-text}
+-- `read_in` meets its contract: a refused file's sheet is its refusal, any other's that of the mesh at the front of the lists (`Reading`). Assumes nothing.
+use Rattle.sheet.proofs.Reading.{read-few, sheeted-as, read-fronts, read-ready, read-text, refused-text}
 use native.Mathlib.Omega.{arith}
 use borrow.Author.Needs.{needs}
 use Rattle.sheet.proofs.read_in.Statement.{statement}
@@ -34,7 +35,7 @@ same-length-6 : tie.Need-same-length-6
 same-length-6 c = search needs
 
 returns : tie.Need-returns
-returns c = written-as (refused-text (c .before .before .before .before .before .before .before .before .before .before .before .before .before .before .before .before .before .before .before .before .before .before .before .before .before .before .before .before .pre) ((c .before .before .before .before .before .before .before .before .before .before .before .before .before .before .before .read-panel) .ensures) ((c .before .before .before .before .if1) .taken)) ((c .before .before .put-refusal) .ensures)
+returns c = sheeted-as (refused-text (c .before .before .before .before .before .before .before .before .before .before .before .before .before .before .before .before .before .before .before .before .before .before .before .before .before .before .before .before .pre) ((c .before .before .before .before .before .before .before .before .before .before .before .before .before .before .before .read-panel) .ensures) ((c .before .before .before .before .if1) .taken)) ((c .before .before .put-refusal) .ensures)
 
 mul-p : tie.Need-mul-p
 mul-p c = omega (arith, read-few (c .before .before .before .before .before .before .before .before .before .before .before .before .before .before .before .before .before .before .before .before .before .before .before .before .before .pre) ((c .before .before .before .before .before .before .before .before .before .before .before .before .read-panel) .ensures) ((c .before .if1) .left) .positions)
@@ -100,7 +101,7 @@ same-length-12 : tie.Need-same-length-12
 same-length-12 c = search needs
 
 returns-2 : tie.Need-returns-2
-returns-2 c = written-as (read-text (c .before .before .before .before .before .before .before .before .before .before .before .before .before .before .before .before .before .before .before .before .before .before .before .before .before .before .before .before .before .before .before .before .before .before .before .before .before .pre) ((c .before .before .before .before .before .before .before .before .before .before .before .before .before .before .before .before .before .before .before .before .before .before .before .before .read-panel) .ensures) ((c .before .before .before .before .before .before .before .before .before .before .before .before .before .if1) .left)) ((c .before .before .from-mesh) .ensures)
+returns-2 c = sheeted-as (read-text (c .before .before .before .before .before .before .before .before .before .before .before .before .before .before .before .before .before .before .before .before .before .before .before .before .before .before .before .before .before .before .before .before .before .before .before .before .before .pre) ((c .before .before .before .before .before .before .before .before .before .before .before .before .before .before .before .before .before .before .before .before .before .before .before .before .read-panel) .ensures) ((c .before .before .before .before .before .before .before .before .before .before .before .before .before .if1) .left)) ((c .before .before .from-mesh) .ensures)
 
 pub read-in-spec : {M : Type 1} → statement M
 read-in-spec =

@@ -1,3 +1,4 @@
+-- `sheet` meets its contract: its three ways out (`Printing`). Assumes nothing.
 use Rattle.sheet.proofs.Printing.{short-of-room, done, long-file, short-file}
 use borrow.Author.Needs.{needs}
 use Rattle.sheet.proofs.sheet.Statement.{statement}

@@ -1,4 +1,5 @@
-use Rattle.sheet.proofs.Reading.{written-as}
+-- `unfold_in` meets its contract: what removal gives stands at the front of the lists, and the sheet is that of the mesh there (`Cleaning`). Assumes nothing.
+use Rattle.sheet.proofs.Reading.{sheeted-as}
 use Rattle.sheet.proofs.Cleaning.{unfolded-corners, unfolded-sizes, unfolded-ready, unfolded-text}
 use native.Mathlib.Omega.{arith}
 use borrow.Author.Needs.{needs}
@@ -40,7 +41,7 @@ same-length-3 : tie.Need-same-length-3
 same-length-3 c = search needs
 
 returns : tie.Need-returns
-returns c = written-as (unfolded-text (c .before .before .before .before .before .before .before .before .before .before .before .before .before .before .before .before .before .before .before .before .before .before .pre) ((c .before .before .before .before .before .before .before .before .before .before .before .remove-degenerate-faces) .ensures)) ((c .before .before .from-unfolded) .ensures)
+returns c = sheeted-as (unfolded-text (c .before .before .before .before .before .before .before .before .before .before .before .before .before .before .before .before .before .before .before .before .before .before .pre) ((c .before .before .before .before .before .before .before .before .before .before .before .remove-degenerate-faces) .ensures)) ((c .before .before .from-unfolded) .ensures)
 
 pub unfold-in-spec : {M : Type 1} → statement M
 unfold-in-spec =
