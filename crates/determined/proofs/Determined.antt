@@ -4,7 +4,7 @@
 use mathlib.Core.Path.{_≡_, sym, _∙_}
 use mathlib.Core.List.{List}
 use Prim.Native.Nat.{ℕ}
-use Rattle.mesh.specs.Mesh.{meshOf}
+use Rattle.mesh.specs.Mesh.{Mesh, meshOf}
 use Rattle.mesh.specs.Table.{meshNumber}
 use Rattle.mesh.specs.Face.{facePart}
 use Rattle.compaction.specs.Compaction as compaction
@@ -13,7 +13,7 @@ use Rattle.edges.specs.Answers.{answerOf, judged}
 use Rattle.edges.proofs.Answering.{answer-only}
 use Rattle.wires.specs.Answers.{Answered}
 use Rattle.wires.specs.declared.Wires.{Wires}
-use Rattle.determined.specs.Determined.{Call, Determined, _and_, done, TwoLists, number, face, compactionCall, removalCall, mergingCall, verdictCall, hemCall, portedCall, houseCall, panelsCall, readCall, AllDetermined}
+use Rattle.determined.specs.Determined.{Call, Determined, _and_, done, equals, TwoLists, number, face, compactionCall, removalCall, mergingCall, verdictCall, hemCall, portedCall, houseCall, panelsCall, readCall, AllDetermined}
 
 -- ---- the general law
 
@@ -25,11 +25,15 @@ pub one-result :
     → Determined c
 one-result c view f known is g r q a b = known r q (is g r a ∙ sym (is g q b))
 
+-- whatever f is
+pub equals-determined : {G R : Type 0} (f : G → R) → Determined (equals f)
+equals-determined f = one-result (equals f) (λ r. r) f (λ r q e. e) (λ g r a. a)
+
 number-determined : Determined number
-number-determined = one-result number (λ r. r) meshNumber (λ r q e. e) (λ g r a. a)
+number-determined = equals-determined meshNumber
 
 face-determined : Determined face
-face-determined = one-result face (λ r. r) (λ g. facePart (g .0) (g .1)) (λ r q e. e) (λ g r a. a)
+face-determined = equals-determined (λ (g : Mesh × ℕ). facePart (g .0) (g .1))
 
 verdict-determined : Determined verdictCall
 verdict-determined = one-result verdictCall answerOf judged answer-only (λ g r a. a)

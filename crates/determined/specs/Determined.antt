@@ -40,15 +40,19 @@ pub data OfEach (P : Call → Type 0) : List Call → Type 1 where
   done : OfEach P []
   _and_ : {c : Call} {cs : List Call} → P c → OfEach P cs → OfEach P (c ∷ cs)
 
+-- a contract that says: the result is f of what is given
+abbrev pub equals : {G R : Type 0} → (G → R) → Call
+equals {G} {R} f = record { Given = G; Result = R; Allows = λ g r. r ≡ f g }
+
 -- ---- the calls, each with the contract of its function
 
 -- `mesh::number`
 abbrev pub number : Call
-number = record { Given = Mesh; Result = ℕ; Allows = λ m r. r ≡ meshNumber m }
+number = equals meshNumber
 
 -- `mesh::face`: a mesh and the number of a face; what the part that is handed back holds
 abbrev pub face : Call
-face = record { Given = Mesh × ℕ; Result = List ℕ; Allows = λ g r. r ≡ facePart (g .0) (g .1) }
+face = equals (λ (g : Mesh × ℕ). facePart (g .0) (g .1))
 
 -- `compaction::remove_unused_attrs`: a mesh and the lent lists; the answer and the lists afterwards
 abbrev pub compactionCall : Call
