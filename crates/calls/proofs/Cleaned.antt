@@ -1,10 +1,10 @@
 -- Where no face is folded removal leaves the faces as they are, and so what demand 3 says of the calls it says of the calls after
 -- removal too. It is enough to look at one of the two meshes: whether a ring is folded does not depend on where it begins.
 -- Assumes nothing.
-use mathlib.Core.Path.{_≡_, refl, sym, ap, ap₂, _∙_, subst}
+use mathlib.Core.Path.{_≡_, refl, sym, ap, _∙_}
 use mathlib.Core.Logic.{⊎-elim}
 use mathlib.Core.Bool.{true, false, _||_}
-use mathlib.Core.List.{List, [], _∷_, _++_, map}
+use mathlib.Core.List.{List, [], _∷_}
 use Prim.Native.Nat.{ℕ, _+_, _≤_, _<_}
 use native.Mathlib.Omega.{arith}
 use lib.Dec.{eqb}
@@ -12,13 +12,12 @@ use Rattle.lists.specs.Lists.{count, has, some}
 use Rattle.lists.proofs.Bools.{by-cases, or-left, or-right}
 use Rattle.lists.proofs.Cases.{iff, or-swap}
 use Rattle.lists.proofs.Counting.{clash, or-either, count-append, count-some, some-counted, bump-plus}
-use Rattle.lists.proofs.Alike.{Alike}
 use Rattle.lists.proofs.Others.{eqb-self}
 use borrow.Author.Tests.{eqb-true}
 use Rattle.mesh.specs.Mesh.{Mesh, Ring, position, faces}
 use Rattle.mesh.specs.Table.{meshNumber}
 use Rattle.folding.specs.Folding.{twice, folded}
-use Rattle.folded.specs.Folded.{removed, unfoldedMesh}
+use Rattle.folded.specs.Folded.{unfoldedMesh}
 use Rattle.folded.proofs.Accepted.{faces-unfolded, removed-accepted}
 use Rattle.folded.proofs.Answer.{given}
 use Rattle.folded.proofs.Unfolded.{removed-same}

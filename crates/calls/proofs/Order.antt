@@ -1,9 +1,8 @@
 -- Demand 3, said of the calls: from the theorem on the definitions and the contracts, which say that what a call answers and leaves
 -- are these definitions. Assumes nothing.
-use mathlib.Core.Path.{_≡_, sym, ap, _∙_}
+use mathlib.Core.Path.{sym, ap, _∙_}
 use mathlib.Core.Bool.{not}
-use Rattle.mesh.specs.Mesh.{Mesh, faces}
-use Rattle.mesh.specs.Table.{meshNumber}
+use Rattle.mesh.specs.Mesh.{faces}
 use Rattle.edges.specs.Edges.{Verdict, verdict}
 use Rattle.edges.specs.Answers.{meshEdgesOf}
 use Rattle.edges.specs.declared.Judged.the-variants.{Found}

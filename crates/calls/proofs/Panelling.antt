@@ -2,7 +2,7 @@
 use mathlib.Core.Path.{_≡_, refl, sym, ap, ap₂, _∙_}
 use mathlib.Core.Bool.{Bool}
 use mathlib.Core.List.{List, [], _∷_, map}
-use Prim.Native.Nat.{ℕ, _<_}
+use Prim.Native.Nat.{ℕ}
 use native.Mathlib.Omega.{arith}
 use lib.ListN.{length, take, length-map}
 use lib.Seq.{take-append-seam, drop-append-seam}
@@ -12,7 +12,6 @@ use Rattle.mesh.specs.Table.{meshNumber}
 use Rattle.panels.specs.Panels.{panels, together}
 use Rattle.panels.specs.Contract.{panelsNumber, panelsOf}
 use Rattle.panels.proofs.Panelled.{panels-length, panels-count}
-use Rattle.order.specs.Same.{Matching}
 use Rattle.order.specs.Demand.{Demand3}
 use Rattle.calls.specs.Calls.{cornersOf, PanelCall, parts, panelsWritten}
 use Rattle.calls.specs.Order.{SamePanels}

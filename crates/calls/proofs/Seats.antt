@@ -9,7 +9,7 @@ use native.Mathlib.Omega.{arith}
 use lib.Dec.{eqb}
 use lib.ListN.{length, getD, length-append, length-map}
 use borrow.Author.Tests.{eqb-true, ne-eqb}
-use Rattle.lists.specs.Lists.{bump, count, has, joined}
+use Rattle.lists.specs.Lists.{count, has, joined}
 use Rattle.lists.proofs.Bools.{by-cases, or-neither}
 use Rattle.lists.proofs.Cases.{and-parts}
 use Rattle.lists.proofs.Counting.{clash, or-either, count-append, count-some, count-none, some-counted}

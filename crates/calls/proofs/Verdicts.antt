@@ -1,12 +1,11 @@
 -- What `shell_condition` answers of an accepted mesh: its verdict, and no refusal. Assumes nothing.
 use mathlib.Core.Path.{_≡_, refl, sym, ap, _∙_}
-use mathlib.Core.Option.{Option, none, some}
-use Prim.Native.Nat.{ℕ}
+use mathlib.Core.Option.{none, some}
 use Rattle.mesh.specs.Mesh.{Mesh}
-use Rattle.mesh.specs.Table.{meshNumber, after}
+use Rattle.mesh.specs.Table.{meshNumber}
 use Rattle.mesh.proofs.After.{after-done}
 use Rattle.edges.specs.Edges.{Verdict, verdict}
-use Rattle.edges.specs.Answers.{meshEdgesOf, verdictOf, Answer, answerOf, judged}
+use Rattle.edges.specs.Answers.{meshEdgesOf, verdictOf, answerOf, judged}
 use Rattle.edges.specs.declared.ShellCondition.{ShellCondition}
 use Rattle.edges.specs.declared.Judged.the-variants.{Found}
 use Rattle.edges.proofs.Answering.{answer-only}

@@ -1,9 +1,9 @@
 -- Two calls of `house_wires`, and two of `extract_boundaries`, on meshes with the same faces. Assumes nothing.
 use mathlib.Core.Path.{_≡_, refl, sym, ap, _∙_}
-use mathlib.Core.Logic.{_⊎_, inl, inr, ⊎-elim}
+use mathlib.Core.Logic.{_⊎_, inl, inr}
 use mathlib.Core.Bool.{Bool, true, false, cond, not}
 use mathlib.Core.List.{List, [], _∷_, map}
-use Prim.Native.Nat.{ℕ, suc, _+_, _*_, _≤_}
+use Prim.Native.Nat.{ℕ, suc, _+_, _≤_}
 use native.Mathlib.Omega.{arith}
 use lib.Dec.{ltb, eqb}
 use lib.ListN.{length, take, length-map}
@@ -24,7 +24,7 @@ use Rattle.wires.proofs.Closing.{Used, house-used}
 use Rattle.wires.proofs.Entries.{traces-enough, Roomy, traces-roomy}
 use Rattle.order.specs.Demand.{Demand3}
 use Rattle.calls.specs.Calls.{cornersOf, VerdictCall, says, WiresLeft, HouseCall, PortedCall}
-use Rattle.calls.specs.Order.{Both, SameWires, Wired, SameHouse}
+use Rattle.calls.specs.Order.{SameWires, Wired, SameHouse}
 use Rattle.calls.proofs.Fronts.{front, as-many}
 use Rattle.calls.proofs.Verdicts.{said, unsaid}
 

@@ -1,8 +1,7 @@
 -- What demand 3 does not say. It speaks of the calls on the same faces, and cleaning may make other faces of them: a folded face is
 -- cut by the corner at which it begins, and compaction numbers positions by their first use. Small meshes that show it, by positions
 -- only. Assumes nothing.
-use mathlib.Core.List.{List, [], _∷_}
-use Prim.Native.Nat.{ℕ}
+use mathlib.Core.List.{[], _∷_}
 use Rattle.mesh.specs.Mesh.{Mesh}
 use Rattle.order.specs.Pairs.{plain, triangle}
 
