@@ -1,6 +1,6 @@
 -- The examples to prove of document 01, each as a test that computes, and the list of them. Assumes nothing.
 use Prim.Native.Nat.{ℕ}
-use mathlib.Core.Bool.{Bool, true, false, _&&_}
+use mathlib.Core.Bool.{Bool, true, false, not, _&&_}
 use mathlib.Core.List.{List, [], _∷_, map}
 use lib.ListN.{length}
 use lib.Dec.{eqb}
@@ -79,7 +79,13 @@ abbrev pub exchanged : List (List ℕ)
 exchanged = tri 0 1 2 ∷ tri 0 1 4 ∷ tri 1 0 3 ∷ []
 
 abbrev pub example4 : Bool
-example4 = hasVerdict threeFaces Irregular && hasHem threeFaces (0, 1) && hasVerdict exchanged Irregular && hasHem exchanged (1, 0)
+example4 =
+    hasVerdict threeFaces Irregular
+    && hasHem threeFaces (0, 1)
+    && not (hasHem threeFaces (1, 0))
+    && hasVerdict exchanged Irregular
+    && hasHem exchanged (1, 0)
+    && not (hasHem exchanged (0, 1))
 
 -- ---- folded faces: `corner p k` is corner k of the face, from 0, with the position p
 

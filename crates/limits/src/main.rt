@@ -1,5 +1,6 @@
 // Tries the check of a mesh on both sides of every limit of the table of numbers returned, the part of a face on both sides of its
-// own, and each call with exactly its room and less, and prints what each answers: the row, what was tried, and the number.
+// own, and compaction with exactly its room and less, and prints what each answers: the row, what was tried, and the number. The rooms
+// of the other calls, and numbers 6 to 10, are tried by `replay`.
 mod rooms;
 
 use mesh::MISSING;

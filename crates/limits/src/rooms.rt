@@ -1,4 +1,4 @@
-// 9: a lent result list is shorter than its stated room. Each call with exactly that room, and with one number less in one list.
+// 9: a lent result list is shorter than its stated room. Compaction with exactly that room, and with one number less in one list.
 use mesh::MISSING;
 
 // Compaction: the number, and the counts of positions, texture points and normals.

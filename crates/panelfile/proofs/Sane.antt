@@ -45,7 +45,7 @@ take-sane : (s : List ℕ) (z : Reader) (r : Record) → Fitted (length s) (z .a
 unfolding take1
 take-sane s z (Position p) f h =
     let d = z .drawn in
-    limited-sane (length s) (ltb 6144 (length (d .positions) + 3)) z (reader (z .at + 28) 0 false (withPosition p d)) h
+    limited-sane (length s) (ltb 6144 (length (d .positions) + 3)) z (reader (z .at + 28) 0 false (withPosition (coordinates p) d)) h
     (λ e. record {
       place = f .fits;
       drawn = record {
@@ -62,7 +62,7 @@ take-sane s z (Position p) f h =
     })
 take-sane s z (Texture t) f h =
     let d = z .drawn in
-    limited-sane (length s) (ltb 4096 (length (d .textures) + 2)) z (reader (z .at + 20) 0 false (withTexture t d)) h
+    limited-sane (length s) (ltb 4096 (length (d .textures) + 2)) z (reader (z .at + 20) 0 false (withTexture (t .u ∷ t .v ∷ []) d)) h
     (λ e. record {
       place = f .fits;
       drawn = record {
@@ -79,7 +79,7 @@ take-sane s z (Texture t) f h =
     })
 take-sane s z (Normal p) f h =
     let d = z .drawn in
-    limited-sane (length s) (ltb 6144 (length (d .normals) + 3)) z (reader (z .at + 28) 0 false (withNormal p d)) h
+    limited-sane (length s) (ltb 6144 (length (d .normals) + 3)) z (reader (z .at + 28) 0 false (withNormal (coordinates p) d)) h
     (λ e. record {
       place = f .fits;
       drawn = record {

@@ -85,7 +85,7 @@ module _ (file : List ℕ) (x : Progress) (pt : Point) (p t n : List Float) (c s
     taken = λ z k.
         let e : ltb 6144 (length (z .drawn .positions) + 3) ≡ false =
         le-ltb 6144 (length (z .drawn .positions) + 3) (omega (arith, length-of (3 * x .positions) p (z .drawn .positions) (omega arith) (k .positions))) in
-        subst⁻¹ (λ (b : Bool). Holds (limited b z (reader (z .at + 28) 0 false (withPosition pt (z .drawn)))) (atPosition x) (sets p (3 * x .positions) (coordinates pt)) t n c s) e
+        subst⁻¹ (λ (b : Bool). Holds (limited b z (reader (z .at + 28) 0 false (withPosition (coordinates pt) (z .drawn)))) (atPosition x) (sets p (3 * x .positions) (coordinates pt)) t n c s) e
         (record {
           place = ap (λ (i : ℕ). i + 28) (k .place);
           refusal = a .unrefused;
@@ -119,7 +119,7 @@ module _ (file : List ℕ) (x : Progress) (tx : Texel) (p t n : List Float) (c s
     taken = λ z k.
         let e : ltb 4096 (length (z .drawn .textures) + 2) ≡ false =
         le-ltb 4096 (length (z .drawn .textures) + 2) (omega (arith, length-of (2 * x .textures) t (z .drawn .textures) (omega arith) (k .textures))) in
-        subst⁻¹ (λ (b : Bool). Holds (limited b z (reader (z .at + 20) 0 false (withTexture tx (z .drawn)))) (atTexture x) p (sets t (2 * x .textures) (tx .u ∷ tx .v ∷ [])) n c s) e
+        subst⁻¹ (λ (b : Bool). Holds (limited b z (reader (z .at + 20) 0 false (withTexture (tx .u ∷ tx .v ∷ []) (z .drawn)))) (atTexture x) p (sets t (2 * x .textures) (tx .u ∷ tx .v ∷ [])) n c s) e
         (record {
           place = ap (λ (i : ℕ). i + 20) (k .place);
           refusal = a .unrefused;
@@ -153,7 +153,7 @@ module _ (file : List ℕ) (x : Progress) (pt : Point) (p t n : List Float) (c s
     taken = λ z k.
         let e : ltb 6144 (length (z .drawn .normals) + 3) ≡ false =
         le-ltb 6144 (length (z .drawn .normals) + 3) (omega (arith, length-of (3 * x .normals) n (z .drawn .normals) (omega arith) (k .normals))) in
-        subst⁻¹ (λ (b : Bool). Holds (limited b z (reader (z .at + 28) 0 false (withNormal pt (z .drawn)))) (atNormal x) p t (sets n (3 * x .normals) (coordinates pt)) c s) e
+        subst⁻¹ (λ (b : Bool). Holds (limited b z (reader (z .at + 28) 0 false (withNormal (coordinates pt) (z .drawn)))) (atNormal x) p t (sets n (3 * x .normals) (coordinates pt)) c s) e
         (record {
           place = ap (λ (i : ℕ). i + 28) (k .place);
           refusal = a .unrefused;

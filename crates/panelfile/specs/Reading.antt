@@ -11,12 +11,9 @@ use Rattle.lists.specs.Lists.{some, joined, each, sum}
 use Rattle.mesh.specs.Mesh.{Mesh, Ring, meshOf}
 use Rattle.mesh.specs.Table.{when, firstOf, astrayAt, Lent, lent, short, after}
 use Rattle.grouping.specs.Push.{pushed, cornerCount}
-use Rattle.floating.specs.declared.Point.{Point}
-use Rattle.floating.specs.declared.Texel.{Texel}
-use Rattle.floating.specs.Points.{coordinates}
 use Rattle.panelfile.specs.declared.Record.{Record}
 use Rattle.panelfile.specs.declared.Record.the-variants.{Position, Texture, Normal, Face, End, Refused}
-use Rattle.panelfile.specs.Records.{word, recordFrom}
+use Rattle.panelfile.specs.Records.{word, recordFrom, numberOf, valuesOf}
 
 -- n corners from a place on, three four-byte numbers each
 abbrev pub ringFrom : List ℕ → ℕ → ℕ → Ring
@@ -48,14 +45,14 @@ abbrev pub limited : Bool → Reader → Reader → Reader
 limited true old new = reader (old .at) 1 false (old .drawn)
 limited false old new = new
 
-abbrev pub withPosition : Point → Drawn → Drawn
-withPosition p d = record { positions = d .positions ++ coordinates p; textures = d .textures; normals = d .normals; faces = d .faces }
+abbrev pub withPosition : List Float → Drawn → Drawn
+withPosition xs d = record { positions = d .positions ++ xs; textures = d .textures; normals = d .normals; faces = d .faces }
 
-abbrev pub withTexture : Texel → Drawn → Drawn
-withTexture t d = record { positions = d .positions; textures = d .textures ++ t .u ∷ t .v ∷ []; normals = d .normals; faces = d .faces }
+abbrev pub withTexture : List Float → Drawn → Drawn
+withTexture xs d = record { positions = d .positions; textures = d .textures ++ xs; normals = d .normals; faces = d .faces }
 
-abbrev pub withNormal : Point → Drawn → Drawn
-withNormal p d = record { positions = d .positions; textures = d .textures; normals = d .normals ++ coordinates p; faces = d .faces }
+abbrev pub withNormal : List Float → Drawn → Drawn
+withNormal xs d = record { positions = d .positions; textures = d .textures; normals = d .normals ++ xs; faces = d .faces }
 
 abbrev pub withFace : Ring → Drawn → Drawn
 withFace f d = record { positions = d .positions; textures = d .textures; normals = d .normals; faces = d .faces ++ f ∷ [] }
@@ -66,14 +63,14 @@ takeFace true s a n x = reader (a + 12 * n) 0 false (x .drawn)
 takeFace false s a n x =
     limited (ltb 4096 (cornerCount (x .drawn .faces) + n)) x (reader (a + 12 * n) 0 false (withFace (ringFrom s n a) (x .drawn)))
 
--- one record is taken; a refusal stops the reading there, with its number
+-- one record is taken, with its values; a refusal stops the reading there, with its number
 unfoldable pub take1 : List ℕ → Reader → Record → Reader
-take1 s x (Position p) = limited (ltb (2048 * 3) (length (x .drawn .positions) + 3)) x (reader (x .at + 28) 0 false (withPosition p (x .drawn)))
-take1 s x (Texture t) = limited (ltb (2048 * 2) (length (x .drawn .textures) + 2)) x (reader (x .at + 20) 0 false (withTexture t (x .drawn)))
-take1 s x (Normal p) = limited (ltb (2048 * 3) (length (x .drawn .normals) + 3)) x (reader (x .at + 28) 0 false (withNormal p (x .drawn)))
+take1 s x (Position p) = limited (ltb (2048 * 3) (length (x .drawn .positions) + 3)) x (reader (x .at + 28) 0 false (withPosition (valuesOf (Position p)) (x .drawn)))
+take1 s x (Texture t) = limited (ltb (2048 * 2) (length (x .drawn .textures) + 2)) x (reader (x .at + 20) 0 false (withTexture (valuesOf (Texture t)) (x .drawn)))
+take1 s x (Normal p) = limited (ltb (2048 * 3) (length (x .drawn .normals) + 3)) x (reader (x .at + 28) 0 false (withNormal (valuesOf (Normal p)) (x .drawn)))
 take1 s x (Face a n) = takeFace (ltb n 3) s a n x
 take1 s x End = reader (x .at + 4) 0 true (x .drawn)
-take1 s x (Refused n) = reader (x .at) n false (x .drawn)
+take1 s x (Refused n) = reader (x .at) (numberOf (Refused n)) false (x .drawn)
 
 -- the reading goes on until a refusal or the end record
 abbrev pub going : Reader → Bool

@@ -8,7 +8,7 @@ use lib.Ieee.{Float, ofBits, binary64}
 use Rattle.mesh.specs.Table.{when, firstOf}
 use Rattle.floating.specs.declared.Point.{Point}
 use Rattle.floating.specs.declared.Texel.{Texel}
-use Rattle.floating.specs.Points.{point, texel}
+use Rattle.floating.specs.Points.{point, texel, coordinates}
 use Rattle.panelfile.specs.declared.Record.{Record}
 use Rattle.panelfile.specs.declared.Record.the-variants.{Position, Texture, Normal, Face, End, Refused}
 
@@ -78,3 +78,12 @@ numberOf (Normal p) = 0
 numberOf (Face a n) = 0
 numberOf End = 0
 numberOf (Refused n) = n
+
+-- and its values: the coordinates of an attribute record, in the order of the file; none for every other
+abbrev pub valuesOf : Record → List Float
+valuesOf (Position p) = coordinates p
+valuesOf (Texture t) = t .u ∷ t .v ∷ []
+valuesOf (Normal p) = coordinates p
+valuesOf (Face a n) = []
+valuesOf End = []
+valuesOf (Refused n) = []
