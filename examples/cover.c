@@ -1,5 +1,5 @@
 /* The library tried from C: reads a panel file from standard input, cleans it and prints its sheet, as document 01 has it; then a line
-   from each call that the sheet does not need. A refusal prints 'refused' and its number. rust/barleyhinge/examples/cover.rs is the same
+   from each call that the sheet does not need. A refusal prints 'refused' and its number. Last comes the sheet again, from the one call that makes all of it. rust/barleyhinge/examples/cover.rs is the same
    from Rust; tools/try_library builds and runs both. */
 #include "barleyhinge.h"
 #include <stdio.h>
@@ -82,14 +82,16 @@ static void print_more(void) {
 }
 
 int main(void) {
-    static uint8_t file[65536];
-    size_t length = fread(file, 1, sizeof file, stdin);
+    static uint8_t file[65536], text[BH_SHEET_ROOM];
+    size_t length = fread(file, 1, sizeof file, stdin), bytes;
     uint32_t number = draw(file, length);
-    if (number != BH_DONE) {
+    if (number == BH_DONE) {
+        print_sheet();
+        print_more();
+    } else {
         printf("refused %u\n", number);
-        return 0;
     }
-    print_sheet();
-    print_more();
+    bh_sheet(file, length, ROOM(text), &bytes);
+    fwrite(text, 1, bytes, stdout);
     return 0;
 }

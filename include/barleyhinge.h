@@ -41,7 +41,8 @@ enum bh_limit {
     BH_MAX_ENTRIES = 2048,
     BH_MAX_CORNERS = 4096,
     BH_MAX_FACES = 1365,
-    BH_MAX_FACE_CORNERS = 32
+    BH_MAX_FACE_CORNERS = 32,
+    BH_SHEET_ROOM = 65536 /* bytes: room for every sheet */
 };
 
 /* The numbers that calls return. */
@@ -228,6 +229,15 @@ uint32_t bh_read_panel(
     size_t *normalcount,
     size_t *cornercount,
     size_t *facecount);
+
+/* The sheet of a panel file, as the program meshsheet prints it. Lends 'text', with room for BH_SHEET_ROOM bytes, which are enough for
+   every sheet.
+   On 0: '*length' bytes in 'text'. A refused file has a sheet too: the line 'refused' and its number, which comes with 0.
+   May also answer 9, and nothing else. */
+uint32_t bh_sheet(
+    const uint8_t *file, size_t file_len,
+    uint8_t *text, size_t text_len,
+    size_t *length);
 
 #ifdef __cplusplus
 }

@@ -15,6 +15,7 @@ use Rattle.edges.specs.Edges.{Verdict, verdict}
 use Rattle.edges.specs.Answers.{meshEdgesOf}
 use Rattle.edges.specs.declared.HemEdges.{HemEdges}
 use Rattle.panelfile.specs.declared.Panel.{Panel}
+use Rattle.sheet.specs.declared.Answer.{Answer as Sheet}
 
 -- where the part of face k starts in the list of corners: behind three numbers for each corner of the faces before it; 0 where
 -- the part is empty
@@ -59,3 +60,7 @@ hemmedBy number n = record { number = number; count = n }
 abbrev pub readBy : ℕ → ℕ → ℕ → ℕ → ℕ → ℕ → Panel
 readBy number p t n c f =
     record { number = number; positions = p; textures = t; normals = n; corners = c; faces = f }
+
+-- what the sheet answers: the number returned, and the sheet's length
+abbrev pub printedBy : ℕ → ℕ → Sheet
+printedBy number n = record { number = number; length = n }

@@ -15,6 +15,7 @@ ghost use Rattle.merging.specs.Merging.{PutTogether};
 ghost use Rattle.wires.specs.Answers.{PortedAnswer, HouseAnswer};
 ghost use Rattle.panels.specs.Contract as paneling;
 ghost use Rattle.panelfile.specs.Answer.{PanelRead};
+ghost use Rattle.sheet.specs.Sheet.{Printed};
 ghost use Rattle.barleyhinge.specs.Calls as call;
 use edges::Judged;
 use edges::ShellCondition;
@@ -309,4 +310,14 @@ pub extern "C" fn bh_read_panel(
     *cornercount = panel.corners;
     *facecount = panel.faces;
     panel.number
+}
+
+// The sheet of a panel file: its bytes, and how many they are.
+#[no_mangle]
+pub extern "C" fn bh_sheet(file: &[u8], text: &mut [u8], length: &mut usize) -> u32
+    ensures { λ r. ⌜ Printed (now (file .entry)) (now (text .entry)) (now (text .exit)) (call.printedBy r (now (length .exit))) ⌝ }
+{
+    let printed = sheet::sheet(file, text);
+    *length = printed.length;
+    printed.number
 }

@@ -8,4 +8,3 @@ pub mod Accepting
 pub mod Answer
 pub mod Laws
 pub mod Using
-pub mod Examples

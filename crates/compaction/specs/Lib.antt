@@ -1,3 +1,2 @@
 pub mod Compaction
 pub mod Working
-pub mod Examples

@@ -1,20 +1,29 @@
--- The examples hold of the definitions: one statement over the list of them, by computation. Assumes nothing.
+-- The twelve examples hold of the definitions: one statement over the list of them, by computation. Assumes nothing.
 use lib.Dec.{T}
-use lib.Ieee.{ofBits, toBits, ofFields}
-use Rattle.lists.specs.Numbers.{seek}
-use Rattle.mesh.specs.Table.{meshNumber, shapeNumber, overLimits, uneven, misfit, ungrouped, astray}
+use lib.Count.{trailingZeros}
+use lib.Ieee as ieee
+use Rattle.lists.specs.Numbers.{countBelow, seek}
+use Rattle.mesh.specs.Table.{meshNumber, shapeNumber, overLimits, uneven, misfit, ungrouped, astray, short}
 use Rattle.grouping.specs.Push.{pushed}
 use Rattle.folding.specs.Folding.{folded, trianglePieces, foldOf, quadranglePieces, mateOf, firstOf, splitIn, split, ringPieces, pieces}
 use Rattle.folded.specs.Folded.{removed}
-use Rattle.folded.specs.Examples.{holds, face5, face6, face7, face8}
+use Rattle.folded.specs.Examples.{leaves}
 use Rattle.compaction.specs.Compaction.{firstUses, place, renumber, entries, usedPositions, usedTextures, usedNormals, renumbered, compacted}
-use Rattle.compaction.specs.Examples.{sixPositions, example9}
+use Rattle.floating.specs.Limits.{unfit, boundless, far}
+use Rattle.floating.specs.Points.{row}
+use Rattle.floating.specs.Scaling as scaling
+use Rattle.floating.specs.Cells.{cut, compared}
+use Rattle.floating.specs.Near as near
+use Rattle.nearby.specs.Pairs.{pairs, comparedPairs}
+use Rattle.nearby.specs.Walk as groups
+use Rattle.merging.specs.Centre as centre
+use Rattle.merging.specs.Merging as merging
 use Rattle.edges.specs.Edges.{key, verdict, hems}
 use Rattle.wires.specs.House.{walk, wiresIn, houseWires}
 use Rattle.wires.specs.Ported.{follow, tracesIn, portedWires}
 use Rattle.panels.specs.Panels.{keyOf, search′, panelsFrom, panels}
-use Rattle.examples.specs.Twelve.{hasVerdict, hasHem, hasPorted, hasHouse, hasPanels, allHold}
+use Rattle.examples.specs.Twelve.{hasVerdict, hasHem, hasPorted, hasHouse, hasPanels, compacts, sixPositions, merges, threeTextures, allHold}
 
 pub they-hold : T allHold
-unfolding allHold hasVerdict hasHem hasPorted hasHouse hasPanels key verdict hems walk wiresIn houseWires follow tracesIn portedWires keyOf search′ panelsFrom panels holds face5 face6 face7 face8 removed pushed pieces ringPieces split splitIn firstOf mateOf quadranglePieces foldOf trianglePieces folded seek example9 sixPositions compacted renumbered usedPositions usedTextures usedNormals entries renumber place firstUses meshNumber shapeNumber overLimits uneven misfit ungrouped astray ofBits toBits ofFields
+unfolding allHold hasVerdict hasHem hasPorted hasHouse hasPanels key verdict hems walk wiresIn houseWires follow tracesIn portedWires keyOf search′ panelsFrom panels leaves removed pushed pieces ringPieces split splitIn firstOf mateOf quadranglePieces foldOf trianglePieces folded seek compacts sixPositions compacted renumbered usedPositions usedTextures usedNormals entries renumber place firstUses meshNumber shapeNumber overLimits uneven misfit ungrouped astray short merges threeTextures merging.mergeNumber merging.anyBoundless merging.anyDistant merging.texturePairs merging.mergedTo merging.mergedCorner merging.mergedCorners centre.added centre.sumFrom centre.centreOf centre.closest centre.representative centre.sentTo groups.descending groups.popped groups.walk groups.groupFrom groups.groupsBelow groups.groups pairs comparedPairs countBelow near.sumFrom near.squared near.near compared cut scaling.lesser scaling.greater scaling.centreOf scaling.divisorOf scaling.scaledOf scaling.boxOf scaling.scaledList row unfit boundless far ieee.add ieee.sub ieee.mul ieee.div ieee.neg ieee.sum ieee.lt ieee.le ieee.eq ieee.ofInt ieee.ofBits ieee.toBits ieee.ofFields ieee.round ieee.units ieee.odd ieee.size ieee.span ieee.climb trailingZeros
 they-hold = tt

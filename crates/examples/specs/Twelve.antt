@@ -4,14 +4,20 @@ use mathlib.Core.Bool.{Bool, true, false, _&&_}
 use mathlib.Core.List.{List, [], _∷_, map}
 use lib.ListN.{length}
 use lib.Dec.{eqb}
-use Rattle.lists.specs.Lists.{some, every, joined, sameNumbers}
-use Rattle.mesh.specs.Mesh.{Ring, missing}
+use lib.IntN.{pos, negsuc}
+use lib.Ieee.{Float, fin, binary64, ofBits, toBits}
+use Rattle.lists.specs.Lists.{some, every, joined, span, sameNumbers}
+use Rattle.mesh.specs.Mesh.{Mesh, meshOf, Ring, missing, position, texture, threes}
+use Rattle.mesh.specs.Table.{meshNumber}
 use Rattle.edges.specs.Edges.{Edge, same, edgesOf, Verdict, Irregular, Regular, Oriented, Closed, verdict, hems}
 use Rattle.wires.specs.Ported.{portedWires}
 use Rattle.wires.specs.House.{houseWires}
 use Rattle.panels.specs.Panels.{panels}
-use Rattle.folded.specs.Examples.{holds, face5, face6, face7, face8}
-use Rattle.compaction.specs.Examples.{example9}
+use Rattle.folded.specs.Examples.{leaves, corner}
+use Rattle.compaction.specs.Compaction.{compacted}
+use Rattle.merging.specs.Merging.{mergeNumber, texturePairs, mergedCorners}
+
+-- ---- edges, verdict, wires and panels
 
 -- faces by positions only
 abbrev pub face : List ℕ → Ring
@@ -75,6 +81,99 @@ exchanged = tri 0 1 2 ∷ tri 0 1 4 ∷ tri 1 0 3 ∷ []
 abbrev pub example4 : Bool
 example4 = hasVerdict threeFaces Irregular && hasHem threeFaces (0, 1) && hasVerdict exchanged Irregular && hasHem exchanged (1, 0)
 
+-- ---- folded faces: `corner p k` is corner k of the face, from 0, with the position p
+
+-- 5: quadrangle (0,1,1,2): triangle (0,1,2), its middle corner the third
+abbrev pub example5 : Bool
+example5 =
+    leaves
+    (corner 0 0 ∷ corner 1 1 ∷ corner 1 2 ∷ corner 2 3 ∷ [])
+    ((corner 0 0 ∷ corner 1 2 ∷ corner 2 3 ∷ []) ∷ [])
+
+-- 6: quadrangle (0,1,0,2): goes
+abbrev pub example6 : Bool
+example6 = leaves (corner 0 0 ∷ corner 1 1 ∷ corner 0 2 ∷ corner 2 3 ∷ []) []
+
+-- 7: (0,1,2,1,3): (1,3,0), its first corner the fourth
+abbrev pub example7 : Bool
+example7 =
+    leaves
+    (corner 0 0 ∷ corner 1 1 ∷ corner 2 2 ∷ corner 1 3 ∷ corner 3 4 ∷ [])
+    ((corner 1 3 ∷ corner 3 4 ∷ corner 0 0 ∷ []) ∷ [])
+
+-- 8: (0,1,2,0,3,4): (0,1,2),(0,3,4)
+abbrev pub example8 : Bool
+example8 =
+    leaves
+    (corner 0 0 ∷ corner 1 1 ∷ corner 2 2 ∷ corner 0 3 ∷ corner 3 4 ∷ corner 4 5 ∷ [])
+    ((corner 0 0 ∷ corner 1 1 ∷ corner 2 2 ∷ []) ∷ (corner 0 3 ∷ corner 3 4 ∷ corner 4 5 ∷ []) ∷ [])
+
+-- ---- compaction
+
+-- six positions, and the face (5,2,4) with no texture points and no normals; the coordinates have the bits 0, 1, .., 17
+unfoldable pub sixPositions : Mesh
+sixPositions =
+    meshOf
+    (map (ofBits binary64) (span 0 18))
+    []
+    []
+    (5 ∷ missing ∷ missing ∷ 2 ∷ missing ∷ missing ∷ 4 ∷ missing ∷ missing ∷ [])
+    (3 ∷ [])
+
+-- a mesh is accepted, the positions of its corners become these, and the new list has coordinates with these bits
+unfoldable pub compacts : Mesh → List ℕ → List ℕ → Bool
+compacts m places bits =
+    eqb (meshNumber m) 0
+    && sameNumbers (map position (threes (compacted m .corners))) places
+    && sameNumbers (map (toBits binary64) (compacted m .positions)) bits
+
+-- 9: six positions, face (5,2,4): (0,1,2); new list is old 5, 2, 4
+abbrev pub example9 : Bool
+example9 = compacts sixPositions (0 ∷ 1 ∷ 2 ∷ []) (15 ∷ 16 ∷ 17 ∷ 6 ∷ 7 ∷ 8 ∷ 12 ∷ 13 ∷ 14 ∷ [])
+
+-- ---- merging
+
+-- the numbers 0, 0.5, 0.625 and 1
+abbrev pub nought : Float
+nought = fin false 0 (pos 0)
+
+abbrev pub half : Float
+half = fin false 1 (negsuc 0)
+
+abbrev pub fiveEighths : Float
+fiveEighths = fin false 5 (negsuc 2)
+
+abbrev pub one : Float
+one = fin false 1 (pos 0)
+
+-- texture points (0,0),(0.5,0),(1,0), and a face whose corners have them in this order
+unfoldable pub threeTextures : Mesh
+threeTextures =
+    meshOf
+    (nought ∷ nought ∷ nought ∷ [])
+    (nought ∷ nought ∷ half ∷ nought ∷ one ∷ nought ∷ [])
+    []
+    (0 ∷ 0 ∷ missing ∷ 0 ∷ 1 ∷ missing ∷ 0 ∷ 2 ∷ missing ∷ [])
+    (3 ∷ [])
+
+-- a mesh is accepted at a tolerance, so many pairs of texture points are compared, and the texture indices of its corners become
+-- these
+unfoldable pub merges : Mesh → Float → ℕ → List ℕ → Bool
+merges m t pairs textures =
+    eqb (mergeNumber m t (length (m .corners))) 0
+    && eqb (texturePairs m t) pairs
+    && sameNumbers (map texture (threes (mergedCorners m t))) textures
+
+-- 10: texture points (0,0),(0.5,0),(1,0), tolerance 0.5: three pairs compared, nothing merges
+abbrev pub example10 : Bool
+example10 = merges threeTextures half 3 (0 ∷ 1 ∷ 2 ∷ [])
+
+-- 11: the same with 0.625: three compared, all become index 1
+abbrev pub example11 : Bool
+example11 = merges threeTextures fiveEighths 3 (1 ∷ 1 ∷ 1 ∷ [])
+
+-- ---- ported wires
+
 -- 12: (0,1,4),(1,2,3): ported wires 0 1 4 and 2 3 1
 abbrev pub touching : List (List ℕ)
 touching = tri 0 1 4 ∷ tri 1 2 3 ∷ []
@@ -82,11 +181,24 @@ touching = tri 0 1 4 ∷ tri 1 2 3 ∷ []
 abbrev pub example12 : Bool
 example12 = hasPorted touching (tri 0 1 4 ∷ tri 2 3 1 ∷ [])
 
--- 5 to 8 are folded faces, 9 is compaction
+-- ---- all of them
+
 abbrev pub examples : List Bool
 examples =
-    example1 ∷ example2 ∷ example3 ∷ example4 ∷ holds face5 ∷ holds face6 ∷ holds face7 ∷ holds face8 ∷ example9 ∷ example12 ∷ []
+    example1
+    ∷ example2
+    ∷ example3
+    ∷ example4
+    ∷ example5
+    ∷ example6
+    ∷ example7
+    ∷ example8
+    ∷ example9
+    ∷ example10
+    ∷ example11
+    ∷ example12
+    ∷ []
 
--- every one of them holds
+-- the twelve hold
 unfoldable pub allHold : Bool
 allHold = every (λ b. b) examples

@@ -102,8 +102,8 @@ module _ (m : Mesh) (ok : meshNumber m ≡ 0) where
   fewer : cornerCount fs ≤ sum (m .sizes)
   fewer = omega (arith, removed-count (faces m), ap sum sizes-are)
 
-  flat : length (each joined fs) ≡ 3 * cornerCount fs
-  flat = length-flat fs (removed-rings m)
+  pub flat-removed : length (each joined fs) ≡ 3 * cornerCount fs
+  flat-removed = length-flat fs (removed-rings m)
 
   in-limits : overLimits (unfoldedMesh m) ≡ false
   unfolding unfoldedMesh
@@ -112,7 +112,7 @@ module _ (m : Mesh) (ok : meshNumber m ≡ 0) where
         positions = a .limits .positions;
         textures = a .limits .textures;
         normals = a .limits .normals;
-        corners = omega (arith, flat, fewer, a .sound .adds, a .limits .corners);
+        corners = omega (arith, flat-removed, fewer, a .sound .adds, a .limits .corners);
         sizes = omega (arith, length-map fs length, removed-length (faces m), fewer, a .sound .adds, a .limits .corners);
       })
 
@@ -123,8 +123,8 @@ module _ (m : Mesh) (ok : meshNumber m ≡ 0) where
         positions = a .whole .positions;
         textures = a .whole .textures;
         normals = a .whole .normals;
-        corners = omega (arith, flat);
-        adds = sym flat;
+        corners = omega (arith, flat-removed);
+        adds = sym flat-removed;
       })
 
   fits : misfit (unfoldedMesh m) ≡ false

@@ -14,7 +14,11 @@ use Rattle.text.proofs.Decimals.{few-digits}
 use Rattle.text.proofs.Putting.{numberText, spaced-numbers, room-first, room-then, written-then}
 use Rattle.lines.specs.declared.Findings.{Findings}
 use Rattle.lines.specs.Lines.{meshLine, verdictLine, panelsLine, hemLine, hemLines, sheetText, refusal}
-use Rattle.lines.specs.Working.{parts, wiresBy, foundBy, Ready}
+use Rattle.lines.specs.Working.{parts, wiresBy, foundBy, Ready, Sheeted}
+
+-- a text that is written from the front of a list that has room for it
+pub sheeted : {text out out′ : List ℕ} {n : ℕ} → Room text out 0 → Written text out out′ 0 n → Sheeted text out out′ n
+sheeted r w = record { text-is = w .text-is; length-is = omega (arith, w .next-is); fits = omega (arith, w .next-is, r .fits) }
 
 -- numbers of 32 bits
 abbrev Small : List ℕ → Type 0

@@ -1,8 +1,10 @@
 -- What the functions of the crate hand to one another; a caller needs none of it. Assumes nothing.
 use Prim.Native.Nat.{ℕ, _≤_}
+use mathlib.Core.Path.{_≡_}
 use mathlib.Core.Option.{Option, none, some}
 use mathlib.Core.List.{List, [], _∷_}
 use lib.ListN.{length, take, drop}
+use lib.Seq.{sets}
 use Rattle.lists.specs.Lists.{sum}
 use Rattle.mesh.specs.Table.{after}
 use Rattle.edges.specs.Answers.{verdictOf}
@@ -42,3 +44,9 @@ pub record Ready (flat lengths out : List ℕ) : Type 0 where
   pub few : length flat ≤ 4096
   pub few-wires : length lengths ≤ 4096
   pub room : 65536 ≤ length out
+
+-- the text stands at the front of the list, n bytes long, and fits in it
+pub record Sheeted (text out out′ : List ℕ) (n : ℕ) : Type 0 where
+  pub text-is : out′ ≡ sets out 0 text
+  pub length-is : n ≡ length text
+  pub fits : n ≤ length out

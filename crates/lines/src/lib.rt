@@ -9,7 +9,7 @@ ghost use lib.ListN.{length};
 ghost use Rattle.edges.specs.Answers.{verdictOf};
 ghost use Rattle.text.specs.Text.{Room, Written};
 ghost use Rattle.lines.specs.Lines.{meshLine, verdictLine, panelsLine, hemLine, hemLines, sheetText, refusal};
-ghost use Rattle.lines.specs.Working.{parts, wiresBy, foundBy, Wired, Ready};
+ghost use Rattle.lines.specs.Working.{parts, wiresBy, foundBy, Wired, Ready, Sheeted};
 use edges::ShellCondition;
 
 // What was found in a mesh, but for its wires: how many positions, texture points, normals, faces and panels there are, the verdict,
@@ -27,7 +27,7 @@ pub struct Findings {
 // The sheet of a mesh, from the front of `out` on, its house wires as a flat list and a list of lengths.
 pub fn put_sheet(found: Findings, flat: &[u32], lengths: &[u32], out: &mut [u8]) -> usize
     requires { ⌜ Ready (now flat) (now lengths) (now out) ⌝ }
-    ensures { λ r. ⌜ Written (sheetText (foundBy found (now (flat .entry)) (now (lengths .entry)))) (now (out .entry)) (now (out .exit)) 0 r ⌝ }
+    ensures { λ r. ⌜ Sheeted (sheetText (foundBy found (now (flat .entry)) (now (lengths .entry)))) (now (out .entry)) (now (out .exit)) r ⌝ }
 {
     let verdict = found.verdict;
     let a = put_mesh(
@@ -46,7 +46,7 @@ pub fn put_sheet(found: Findings, flat: &[u32], lengths: &[u32], out: &mut [u8])
 // The whole sheet of a refused file.
 pub fn put_refusal(number: u32, out: &mut [u8]) -> usize
     requires { ⌜ 65536 ≤ length (now out) ⌝ }
-    ensures { λ r. ⌜ Written (refusal number) (now (out .entry)) (now (out .exit)) 0 r ⌝ }
+    ensures { λ r. ⌜ Sheeted (refusal number) (now (out .entry)) (now (out .exit)) r ⌝ }
 {
     let answer = [number];
     text::put_line(b"refused", &answer, out, 0)

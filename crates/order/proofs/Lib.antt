@@ -6,4 +6,3 @@ pub mod Panelwise
 pub mod Demand
 pub mod Shown
 pub mod Needed
-pub mod Calls

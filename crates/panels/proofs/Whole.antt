@@ -156,7 +156,7 @@ joins-few seen (u ∷ us) = go (firstFace (u .1) seen) (joins-few (seen ++ (u �
     go none h = omega arith
     go (some j) h = omega arith
 
-sizes-count : (s : List ℕ) → ((k : ℕ) → k < length s → 3 ≤ getD s k 0) → length s ≤ sum s
+pub sizes-count : (s : List ℕ) → ((k : ℕ) → k < length s → 3 ≤ getD s k 0) → length s ≤ sum s
 sizes-count [] h = omega arith
 sizes-count (n ∷ s) h =
     let a : 3 ≤ n = h 0 (omega arith) in

@@ -23,6 +23,8 @@ use Rattle.edges.proofs.Grouped.{inside}
 use Rattle.edges.proofs.Uses.{length-uses, uses-inside}
 use Rattle.wires.specs.Answers.{cornerCount, wired, PortedOf, HouseOf}
 use Rattle.wires.proofs.Balance.{hems-balanced}
+use Rattle.wires.specs.House.{houseWires}
+use Rattle.wires.proofs.Closing.{Used, house-used}
 use Rattle.wires.proofs.Rising.{hems-rise}
 use Rattle.wires.proofs.Tables.{startsOf, endsOf, pairs-of}
 
@@ -70,6 +72,10 @@ not-regular v q e = let z : _≡_ {A = Bool} false true = sym (ap wired e) ∙ q
 
 wired-balanced : (fs : List Ring) → wired (verdict (edgesOf fs)) ≡ true → Balanced (hems (edgesOf fs))
 wired-balanced fs q = hems-balanced (map (map position) fs) (not-irregular (verdict (edgesOf fs)) q) (not-regular (verdict (edgesOf fs)) q)
+
+-- house wires use every hem edge
+pub house-uses : (fs : List Ring) → wired (verdict (edgesOf fs)) ≡ true → Used (hems (edgesOf fs)) (houseWires (hems (edgesOf fs)))
+house-uses fs q = house-used (hems (edgesOf fs)) (wired-balanced fs q)
 
 -- the hem edges of a mesh that is accepted: one per corner at most, between its positions
 module _ {cs s : List ℕ} {n : ℕ} (e : Edged cs s n) where

@@ -1,11 +1,12 @@
 //! The library tried from Rust: reads a panel file from standard input, cleans it and prints its sheet, as document 01 has it; then a
-//! line from each call that the sheet does not need. A refusal prints 'refused' and its number. examples/cover.c is the same from C;
+//! line from each call that the sheet does not need. A refusal prints 'refused' and its number. Last comes the sheet again,
+//! from the one call that makes all of it. examples/cover.c is the same from C;
 //! tools/try_library builds and runs both.
 //!
 //! It has C's `main`, since the start-up code of a Rust `main` does not get through the emulator that runs x86-64 programs on Arm.
 #![no_main]
 
-use barleyhinge::{read_panel, Mesh, OwnedMesh, Refusal, Rows};
+use barleyhinge::{read_panel, sheet, Mesh, OwnedMesh, Refusal, Rows};
 use std::io::Read;
 
 /// Reads, removes folded faces, compacts.
@@ -62,5 +63,6 @@ pub extern "C" fn main() -> i32 {
     if let Err(refusal) = done {
         println!("refused {}", refusal.number());
     }
+    print!("{}", sheet(&file));
     0
 }

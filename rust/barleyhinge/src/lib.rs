@@ -29,6 +29,9 @@ pub const MAX_ENTRIES: usize = 2_048;
 pub const MAX_CORNERS: usize = 4_096;
 pub const MAX_FACES: usize = 1_365;
 
+/// Room for every sheet, in bytes.
+pub const SHEET_ROOM: usize = 65_536;
+
 /// A mesh in five lists that are only read: 3 numbers to a position, 2 to a texture point, 3 to a normal; 3 indices to a corner
 /// (position, texture point, normal); and how many corners each face has: triangles first, then quadrangles, then larger faces.
 #[derive(Clone, Copy, Debug, Default)]
@@ -290,4 +293,14 @@ pub fn read_panel(file: &[u8]) -> Result<OwnedMesh, Refusal> {
     read.corners.truncate(3 * corners);
     read.sizes.truncate(faces);
     Ok(read)
+}
+
+/// The sheet of a panel file, as the program `meshsheet` prints it. A refused file has a sheet too: the line `refused` and its number.
+pub fn sheet(file: &[u8]) -> String {
+    let mut text = vec![0; SHEET_ROOM];
+    let mut length = 0;
+    let number = unsafe { library::bh_sheet(file.as_ptr(), file.len(), text.as_mut_ptr(), text.len(), &mut length) };
+    assert_eq!(number, 0, "the room is the stated one");
+    text.truncate(length);
+    String::from_utf8(text).expect("a sheet is ASCII")
 }

@@ -132,4 +132,10 @@ extern "C" {
         cornercount: *mut usize,
         facecount: *mut usize,
     ) -> u32;
+
+    pub fn bh_sheet(
+        file: *const u8, file_len: usize,
+        text: *mut u8, text_len: usize,
+        length: *mut usize,
+    ) -> u32;
 }

@@ -1,7 +1,7 @@
 -- `lines::put_refusal` meets its contract: a line of one number, for which there is room (`refusal-room`). Assumes nothing.
 use Rattle.text.specs.Text.{line}
 use Rattle.lines.specs.Lines.{refusal}
-use Rattle.lines.proofs.Fitting.{refusal-room}
+use Rattle.lines.proofs.Fitting.{sheeted, refusal-room}
 use borrow.Author.Needs.{needs}
 use native.Mathlib.Omega.{arith}
 use Rattle.lines.proofs.put_refusal.Statement.{statement}
@@ -22,7 +22,7 @@ same-length c = search needs
 
 returns : tie.Need-returns
 unfolding refusal line
-returns c = c .before .before .put-line .ensures
+returns c = sheeted (refusal-room _ _ (omega arith) (c .before .before .before .before .before .before .before .pre)) (c .before .before .put-line .ensures)
 
 pub put-refusal-spec : {M : Type 1} → statement M
 put-refusal-spec =

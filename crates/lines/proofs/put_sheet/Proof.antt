@@ -1,5 +1,5 @@
 -- `lines::put_sheet` meets its contract: 65,536 bytes are room for the four parts (`sheet-room`), which are put one behind the other. Assumes nothing.
-use Rattle.lines.proofs.Fitting.{Narrow, sheet-room, mesh-room, verdict-room, panels-room, hems-room, sheet-written}
+use Rattle.lines.proofs.Fitting.{Narrow, sheeted, sheet-room, mesh-room, verdict-room, panels-room, hems-room, sheet-written}
 use Rattle.text.specs.Text.{Room}
 use Rattle.lines.specs.Lines.{sheetText}
 use Rattle.lines.specs.Working.{foundBy}
@@ -30,7 +30,9 @@ same-length : tie.Need-same-length
 same-length c = search needs
 
 returns : tie.Need-returns
-returns c = sheet-written _ _ _ _ _ _ _ _ _ _ _ _ (c .before .before .before .before .before .before .before .before .before .before .before .before .before .before .put-mesh .ensures) (c .before .before .before .before .before .before .before .before .before .before .put-verdict .ensures) (c .before .before .before .before .before .before .put-panels .ensures) (c .before .before .put-wires .ensures)
+returns c =
+    sheeted (whole-room (c .before .before .before .before .before .before .before .before .before .before .before .before .before .before .before .before .before .before))
+    (sheet-written _ _ _ _ _ _ _ _ _ _ _ _ (c .before .before .before .before .before .before .before .before .before .before .before .before .before .before .put-mesh .ensures) (c .before .before .before .before .before .before .before .before .before .before .put-verdict .ensures) (c .before .before .before .before .before .before .put-panels .ensures) (c .before .before .put-wires .ensures))
 
 pub put-sheet-spec : {M : Type 1} → statement M
 put-sheet-spec =

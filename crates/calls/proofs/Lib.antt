@@ -1,0 +1,11 @@
+pub mod Counts
+pub mod Numbers
+pub mod Fronts
+pub mod Verdicts
+pub mod Hemming
+pub mod Wiring
+pub mod Seats
+pub mod Panelling
+pub mod Order
+pub mod Begun
+pub mod Cleaned

@@ -1,0 +1,73 @@
+-- Two calls of `components` on meshes with the same faces, under one normals setting. Assumes nothing.
+use mathlib.Core.Path.{_≡_, refl, sym, ap, ap₂, _∙_}
+use mathlib.Core.Bool.{Bool}
+use mathlib.Core.List.{List, [], _∷_, map}
+use Prim.Native.Nat.{ℕ}
+use native.Mathlib.Omega.{arith}
+use lib.ListN.{length, take, length-map}
+use lib.Seq.{take-append-seam, drop-append-seam}
+use Rattle.lists.specs.Lists.{joined}
+use Rattle.mesh.specs.Mesh.{Mesh, faces}
+use Rattle.mesh.specs.Table.{meshNumber}
+use Rattle.panels.specs.Panels.{panels, together}
+use Rattle.panels.specs.Contract.{panelsNumber, panelsOf}
+use Rattle.panels.proofs.Panelled.{panels-length, panels-count}
+use Rattle.order.specs.Demand.{Demand3}
+use Rattle.calls.specs.Calls.{cornersOf, PanelCall, parts, panelsWritten}
+use Rattle.calls.specs.Order.{SamePanels}
+use Rattle.calls.proofs.Numbers.{roomy-zero}
+use Rattle.calls.proofs.Fronts.{front, as-many}
+use Rattle.calls.proofs.Counts.{faces-few}
+use Rattle.calls.proofs.Seats.{as-many-panels}
+
+-- lists, put one behind the other and cut by their lengths, are these lists
+parts-back : (ps : List (List ℕ)) → parts (map length ps) (joined ps) ≡ ps
+parts-back [] = refl
+parts-back (p ∷ ps) =
+    ap₂ _∷_ (take-append-seam p (joined ps)) (ap (parts (map length ps)) (drop-append-seam p (joined ps)) ∙ parts-back ps)
+
+-- one call
+module _ (normals : Bool) (m : Mesh) (z : meshNumber m ≡ 0) (r : PanelCall normals m) where
+  done-is : r .answer .number ≡ 0
+  unfolding panelsNumber
+  done-is =
+      r .contract .number
+      ∙ roomy-zero (meshNumber m) (length (r .flat)) (cornersOf m) (length (r .lengths)) (cornersOf m) z (r .flat-room) (r .lengths-room)
+
+  flat-front : take (r .answer .faces) (r .flat′) ≡ joined (panelsOf normals m)
+  flat-front =
+      front (r .flat) (r .flat′) (joined (panelsOf normals m)) (r .answer .number) (length (joined (panelsOf normals m))) (r .answer .faces) done-is
+      (r .contract .flat) (r .contract .faces) refl
+      (omega (arith, panels-length normals (faces m), faces-few m z, r .flat-room))
+
+  lengths-front : take (r .answer .panels) (r .lengths′) ≡ map length (panelsOf normals m)
+  lengths-front =
+      let k : length (map (length {A = ℕ}) (panelsOf normals m)) ≡ length (panelsOf normals m) = length-map (panelsOf normals m) (length {A = ℕ}) in
+      front (r .lengths) (r .lengths′) (map length (panelsOf normals m)) (r .answer .number) (length (panelsOf normals m)) (r .answer .panels) done-is
+      (r .contract .lengths) (r .contract .panels) (sym k)
+      (omega (arith, panels-count normals (faces m), faces-few m z, r .lengths-room))
+
+  written : panelsWritten r ≡ panelsOf normals m
+  written = ap₂ parts lengths-front flat-front ∙ parts-back (panelsOf normals m)
+
+-- two of them
+pub panels-agree :
+    (m n : Mesh) → meshNumber m ≡ 0 → meshNumber n ≡ 0 → length (faces m) ≡ length (faces n) → (d : Demand3 (faces m) (faces n))
+    → (normals : Bool) (r : PanelCall normals m) (q : PanelCall normals n) → SamePanels (d .matching) r q
+panels-agree m n a b s d normals r q = record {
+  done = (done-is normals m a r, done-is normals n b q);
+  as-many-faces =
+      as-many (r .answer .number) (q .answer .number) (length (joined (panelsOf normals m))) (length (joined (panelsOf normals n)))
+      (r .answer .faces) (q .answer .faces) (done-is normals m a r) (done-is normals n b q) (r .contract .faces) (q .contract .faces)
+      (panels-length normals (faces m) ∙ s ∙ sym (panels-length normals (faces n)));
+  as-many-panels =
+      as-many (r .answer .number) (q .answer .number) (length (panelsOf normals m)) (length (panelsOf normals n))
+      (r .answer .panels) (q .answer .panels) (done-is normals m a r) (done-is normals n b q) (r .contract .panels) (q .contract .panels)
+      (as-many-panels normals (faces m) (faces n) d);
+  same-faces = λ x y g h.
+      ap (together x y) (written normals m a r)
+      ∙ d .same-panels normals x y g h
+      ∙ sym (ap (together (d .matching .to x) (d .matching .to y)) (written normals n b q));
+  same-faces-of = λ x y c e g h t u.
+      ap (together x y) (written normals m a r) ∙ d .same-panels-of normals x y c e g h t u ∙ sym (ap (together c e) (written normals n b q));
+}

@@ -1,0 +1,101 @@
+-- A call on a mesh: what was lent, what is there afterwards and what was answered, any of it that the contract allows. Lists that are
+-- lent have the stated room. Assumes nothing.
+use mathlib.Core.Path.{_≡_}
+use mathlib.Core.Bool.{Bool}
+use mathlib.Core.List.{List, [], _∷_}
+use Prim.Native.Nat.{ℕ, _*_, _/_, _≤_}
+use lib.ListN.{length, take, drop}
+use Rattle.mesh.specs.Mesh.{Mesh}
+use Rattle.edges.specs.Edges.{Edge}
+use Rattle.edges.specs.Answers.{answerOf, judged, HemAnswer}
+use Rattle.edges.specs.declared.ShellCondition.{ShellCondition}
+use Rattle.edges.specs.declared.Judged.{Judged}
+use Rattle.edges.specs.declared.Judged.the-variants.{Found}
+use Rattle.edges.specs.declared.HemEdges.{HemEdges}
+use Rattle.wires.specs.Hems.{pairs}
+use Rattle.wires.specs.Answers.{PortedAnswer, HouseAnswer}
+use Rattle.wires.specs.declared.Wires.{Wires}
+use Rattle.panels.specs.Contract.{Answered}
+use Rattle.panels.specs.declared.Answer.{Answer}
+
+-- how many corners a mesh has: the stated room of most lists
+abbrev pub cornersOf : Mesh → ℕ
+cornersOf m = length (m .corners) / 3
+
+-- ---- `edges::shell_condition`
+
+pub record VerdictCall (m : Mesh) : Type 0 where
+  pub answer : Judged
+  pub contract : answerOf answer ≡ judged m
+
+-- it answers this verdict
+abbrev pub says : {m : Mesh} → VerdictCall m → ShellCondition → Type 0
+says v c = v .answer ≡ Found c
+
+-- ---- `edges::hem_edges`
+
+pub record HemCall (m : Mesh) : Type 0 where
+  pub starts : List ℕ
+  pub ends : List ℕ
+  pub starts′ : List ℕ
+  pub ends′ : List ℕ
+  pub answer : HemEdges
+  pub contract : HemAnswer m starts ends starts′ ends′ answer
+  pub starts-room : cornersOf m ≤ length starts
+  pub ends-room : cornersOf m ≤ length ends
+
+-- what is written at the front of the two lists
+module _ {m : Mesh} (r : HemCall m) where
+  abbrev pub startsWritten : List ℕ
+  startsWritten = take (r .answer .count) (r .starts′)
+
+  abbrev pub endsWritten : List ℕ
+  endsWritten = take (r .answer .count) (r .ends′)
+
+  abbrev pub edgesWritten : List Edge
+  edgesWritten = pairs startsWritten endsWritten
+
+-- ---- `wires::house_wires` and `wires::extract_boundaries`
+
+-- what either of them leaves: its answer and the two lists
+pub record WiresLeft : Type 0 where
+  pub answer : Wires
+  pub flat : List ℕ
+  pub lengths : List ℕ
+
+pub record HouseCall (m : Mesh) : Type 0 where
+  pub flat : List ℕ
+  pub lengths : List ℕ
+  pub left : WiresLeft
+  pub contract : HouseAnswer m flat lengths (left .flat) (left .lengths) (left .answer .number) (left .answer .flat) (left .answer .wires)
+  pub flat-room : cornersOf m ≤ length flat
+  pub lengths-room : cornersOf m ≤ length lengths
+
+pub record PortedCall (m : Mesh) : Type 0 where
+  pub flat : List ℕ
+  pub lengths : List ℕ
+  pub left : WiresLeft
+  pub contract : PortedAnswer m flat lengths (left .flat) (left .lengths) (left .answer .number) (left .answer .flat) (left .answer .wires)
+  pub flat-room : 2 * cornersOf m ≤ length flat
+  pub lengths-room : cornersOf m ≤ length lengths
+
+-- ---- `panels::components`
+
+pub record PanelCall (normals : Bool) (m : Mesh) : Type 0 where
+  pub flat : List ℕ
+  pub lengths : List ℕ
+  pub flat′ : List ℕ
+  pub lengths′ : List ℕ
+  pub answer : Answer
+  pub contract : Answered m normals flat lengths (answer .number) (answer .faces) (answer .panels) flat′ lengths′
+  pub flat-room : cornersOf m ≤ length flat
+  pub lengths-room : cornersOf m ≤ length lengths
+
+-- a flat list cut into parts of these lengths
+abbrev pub parts : List ℕ → List ℕ → List (List ℕ)
+parts [] l = []
+parts (n ∷ ns) l = take n l ∷ parts ns (drop n l)
+
+-- the panels that are written
+abbrev pub panelsWritten : {normals : Bool} {m : Mesh} → PanelCall normals m → List (List ℕ)
+panelsWritten r = parts (take (r .answer .panels) (r .lengths′)) (take (r .answer .faces) (r .flat′))

@@ -1,0 +1,5 @@
+pub mod Fronts
+pub mod Reading
+pub mod Cleaning
+pub mod Finding
+pub mod Printing

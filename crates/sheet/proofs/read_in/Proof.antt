@@ -1,0 +1,140 @@
+-- `read_in` meets its contract: a refused file's sheet is its refusal, any other's that of the mesh at the front of the lists (`Reading`). Assumes nothing.
+use Rattle.sheet.proofs.Reading.{read-few, sheeted-as, read-fronts, read-ready, read-text, refused-text}
+use native.Mathlib.Omega.{arith}
+use borrow.Author.Needs.{needs}
+use Rattle.sheet.proofs.read_in.Statement.{statement}
+use Rattle.sheet.proofs.read_in.Tie as tie
+use Rattle.sheet.proofs.read_in.Reads as reads
+use Rattle.sheet.proofs.read_in.Lts as lts
+use Rattle.lines.proofs.put_refusal.Reads as put-refusal-reads
+use Rattle.panelfile.proofs.read_panel.Reads as read-panel-reads
+use Rattle.sheet.proofs.from_mesh.Reads as from-mesh-reads
+
+read-panel-requires : tie.Need-read-panel-requires
+read-panel-requires c κs = search needs
+
+put-refusal-requires : tie.Need-put-refusal-requires
+put-refusal-requires c κs = search needs
+
+same-length : tie.Need-same-length
+same-length c = search needs
+
+same-length-2 : tie.Need-same-length-2
+same-length-2 c = search needs
+
+same-length-3 : tie.Need-same-length-3
+same-length-3 c = search needs
+
+same-length-4 : tie.Need-same-length-4
+same-length-4 c = search needs
+
+same-length-5 : tie.Need-same-length-5
+same-length-5 c = search needs
+
+same-length-6 : tie.Need-same-length-6
+same-length-6 c = search needs
+
+returns : tie.Need-returns
+returns c = sheeted-as (refused-text (c .before .before .before .before .before .before .before .before .before .before .before .before .before .before .before .before .before .before .before .before .before .before .before .before .before .before .before .before .pre) ((c .before .before .before .before .before .before .before .before .before .before .before .before .before .before .before .read-panel) .ensures) ((c .before .before .before .before .if1) .taken)) ((c .before .before .put-refusal) .ensures)
+
+mul-p : tie.Need-mul-p
+mul-p c = omega (arith, read-few (c .before .before .before .before .before .before .before .before .before .before .before .before .before .before .before .before .before .before .before .before .before .before .before .before .before .pre) ((c .before .before .before .before .before .before .before .before .before .before .before .before .read-panel) .ensures) ((c .before .if1) .left) .positions)
+
+mul-t : tie.Need-mul-t
+mul-t c = omega (arith, read-few (c .before .before .before .before .before .before .before .before .before .before .before .before .before .before .before .before .before .before .before .before .before .before .before .before .before .before .pre) ((c .before .before .before .before .before .before .before .before .before .before .before .before .before .read-panel) .ensures) ((c .before .before .if1) .left) .textures)
+
+mul-n : tie.Need-mul-n
+mul-n c = omega (arith, read-few (c .before .before .before .before .before .before .before .before .before .before .before .before .before .before .before .before .before .before .before .before .before .before .before .before .before .before .before .pre) ((c .before .before .before .before .before .before .before .before .before .before .before .before .before .before .read-panel) .ensures) ((c .before .before .before .if1) .left) .normals)
+
+mul-c : tie.Need-mul-c
+mul-c c = omega (arith, read-few (c .before .before .before .before .before .before .before .before .before .before .before .before .before .before .before .before .before .before .before .before .before .before .before .before .before .before .before .before .pre) ((c .before .before .before .before .before .before .before .before .before .before .before .before .before .before .before .read-panel) .ensures) ((c .before .before .before .before .if1) .left) .corners)
+
+slice-reshare-prefix-from-mesh : tie.Need-slice-reshare-prefix-from-mesh
+slice-reshare-prefix-from-mesh c = read-fronts (c .before .before .before .before .before .before .before .before .before .before .before .before .before .before .before .before .before .before .before .before .before .before .before .before .before .before .before .before .pre) ((c .before .before .before .before .before .before .before .before .before .before .before .before .before .before .before .read-panel) .ensures) ((c .before .before .before .before .if1) .left) .positions .within
+
+slice-aggregate-from-mesh : tie.Need-slice-aggregate-from-mesh
+slice-aggregate-from-mesh c = read-fronts (c .before .before .before .before .before .before .before .before .before .before .before .before .before .before .before .before .before .before .before .before .before .before .before .before .before .before .before .before .before .pre) ((c .before .before .before .before .before .before .before .before .before .before .before .before .before .before .before .before .read-panel) .ensures) ((c .before .before .before .before .before .if1) .left) .positions .long
+
+slice-reshare-prefix-from-mesh-2 : tie.Need-slice-reshare-prefix-from-mesh-2
+slice-reshare-prefix-from-mesh-2 c = read-fronts (c .before .before .before .before .before .before .before .before .before .before .before .before .before .before .before .before .before .before .before .before .before .before .before .before .before .before .before .before .before .pre) ((c .before .before .before .before .before .before .before .before .before .before .before .before .before .before .before .before .read-panel) .ensures) ((c .before .before .before .before .before .if1) .left) .textures .within
+
+slice-aggregate-from-mesh-2 : tie.Need-slice-aggregate-from-mesh-2
+slice-aggregate-from-mesh-2 c = read-fronts (c .before .before .before .before .before .before .before .before .before .before .before .before .before .before .before .before .before .before .before .before .before .before .before .before .before .before .before .before .before .before .pre) ((c .before .before .before .before .before .before .before .before .before .before .before .before .before .before .before .before .before .read-panel) .ensures) ((c .before .before .before .before .before .before .if1) .left) .textures .long
+
+slice-reshare-prefix-from-mesh-3 : tie.Need-slice-reshare-prefix-from-mesh-3
+slice-reshare-prefix-from-mesh-3 c = read-fronts (c .before .before .before .before .before .before .before .before .before .before .before .before .before .before .before .before .before .before .before .before .before .before .before .before .before .before .before .before .before .before .pre) ((c .before .before .before .before .before .before .before .before .before .before .before .before .before .before .before .before .before .read-panel) .ensures) ((c .before .before .before .before .before .before .if1) .left) .normals .within
+
+slice-aggregate-from-mesh-3 : tie.Need-slice-aggregate-from-mesh-3
+slice-aggregate-from-mesh-3 c = read-fronts (c .before .before .before .before .before .before .before .before .before .before .before .before .before .before .before .before .before .before .before .before .before .before .before .before .before .before .before .before .before .before .before .pre) ((c .before .before .before .before .before .before .before .before .before .before .before .before .before .before .before .before .before .before .read-panel) .ensures) ((c .before .before .before .before .before .before .before .if1) .left) .normals .long
+
+slice-reshare-prefix-from-mesh-4 : tie.Need-slice-reshare-prefix-from-mesh-4
+slice-reshare-prefix-from-mesh-4 c = read-fronts (c .before .before .before .before .before .before .before .before .before .before .before .before .before .before .before .before .before .before .before .before .before .before .before .before .before .before .before .before .before .before .before .pre) ((c .before .before .before .before .before .before .before .before .before .before .before .before .before .before .before .before .before .before .read-panel) .ensures) ((c .before .before .before .before .before .before .before .if1) .left) .corners .within
+
+slice-aggregate-from-mesh-4 : tie.Need-slice-aggregate-from-mesh-4
+slice-aggregate-from-mesh-4 c = read-fronts (c .before .before .before .before .before .before .before .before .before .before .before .before .before .before .before .before .before .before .before .before .before .before .before .before .before .before .before .before .before .before .before .before .pre) ((c .before .before .before .before .before .before .before .before .before .before .before .before .before .before .before .before .before .before .before .read-panel) .ensures) ((c .before .before .before .before .before .before .before .before .if1) .left) .corners .long
+
+slice-reshare-prefix-from-mesh-5 : tie.Need-slice-reshare-prefix-from-mesh-5
+slice-reshare-prefix-from-mesh-5 c = read-fronts (c .before .before .before .before .before .before .before .before .before .before .before .before .before .before .before .before .before .before .before .before .before .before .before .before .before .before .before .before .before .before .before .before .pre) ((c .before .before .before .before .before .before .before .before .before .before .before .before .before .before .before .before .before .before .before .read-panel) .ensures) ((c .before .before .before .before .before .before .before .before .if1) .left) .sizes .within
+
+slice-aggregate-from-mesh-5 : tie.Need-slice-aggregate-from-mesh-5
+slice-aggregate-from-mesh-5 c = read-fronts (c .before .before .before .before .before .before .before .before .before .before .before .before .before .before .before .before .before .before .before .before .before .before .before .before .before .before .before .before .before .before .before .before .before .pre) ((c .before .before .before .before .before .before .before .before .before .before .before .before .before .before .before .before .before .before .before .before .read-panel) .ensures) ((c .before .before .before .before .before .before .before .before .before .if1) .left) .sizes .long
+
+from-mesh-requires : tie.Need-from-mesh-requires
+from-mesh-requires c κs = read-ready (c .before .before .before .before .before .before .before .before .before .before .before .before .before .before .before .before .before .before .before .before .before .before .before .before .before .before .before .before .before .before .before .before .before .before .pre) ((c .before .before .before .before .before .before .before .before .before .before .before .before .before .before .before .before .before .before .before .before .before .read-panel) .ensures) ((c .before .before .before .before .before .before .before .before .before .before .if1) .left)
+
+same-length-7 : tie.Need-same-length-7
+same-length-7 c = search needs
+
+same-length-8 : tie.Need-same-length-8
+same-length-8 c = search needs
+
+same-length-9 : tie.Need-same-length-9
+same-length-9 c = search needs
+
+same-length-10 : tie.Need-same-length-10
+same-length-10 c = search needs
+
+same-length-11 : tie.Need-same-length-11
+same-length-11 c = search needs
+
+same-length-12 : tie.Need-same-length-12
+same-length-12 c = search needs
+
+returns-2 : tie.Need-returns-2
+returns-2 c = sheeted-as (read-text (c .before .before .before .before .before .before .before .before .before .before .before .before .before .before .before .before .before .before .before .before .before .before .before .before .before .before .before .before .before .before .before .before .before .before .before .before .before .pre) ((c .before .before .before .before .before .before .before .before .before .before .before .before .before .before .before .before .before .before .before .before .before .before .before .before .read-panel) .ensures) ((c .before .before .before .before .before .before .before .before .before .before .before .before .before .if1) .left)) ((c .before .before .from-mesh) .ensures)
+
+pub read-in-spec : {M : Type 1} → statement M
+read-in-spec =
+    tie.close
+    (tie.spec
+    read-panel-requires
+    put-refusal-requires
+    same-length
+    same-length-2
+    same-length-3
+    same-length-4
+    same-length-5
+    same-length-6
+    returns
+    mul-p
+    mul-t
+    mul-n
+    mul-c
+    slice-reshare-prefix-from-mesh
+    slice-aggregate-from-mesh
+    slice-reshare-prefix-from-mesh-2
+    slice-aggregate-from-mesh-2
+    slice-reshare-prefix-from-mesh-3
+    slice-aggregate-from-mesh-3
+    slice-reshare-prefix-from-mesh-4
+    slice-aggregate-from-mesh-4
+    slice-reshare-prefix-from-mesh-5
+    slice-aggregate-from-mesh-5
+    from-mesh-requires
+    same-length-7
+    same-length-8
+    same-length-9
+    same-length-10
+    same-length-11
+    same-length-12
+    returns-2)

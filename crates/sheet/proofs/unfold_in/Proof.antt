@@ -1,0 +1,60 @@
+-- `unfold_in` meets its contract: what removal gives stands at the front of the lists, and the sheet is that of the mesh there (`Cleaning`). Assumes nothing.
+use Rattle.sheet.proofs.Reading.{sheeted-as}
+use Rattle.sheet.proofs.Cleaning.{unfolded-corners, unfolded-sizes, unfolded-ready, unfolded-text}
+use native.Mathlib.Omega.{arith}
+use borrow.Author.Needs.{needs}
+use Rattle.sheet.proofs.unfold_in.Statement.{statement}
+use Rattle.sheet.proofs.unfold_in.Tie as tie
+use Rattle.sheet.proofs.unfold_in.Reads as reads
+use Rattle.sheet.proofs.unfold_in.Lts as lts
+use Rattle.folded.proofs.remove_degenerate_faces.Reads as remove-degenerate-faces-reads
+use Rattle.sheet.proofs.from_unfolded.Reads as from-unfolded-reads
+
+remove-degenerate-faces-requires : tie.Need-remove-degenerate-faces-requires
+remove-degenerate-faces-requires c κs = search needs
+
+mul-c : tie.Need-mul-c
+mul-c c = omega (arith, unfolded-corners (c .before .before .before .before .before .before .before .before .before .before .before .before .before .before .before .before .pre) ((c .before .before .before .before .before .remove-degenerate-faces) .ensures) .within)
+
+slice-reshare-prefix-from-unfolded : tie.Need-slice-reshare-prefix-from-unfolded
+slice-reshare-prefix-from-unfolded c = unfolded-corners (c .before .before .before .before .before .before .before .before .before .before .before .before .before .before .before .before .pre) ((c .before .before .before .before .before .remove-degenerate-faces) .ensures) .within
+
+slice-aggregate-from-unfolded : tie.Need-slice-aggregate-from-unfolded
+slice-aggregate-from-unfolded c = unfolded-corners (c .before .before .before .before .before .before .before .before .before .before .before .before .before .before .before .before .before .pre) ((c .before .before .before .before .before .before .remove-degenerate-faces) .ensures) .long
+
+slice-reshare-prefix-from-unfolded-2 : tie.Need-slice-reshare-prefix-from-unfolded-2
+slice-reshare-prefix-from-unfolded-2 c = unfolded-sizes (c .before .before .before .before .before .before .before .before .before .before .before .before .before .before .before .before .before .pre) ((c .before .before .before .before .before .before .remove-degenerate-faces) .ensures) .within
+
+slice-aggregate-from-unfolded-2 : tie.Need-slice-aggregate-from-unfolded-2
+slice-aggregate-from-unfolded-2 c = unfolded-sizes (c .before .before .before .before .before .before .before .before .before .before .before .before .before .before .before .before .before .before .pre) ((c .before .before .before .before .before .before .before .remove-degenerate-faces) .ensures) .long
+
+from-unfolded-requires : tie.Need-from-unfolded-requires
+from-unfolded-requires c κs = unfolded-ready (c .before .before .before .before .before .before .before .before .before .before .before .before .before .before .before .before .before .before .before .pre) ((c .before .before .before .before .before .before .before .before .remove-degenerate-faces) .ensures)
+
+same-length : tie.Need-same-length
+same-length c = search needs
+
+same-length-2 : tie.Need-same-length-2
+same-length-2 c = search needs
+
+same-length-3 : tie.Need-same-length-3
+same-length-3 c = search needs
+
+returns : tie.Need-returns
+returns c = sheeted-as (unfolded-text (c .before .before .before .before .before .before .before .before .before .before .before .before .before .before .before .before .before .before .before .before .before .before .pre) ((c .before .before .before .before .before .before .before .before .before .before .before .remove-degenerate-faces) .ensures)) ((c .before .before .from-unfolded) .ensures)
+
+pub unfold-in-spec : {M : Type 1} → statement M
+unfold-in-spec =
+    tie.close
+    (tie.spec
+    remove-degenerate-faces-requires
+    mul-c
+    slice-reshare-prefix-from-unfolded
+    slice-aggregate-from-unfolded
+    slice-reshare-prefix-from-unfolded-2
+    slice-aggregate-from-unfolded-2
+    from-unfolded-requires
+    same-length
+    same-length-2
+    same-length-3
+    returns)

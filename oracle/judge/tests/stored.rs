@@ -1,0 +1,87 @@
+//! The outputs that are stored beside the product's programs, held to document 01 read again.
+
+use judge::reading::{panel_file, sheet};
+use std::collections::BTreeMap;
+use std::fs::{read, read_to_string};
+use std::path::{Path, PathBuf};
+
+fn root() -> PathBuf {
+    Path::new(env!("CARGO_MANIFEST_DIR")).join("../..")
+}
+
+/// The files that a program's args name, from its data folder.
+fn files(program: &str) -> Vec<(String, Vec<u8>)> {
+    let folder = root().join("crates").join(program);
+    let names = read_to_string(folder.join("args")).unwrap();
+    names.lines().map(|name| (name.to_string(), read(folder.join("data").join(name)).unwrap())).collect()
+}
+
+fn stored(program: &str) -> String {
+    read_to_string(root().join("crates").join(program).join("stdout")).unwrap()
+}
+
+#[test]
+fn meshsheet_prints_the_sheet() {
+    let file = read(root().join("crates/meshsheet/stdin")).unwrap();
+    assert_eq!(file.len(), 267);
+    assert_eq!(sheet::sheet(&file), stored("meshsheet"));
+}
+
+#[test]
+fn sheets_prints_each_sheet() {
+    let sheets: String = files("sheets").iter().map(|(name, file)| format!("== {name}\n{}", sheet::sheet(file))).collect();
+    assert_eq!(sheets, stored("sheets"));
+}
+
+#[test]
+fn damaged_counts_each_number() {
+    let counted: String = files("damaged").iter().map(|(name, file)| format!("== {name}\n{}{}", cuts(file), headers(file))).collect();
+    assert_eq!(counted, stored("damaged"));
+}
+
+#[test]
+fn examples_have_their_sheets() {
+    let mut seen = 0;
+    for entry in std::fs::read_dir(root().join("examples")).unwrap() {
+        let path = entry.unwrap().path();
+        if path.extension().map_or(false, |e| e == "panel") {
+            assert_eq!(sheet::sheet(&read(&path).unwrap()), read_to_string(path.with_extension("sheet")).unwrap(), "{path:?}");
+            seen += 1;
+        }
+    }
+    assert!(seen > 0);
+}
+
+fn number(file: &[u8]) -> u32 {
+    panel_file::read(file).err().unwrap_or(0)
+}
+
+fn lines(what: &str, numbers: impl Iterator<Item = u32>) -> String {
+    let mut counts = BTreeMap::new();
+    numbers.for_each(|n| *counts.entry(n).or_insert(0) += 1);
+    counts.iter().map(|(n, count)| format!("{what} {n}: {count}\n")).collect()
+}
+
+fn cuts(file: &[u8]) -> String {
+    lines("cut", (0..=file.len()).map(|n| number(&file[..n])))
+}
+
+/// Every byte of every header changed to each other value.
+fn headers(file: &[u8]) -> String {
+    let mut bytes = vec![];
+    let mut at = 0;
+    while at < file.len() {
+        bytes.extend(at..at + 4);
+        at += 4 + u16::from_le_bytes([file[at], file[at + 1]]) as usize;
+    }
+    lines(
+        "changed header",
+        bytes.iter().flat_map(|at| {
+            (0..=255).filter(move |value| *value != file[*at]).map(move |value| {
+                let mut copy = file.to_vec();
+                copy[*at] = value;
+                number(&copy)
+            })
+        }),
+    )
+}
