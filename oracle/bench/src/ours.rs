@@ -4,10 +4,11 @@ use crate::shapes::Case;
 use crate::time::fastest;
 use comparer::{Asked, Library, Product};
 use judge::reading::numbers::stated_rooms;
+use judge::reading::sheet::FILE;
 use judge::{Call, Mesh, Question};
 use std::time::Duration;
 
-/// How long a call takes; none where the library does not have it or it refuses.
+/// How long a call takes; none where the library does not have it or it refuses, and no sheet of a file that is too long for one.
 pub fn time(library: &Library, call: Call, case: &Case) -> Option<Duration> {
     let question = Question {
         mesh: case.mesh.clone(),
@@ -17,11 +18,12 @@ pub fn time(library: &Library, call: Call, case: &Case) -> Option<Duration> {
         file: panel_file(&case.mesh),
         rooms: stated_rooms(call, &case.mesh),
     };
-    let mut asked = Asked::before(call, &question);
-    if library.has(call) {
-        library.put(call, &question, &mut asked);
+    if !library.has(call) || call == Call::Sheet && question.file.len() > FILE {
+        return None;
     }
-    if !library.has(call) || asked.number != 0 {
+    let mut asked = Asked::before(call, &question);
+    library.put(call, &question, &mut asked);
+    if asked.number != 0 {
         return None;
     }
     Some(fastest(|| (), |()| library.put(call, &question, &mut asked)))
