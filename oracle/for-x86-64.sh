@@ -3,7 +3,7 @@
 #   cargo, RUSTC   a Rust that has the x86-64 standard library
 #   cc, link       a C compiler for x86-64, and what it needs to link
 #   emulator       what runs an x86-64 program here: nothing on x86-64, the kit's emulator elsewhere
-#   archive        the product's library, made again where a source is newer
+#   make_archive   sets archive to the product's library, made again where a source is newer, or to the one that LIBRARY names
 #   build_rust_program FOLDER WORDS    builds a Rust program of the package there that has C's main
 # and says which packages are wanted where something is not there.
 
@@ -62,7 +62,8 @@ find_emulator() {
 }
 
 make_archive() {
-    archive=target/staticlib/libbarleyhinge.a
+    archive=${LIBRARY:-target/staticlib/libbarleyhinge.a}
+    [ -z "${LIBRARY:-}" ] || return 0
     if [ ! -e "$archive" ] || [ -n "$(find crates crates.txt -newer "$archive" -print -quit)" ]; then
         rt staticlib barleyhinge >&2
     fi

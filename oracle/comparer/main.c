@@ -24,6 +24,11 @@ typedef void watch(const char *call, unsigned long long index);
 #endif
 extern int ENTRY(struct library library, watch *watch, int argc, char **argv);
 
+#ifdef PAD
+/* Moves what is linked behind this file: see ./bench. */
+__asm__(".text\n.skip " PAD);
+#endif
+
 /* How long one mesh may take, in seconds. */
 enum { PATIENCE = 900 };
 

@@ -4,9 +4,6 @@ use comparer::Random;
 use judge::mesh::Corner;
 use judge::{Mesh, MISSING};
 
-/// Corners at about 1/16, 1/4 and the whole of the limits.
-pub const SIZES: [usize; 3] = [256, 1_024, 4_096];
-
 /// A mesh, and the tolerance that it is merged with.
 pub struct Case {
     pub name: &'static str,
@@ -17,25 +14,31 @@ pub struct Case {
 /// What every call is measured on.
 pub fn all(corners: usize) -> Vec<Case> {
     let case = |name, mesh| Case { name, mesh, tolerance: 1.0 / 1024.0 };
-    vec![case("tube", tube(corners)), case("ball", ball(corners)), case("scattered", scattered(corners))]
-}
-
-/// What merging is measured on besides.
-pub fn clouds(corners: usize) -> Vec<Case> {
     vec![
-        Case { name: "spread points", mesh: spread(corners), tolerance: 1.0 / 64.0 },
-        Case { name: "one cell", mesh: one_cell(corners), tolerance: 0.5 },
+        case("tube", tube(corners)),
+        case("ball", ball(corners)),
+        case("scattered", scattered(corners)),
+        case("fan", fan(corners)),
+        case("separate triangles", separate(corners)),
     ]
 }
 
-/// What growth is measured on.
-pub fn growing(corners: usize) -> Vec<Case> {
-    let case = |name, mesh| Case { name, mesh, tolerance: 1.0 / 1024.0 };
-    vec![case("tube", tube(corners)), case("fan", fan(corners)), case("separate triangles", separate(corners))]
+/// Points on a grid whose cells are far apart, half as many as there are corners in each list.
+pub fn spread_points(corners: usize) -> Case {
+    let grid = |i: usize| [i % 16, i / 16 % 16, i / 256].map(|x| x as f64);
+    let mesh = cloud(corners, grid, |i| [i % 32, i / 32].map(|x| x as f64));
+    Case { name: "spread points", mesh, tolerance: 1.0 / 64.0 }
+}
+
+/// Points that are all in one cell and all near, half as many as there are corners in each list.
+pub fn one_cell(corners: usize) -> Case {
+    let height = |i: usize| 0.1 / (1 + i) as f64;
+    let mesh = cloud(corners, |i| [0.1, 0.1, height(i)], |i| [0.1, height(i)]);
+    Case { name: "one cell", mesh, tolerance: 0.5 }
 }
 
 /// Quadrangles, 16 around, open at both ends.
-pub fn tube(corners: usize) -> Mesh {
+fn tube(corners: usize) -> Mesh {
     let (around, along) = (16, corners / 64);
     let at = |x: usize, y: usize| (y * around + x % around) as u32;
     let cells = (0..along).flat_map(|y| (0..around).map(move |x| (x, y)));
@@ -45,7 +48,7 @@ pub fn tube(corners: usize) -> Mesh {
 }
 
 /// Rings of quadrangles, 16 around, between two poles of triangles: closed.
-pub fn ball(corners: usize) -> Mesh {
+fn ball(corners: usize) -> Mesh {
     let (around, rings) = (16, corners / 64 - 1);
     let at = |x: usize, y: usize| (y * around + x % around) as u32;
     let (south, north) = ((around * rings) as u32, (around * rings + 1) as u32);
@@ -60,7 +63,7 @@ pub fn ball(corners: usize) -> Mesh {
 }
 
 /// Faces of 3 to 8 corners anywhere, one in four of them folded, with texture points and normals anywhere and some missing.
-pub fn scattered(corners: usize) -> Mesh {
+fn scattered(corners: usize) -> Mesh {
     let (random, points) = (Random::of(1, corners as u64), corners / 2);
     let (mut faces, mut left): (Vec<Vec<Corner>>, usize) = (vec![], corners);
     while left >= 8 {
@@ -79,29 +82,17 @@ pub fn scattered(corners: usize) -> Mesh {
 }
 
 /// Triangles around one position.
-pub fn fan(corners: usize) -> Mesh {
+fn fan(corners: usize) -> Mesh {
     let blades = corners / 3;
     let faces = (0..blades as u32).map(|i| vec![0, i + 1, i + 2]).collect();
     mesh((0..blades + 2).map(|i| circle(i, blades + 2, 0.0)).collect(), faces)
 }
 
 /// Triangles that share no edge. (There are too few positions for as many that share no position.)
-pub fn separate(corners: usize) -> Mesh {
+fn separate(corners: usize) -> Mesh {
     let points = corners / 2;
     let faces = (0..corners / 3).map(|k| [k, k + 1, k + 3].map(|i| (i % points) as u32).to_vec()).collect();
     mesh((0..points).map(|i| circle(i, points, 0.0)).collect(), faces)
-}
-
-/// Points on a grid whose cells are far apart, half as many as there are corners in each list.
-fn spread(corners: usize) -> Mesh {
-    let grid = |i: usize| [i % 16, i / 16 % 16, i / 256].map(|x| x as f64);
-    cloud(corners, grid, |i| [i % 32, i / 32].map(|x| x as f64))
-}
-
-/// Points that are all in one cell and all near, half as many as there are corners in each list.
-fn one_cell(corners: usize) -> Mesh {
-    let height = |i: usize| 0.1 / (1 + i) as f64;
-    cloud(corners, |i| [0.1, 0.1, height(i)], |i| [0.1, height(i)])
 }
 
 /// Positions and normals in one place each, texture points in another; quadrangles that use them all.

@@ -24,7 +24,7 @@ mod tests;
 mod wrong;
 mod wrong_merging;
 
-pub use library::{Library, Watch};
+pub use library::{Asked, Library, Product, Watch};
 pub use random::Random;
 pub use run::run;
 

@@ -71,7 +71,7 @@ const UNTOUCHED_VERDICT: u32 = 0x5a5a_5a5a;
 
 impl Asked {
     /// The lists and counts of a question before it is asked.
-    fn before(call: Call, question: &Question) -> Asked {
+    pub fn before(call: Call, question: &Question) -> Asked {
         let shape = Answer::refused(call, 0);
         Asked {
             number: 0,
@@ -135,23 +135,28 @@ impl Product for Library {
     }
 
     fn ask(&self, call: Call, question: &Question) -> Asked {
-        let (mesh, file) = (question.mesh.clone(), question.file.clone());
-        let mut asked = Asked::before(call, question);
-        // Safety: the pointers and lengths are those of live lists, and each count has its place.
-        unsafe {
-            if call.reads_a_file() {
-                self.ask_of_file(call, &file, &mut asked);
-            } else {
-                self.ask_of_mesh(call, question, &mesh, &mut asked);
-            }
-        }
-        asked.input_kept = is_same(&mesh, &question.mesh) && file == question.file;
+        let (lent, mut asked) = (question.clone(), Asked::before(call, question));
+        self.put(call, &lent, &mut asked);
+        asked.input_kept = is_same(&lent.mesh, &question.mesh) && lent.file == question.file;
         asked
     }
 }
 
 impl Library {
-    unsafe fn ask_of_mesh(&self, call: Call, question: &Question, mesh: &Mesh, asked: &mut Asked) {
+    /// The call itself, over the lists and counts that are there.
+    pub fn put(&self, call: Call, question: &Question, asked: &mut Asked) {
+        // Safety: the pointers and lengths are those of live lists, and each count has its place.
+        unsafe {
+            if call.reads_a_file() {
+                self.ask_of_file(call, &question.file, asked);
+            } else {
+                self.ask_of_mesh(call, question, asked);
+            }
+        }
+    }
+
+    unsafe fn ask_of_mesh(&self, call: Call, question: &Question, asked: &mut Asked) {
+        let mesh = &question.mesh;
         macro_rules! on {
             ($name: ident $(, $more: expr)*) => {
                 self.$name.unwrap()(

@@ -1,0 +1,107 @@
+#!/usr/bin/env python3
+"""oracle/bench/table.py TIMES..: the table of docs/BENCHMARKS.md from the lines of the benchmark, the least of several files.
+
+A line has tabs: call, mesh, corners, our nanoseconds, the Rust's. Below the table stands how each goal came out, and where ours is the
+slower one.
+"""
+import sys
+
+SIZES = (256, 1024, 4096)
+NAMED = ("tube", "ball", "scattered")
+# Ours/Rust at the full limits: calls, meshes, and the most that it may be.
+RATIOS = (
+    ("compaction", ("remove_unused_attrs",), NAMED, 1.0),
+    ("removal", ("remove_degenerate_faces",), NAMED, 1.0),
+    ("verdict", ("shell_condition",), NAMED, 1.0),
+    ("wires", ("hem_edges", "extract_boundaries", "house_wires"), NAMED, 1.0),
+    ("panels", ("components",), NAMED, 1.0),
+    ("merging on spread points", ("put_together_same_attrs",), ("spread points",), 3.0),
+)
+GROWING = ("shell_condition", "hem_edges", "extract_boundaries", "house_wires", "components")
+GROWN_ON = ("tube", "fan", "separate triangles")
+MOST_GROWTH = 24.0
+
+
+def least(files):
+    """For each call and mesh, in the order met, for each size and side: the least time."""
+    times = {}
+    for name in files:
+        with open(name, encoding="utf-8") as lines:
+            for line in lines:
+                call, mesh, corners, ours, rust = line.rstrip("\n").split("\t")
+                row = times.setdefault((call, mesh), {})
+                for side, nanos in (("ours", ours), ("rust", rust)):
+                    if nanos:
+                        key = (side, int(corners))
+                        row[key] = min(row.get(key, float("inf")), int(nanos))
+    return times
+
+
+def quotient(row, one, other):
+    return row[one] / row[other] if one in row and other in row else None
+
+
+def micros(nanos):
+    if nanos is None:
+        return ""
+    return f"{nanos / 1000:.1f}" if nanos < 100_000 else f"{nanos / 1000:,.0f}"
+
+
+def two_places(number):
+    return "" if number is None else f"{number:.2f}"
+
+
+def print_table(times):
+    sizes = " | ".join(f"{size:,}" for size in SIZES)
+    print(f"| Call | Mesh | Ours, µs: {sizes} | Rust, µs: {sizes} | Ours/Rust: {sizes} | Growth: ours | Rust |")
+    print("|---" * 13 + "|")
+    order = {call: place for place, call in enumerate(dict.fromkeys(call for call, _ in times))}
+    for (call, mesh), row in sorted(times.items(), key=lambda item: order[item[0][0]]):
+        cells = [f"`{call}`", mesh]
+        cells += [micros(row.get((side, size))) for side in ("ours", "rust") for size in SIZES]
+        cells += [two_places(quotient(row, ("ours", size), ("rust", size))) for size in SIZES]
+        cells += [two_places(quotient(row, (side, SIZES[-1]), (side, SIZES[0]))) for side in ("ours", "rust")]
+        print("| " + " | ".join(cells) + " |")
+
+
+def print_goals(times):
+    print("\n## How the goals came out\n")
+    print("| Goal | The most | Where | |\n|---|---|---|---|")
+    full = SIZES[-1]
+    for name, calls, meshes, most in RATIOS:
+        found = [
+            (quotient(row, ("ours", full), ("rust", full)), call, mesh)
+            for (call, mesh), row in times.items()
+            if call in calls and mesh in meshes
+        ]
+        print_goal(f"{name}: ours/Rust at most {most:.1f}", max(found), most)
+    grown = [
+        (quotient(row, ("ours", full), ("ours", SIZES[0])), call, mesh)
+        for (call, mesh), row in times.items()
+        if call in GROWING and mesh in GROWN_ON
+    ]
+    print_goal(f"edges, wires and panels from 256 to 4,096 corners: growth at most {MOST_GROWTH:.0f}", max(grown), MOST_GROWTH)
+
+
+def print_goal(goal, worst, most):
+    value, call, mesh = worst
+    print(f"| {goal} | {value:.2f} | `{call}`, {mesh} | {'met' if value <= most else 'not met'} |")
+
+
+def print_slower(times):
+    full = SIZES[-1]
+    print(f"\n## Where ours takes longer than the Rust at {full:,} corners\n")
+    print("| Call | Mesh | Ours/Rust | Of ours the check of the mesh |\n|---|---|---|---|")
+    for (call, mesh), row in times.items():
+        ratio = quotient(row, ("ours", full), ("rust", full))
+        if ratio and ratio > 1.0:
+            check = times.get(("mesh_number", mesh), {}).get(("ours", full))
+            share = f"{100 * check / row['ours', full]:.1f} %" if check else ""
+            print(f"| `{call}` | {mesh} | {ratio:.2f} | {share} |")
+
+
+if __name__ == "__main__":
+    found = least(sys.argv[1:])
+    print_table(found)
+    print_goals(found)
+    print_slower(found)
