@@ -1,15 +1,17 @@
 // One case: the mesh that it is about is read from the list, and the call is asked.
+use crate::attributes;
 use crate::calls;
 use crate::calls::Outcome;
 use crate::files;
 use crate::list;
+use crate::pairs;
 
 // The kind of a record that holds a mesh, and of one that holds a panel file.
 pub const MESH: u32 = 0;
 
 pub const FILE: u32 = 12;
 
-// The calls, by the kind of their records, in the order in which their lines are printed.
+// The calls, by the kind of their records; `pairs` has the others.
 pub const MESH_NUMBER: u32 = 1;
 
 pub const FACE: u32 = 2;
@@ -86,16 +88,16 @@ fn ask_of(
         return calls::face(list, at, positions, textures, normals, corners, sizes);
     }
     if kind == COMPACTION {
-        return calls::compaction(list, at, positions, textures, normals, corners, sizes);
+        return attributes::compaction(list, at, positions, textures, normals, corners, sizes);
     }
     if kind == MERGING {
-        return calls::merging(list, at, positions, textures, normals, corners, sizes);
+        return attributes::merging(list, at, positions, textures, normals, corners, sizes);
     }
     if kind == VERDICT {
         return calls::shell_condition(list, at, positions, textures, normals, corners, sizes);
     }
-    let counts = if kind == calls::HEMS { 1 } else { 2 };
-    calls::two_lists(
+    let counts = if kind == pairs::HEMS { 1 } else { 2 };
+    pairs::two_lists(
         list,
         at,
         kind,

@@ -31,6 +31,7 @@ pub fn read_panel(list: &[u8], subject: usize, at: usize) -> Outcome {
     read_in(list, at, bytes(&file, n))
 }
 
+// The first n of the bytes, or all of them where there are fewer.
 fn bytes(list: &[u8], n: usize) -> &[u8] {
     if n <= list.len() {
         return &list[0..n];
@@ -40,11 +41,7 @@ fn bytes(list: &[u8], n: usize) -> &[u8] {
 
 // ---- the file: some bytes, several times over, and then others
 
-// How many bytes are repeated, how many stand there before the others begin, and how many others there are.
-fn unit(list: &[u8], at: usize) -> usize {
-    list::count(list, at)
-}
-
+// How many bytes stand there before the others begin.
 fn front(list: &[u8], at: usize) -> usize {
     list::count(list, list::plus(at, 1))
 }
@@ -66,7 +63,7 @@ fn words_for(n: usize) -> usize
 
 // Byte i of the file.
 fn file_byte(list: &[u8], at: usize, i: usize) -> u8 {
-    let u = unit(list, at);
+    let u = list::count(list, at);
     let before = front(list, at);
     let begin = list::plus(at, 3);
     if i < before {
@@ -91,6 +88,7 @@ fn byte(list: &[u8], at: usize, i: usize) -> u8 {
     0
 }
 
+// Writes the file to the front of `out`, as far as there is room.
 fn copy_file(list: &[u8], at: usize, out: &mut [u8]) {
     let n = list::lesser(length(list, at), out.len());
     let mut i = 0;
@@ -102,6 +100,7 @@ fn copy_file(list: &[u8], at: usize, out: &mut [u8]) {
 
 // ---- the case
 
+// Over lists of the case's rooms.
 fn read_in(list: &[u8], at: usize, file: &[u8]) -> Outcome {
     let mut p = [0.0; FLOATS];
     let mut t = [0.0; FLOATS];
@@ -130,6 +129,7 @@ fn read_in(list: &[u8], at: usize, file: &[u8]) -> Outcome {
     )
 }
 
+// Asks, and holds what was said and written to the list.
 fn lend(
     list: &[u8],
     at: usize,
@@ -144,6 +144,7 @@ fn lend(
     hold(list, at, drawn, p, t, n, c, s)
 }
 
+// Asks the product.
 fn draw(
     file: &[u8],
     p: &mut [f64],
@@ -168,6 +169,7 @@ fn draw(
     }
 }
 
+// Whether it is all as in the list.
 fn hold(
     list: &[u8],
     at: usize,

@@ -27,6 +27,7 @@ fn pattern_float(i: usize) -> f64 {
     floating::of_bits(0x4321_8765_0000_0000 + (i % 65536) as u64)
 }
 
+// Fills a list with the pattern.
 pub fn fill(out: &mut [u32]) {
     let mut i = 0;
     while i < out.len() {
@@ -87,6 +88,7 @@ fn is_unlike(len: usize, list: &[u8], room: usize) -> bool {
     len < list::count(list, list::plus(room, 1))
 }
 
+// What must stand at place i of a lent list: number i of the answer, or the pattern behind the answer's n.
 fn word_wanted(list: &[u8], at: usize, n: usize, i: usize) -> u32 {
     if i < n {
         return list::word_in(list, at, i);

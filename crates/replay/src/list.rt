@@ -2,7 +2,6 @@
 //
 // Nothing is taken on trust: a word past the list's end reads as 0, and every place stays below BEYOND, so that a list that is
 // damaged gives an answer that is wrong and not a program that fails.
-ghost use mathlib.Core.Path.{_≡_};
 ghost use Prim.Native.Nat.{_<_, _≤_};
 
 // No list has so many words.
@@ -15,6 +14,7 @@ pub fn wide(b: u8) -> u32
     b as u32
 }
 
+// A word, as an index, and in room for two.
 fn index(w: u32) -> usize {
     w as usize
 }

@@ -5,10 +5,12 @@
 // The list was made by the oracle, from the Rust itself and from a second reading of document 01 (oracle/README.md); README.md has
 // its format, and how this program was seen to fail.
 mod ask;
+mod attributes;
 mod calls;
 mod files;
 mod lent;
 mod list;
+mod pairs;
 mod tally;
 
 use calls::Outcome;
