@@ -1,7 +1,9 @@
 //! Panel files: both sides of what refuses one, and some at random.
 
 use crate::record::File;
+use crate::subjects::is_plain;
 use comparer::files;
+use comparer::meshes;
 use comparer::random::Random;
 use judge::{reading, MISSING};
 
@@ -97,16 +99,23 @@ pub fn both_sides() -> Vec<File> {
     files
 }
 
+/// The tolerance of the mesh that a random file is made from: `files::random` draws one number, and then the mesh.
+fn tolerance(index: u64) -> f64 {
+    let random = Random::of(SEED, index);
+    random.bits();
+    meshes::random(&random).tolerance
+}
+
 /// Random files of up to 400 bytes, so many that are read and so many that are refused.
 pub fn at_random() -> Vec<File> {
-    let (mut read, mut refused) = (10, 14);
+    let (mut read, mut refused) = (8, 10);
     let mut files = vec![];
     for index in 0.. {
         if read + refused == 0 {
             break;
         }
         let file = files::random(&Random::of(SEED, index));
-        if !(40..400).contains(&file.len()) {
+        if !(40..400).contains(&file.len()) || !is_plain(tolerance(index)) {
             continue;
         }
         let left = if reading::panel_file::read(&file).is_ok() { &mut read } else { &mut refused };

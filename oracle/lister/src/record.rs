@@ -103,9 +103,10 @@ fn words(body: &mut Vec<u32>, list: &[u32]) {
     body.extend(&list[repeats..]);
 }
 
-/// The same of f64s, each by its bits in two words, the lower first.
+/// The same of f64s, each by its bits in two words, the lower first. Every NaN is written alike: which one arithmetic makes is the
+/// machine's own affair.
 fn floats(body: &mut Vec<u32>, list: &[f64]) {
-    let bits: Vec<u64> = list.iter().map(|x| x.to_bits()).collect();
+    let bits: Vec<u64> = list.iter().map(|x| if x.is_nan() { 0x7ff8_0000_0000_0000 } else { x.to_bits() }).collect();
     let repeats = repeats(&bits);
     body.extend([list.len() as u32, repeats as u32]);
     body.extend(bits[repeats..].iter().flat_map(|x| [*x as u32, (x >> 32) as u32]));

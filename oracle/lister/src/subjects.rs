@@ -139,9 +139,15 @@ fn ring(corners: usize) -> Mesh {
     Mesh { positions, ..Mesh::default() }.with_faces(&faces)
 }
 
+/// Whether a tolerance is the same on every machine: the others are made with logarithms, whose last bit is the machine's own affair, and
+/// the coordinates go by them.
+pub fn is_plain(tolerance: f64) -> bool {
+    tolerance.to_bits() as u32 == 0 || [0.1, 0.3, 1e-6, 1e-3].contains(&tolerance)
+}
+
 /// Random meshes that are accepted: for each verdict so many small ones, and some larger ones.
 pub fn at_random() -> Vec<Case> {
-    let mut wanted = [7, 6, 9, 4];
+    let mut wanted = [6, 5, 7, 4];
     let mut larger = 2;
     let mut cases = vec![];
     for index in 0.. {
@@ -150,7 +156,7 @@ pub fn at_random() -> Vec<Case> {
         }
         let case = meshes::random(&Random::of(SEED, index));
         let (mesh, size) = (&case.mesh, size(&case.mesh));
-        if mesh_number(mesh) != 0 || mesh.sizes.len() < 2 {
+        if mesh_number(mesh) != 0 || mesh.sizes.len() < 2 || !is_plain(case.tolerance) {
             continue;
         }
         let verdict = reading::edges::verdict(mesh) as usize;
@@ -174,7 +180,7 @@ pub fn that_merge() -> Vec<Case> {
             break;
         }
         let case = meshes::random(&Random::of(SEED + 1, index));
-        if size(&case.mesh) > 160 || mesh_number(&case.mesh) != 0 {
+        if size(&case.mesh) > 160 || mesh_number(&case.mesh) != 0 || !is_plain(case.tolerance) {
             continue;
         }
         let columns = changed_columns(&case);
