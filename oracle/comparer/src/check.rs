@@ -19,12 +19,10 @@ pub struct Compared {
 /// Asks the reading, the Rust and the product.
 pub fn compare(product: &dyn Product, call: Call, question: &Question, slip: Option<Slip>) -> Compared {
     let right = reading::answer(call, question);
-    let rust = rust_answers(call, question, &right);
-    let with_rust = !rust.is_empty();
-    for (name, other) in rust {
-        if let Some(difference) = between(&right, &other) {
-            let difference = Some(format!("{name} and document 01 differ: {difference}"));
-            return Compared { right, with_rust, difference };
+    let with_rust = rust_knows(call, question, &right) && has_turn(call, question, &right);
+    if with_rust {
+        if let Some(difference) = rust_differs(call, question, &right) {
+            return Compared { right, with_rust, difference: Some(difference) };
         }
     }
     let mut asked = product.ask(call, question);
@@ -35,30 +33,39 @@ pub fn compare(product: &dyn Product, call: Call, question: &Question, slip: Opt
     Compared { right, with_rust, difference }
 }
 
-/// The Rust's answers, where it has one.
-fn rust_answers(call: Call, question: &Question, right: &Answer) -> Vec<(&'static str, Answer)> {
-    if !rust_is_asked(call, question, right) {
-        return vec![];
+/// Where the Rust, untouched or ascending, answers something else than document 01's reading; none where it agrees, or is not asked.
+pub fn rust_differs(call: Call, question: &Question, right: &Answer) -> Option<String> {
+    if !rust_knows(call, question, right) {
+        return None;
     }
     let untouched = rust::untouched::answer(call, question).map(|answer| ("the untouched Rust", answer));
     let ascending = rust::ascending::answer(call, question).map(|answer| ("the ascending Rust", answer));
-    untouched.into_iter().chain(ascending).collect()
+    untouched
+        .into_iter()
+        .chain(ascending)
+        .find_map(|(name, other)| between(right, &other).map(|difference| format!("{name} and document 01 differ: {difference}")))
 }
 
-/// Whether the Rust is asked: it knows no refusal but an index out of range, and its merging takes so long where many points lie close
-/// that it is asked the less often the more there are.
-fn rust_is_asked(call: Call, question: &Question, right: &Answer) -> bool {
+/// Whether the Rust can be asked: it knows no refusal but an index out of range, and has no house wires and no panel files.
+pub fn rust_knows(call: Call, question: &Question, right: &Answer) -> bool {
     match call {
         Call::MeshNumber => [0, 5].contains(&right.number),
         Call::Face => reading::numbers::mesh_number(&question.mesh) == 0,
-        Call::PutTogetherSameAttrs if right.number == 0 => {
-            let compared = |count: &Count| if let Count::Is(pairs) = count { *pairs } else { 0 };
-            let pairs: u64 = right.counts.iter().map(compared).sum();
-            let once_in = 1 + pairs / 300 + (question.mesh.positions.len() as u64 / 100).min(40);
-            lot(question) % once_in == 0
-        }
+        Call::HouseWires | Call::ReadPanel | Call::Sheet => false,
         _ => right.number == 0,
     }
+}
+
+/// Whether the comparer asks the Rust this time: its merging takes so long where many points lie close that it is asked the less
+/// often the more there are.
+fn has_turn(call: Call, question: &Question, right: &Answer) -> bool {
+    if call != Call::PutTogetherSameAttrs {
+        return true;
+    }
+    let compared = |count: &Count| if let Count::Is(pairs) = count { *pairs } else { 0 };
+    let pairs: u64 = right.counts.iter().map(compared).sum();
+    let once_in = 1 + pairs / 300 + (question.mesh.positions.len() as u64 / 100).min(40);
+    lot(question) % once_in == 0
 }
 
 /// A number that goes by the coordinates and is otherwise like any other.

@@ -2,17 +2,17 @@
 //!
 //! `library` asks the product, with lent lists that are filled with a pattern (`lent`); `check` holds what came back to the judge's
 //! answer. `meshes`, `shapes`, `coordinates`, `damage` and `files` make what is asked. A difference is made small by `shrink` and
-//! printed by `show`. `slips`, `wrong` and `wrong_merging` show that the comparer can fail.
+//! printed by `show`. `slips`, `wrong` and `wrong_merging` show that the comparer can fail. What is public serves the lister too.
 
-mod check;
+pub mod check;
 mod coordinates;
 mod damage;
-mod files;
+pub mod files;
 mod lent;
 mod library;
-mod meshes;
+pub mod meshes;
 mod options;
-mod random;
+pub mod random;
 mod run;
 mod shapes;
 mod show;

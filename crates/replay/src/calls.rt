@@ -1,0 +1,197 @@
+// One case of a call on a mesh: the product's own function is asked, with lent lists of the case's rooms, and its whole answer is
+// held to the list's. `at` is where the case's own words begin: two for what the call is given beside the mesh, the number, the
+// counts, and for each lent list its room and what stands at its front afterwards.
+//
+// Here are the calls that lend nothing, and what the others share: `pairs` has those that lend two lists of u32, `attributes`
+// compaction and merging, `files` the reader.
+use crate::list;
+use edges::Judged;
+use edges::ShellCondition;
+
+// More than any room of the list.
+pub const ROOM: usize = 12304;
+
+// What stands for a verdict that is not answered.
+const NONE: usize = 4294967295;
+
+// What a call said: its number, and up to three counts; 0 for those that it has not.
+pub struct Said {
+    pub number: u32,
+    pub first: usize,
+    pub second: usize,
+    pub third: usize,
+}
+
+// How a case came out: the number that the product answered, whether anything was not as in the list, and where the case's words end.
+pub struct Outcome {
+    pub number: u32,
+    pub differs: bool,
+    pub end: usize,
+}
+
+// Where a case's lent lists begin, behind so many counts.
+pub fn lists_from(at: usize, counts: usize) -> usize {
+    list::plus(list::plus(at, 3), counts)
+}
+
+// Where a case's words go on after a lent list whose room stands here.
+pub fn after_words(list: &[u8], room: usize) -> usize {
+    list::after_words(list, list::plus(room, 1))
+}
+
+pub fn after_floats(list: &[u8], room: usize) -> usize {
+    list::after_floats(list, list::plus(room, 1))
+}
+
+pub fn either(a: bool, b: bool) -> bool {
+    if a {
+        return true;
+    }
+    b
+}
+
+// Whether the number and the first counts are not those of the list.
+pub fn said_differs(list: &[u8], at: usize, counts: usize, said: Said) -> bool {
+    if said.number != list::word(list, list::plus(at, 2)) {
+        return true;
+    }
+    if counts > 0 {
+        if said.first != list::count(list, list::plus(at, 3)) {
+            return true;
+        }
+    }
+    if counts > 1 {
+        if said.second != list::count(list, list::plus(at, 4)) {
+            return true;
+        }
+    }
+    if counts > 2 {
+        if said.third != list::count(list, list::plus(at, 5)) {
+            return true;
+        }
+    }
+    false
+}
+
+// ---- calls that lend nothing
+
+// The number of a mesh.
+pub fn mesh_number(
+    list: &[u8],
+    at: usize,
+    positions: &[f64],
+    textures: &[f64],
+    normals: &[f64],
+    corners: &[u32],
+    sizes: &[u32],
+) -> Outcome {
+    let number = mesh::number(positions, textures, normals, corners, sizes);
+    Outcome {
+        number: number,
+        differs: number != list::word(list, list::plus(at, 2)),
+        end: lists_from(at, 0),
+    }
+}
+
+// The part of a face: its length, and that it holds what the list of corners has from its start on. The call has no
+// number: 0 stands in the list.
+pub fn face(
+    list: &[u8],
+    at: usize,
+    positions: &[f64],
+    textures: &[f64],
+    normals: &[f64],
+    corners: &[u32],
+    sizes: &[u32],
+) -> Outcome {
+    let k = list::long(list, at) as usize;
+    let part = mesh::face(positions, textures, normals, corners, sizes, k);
+    let start = list::count(list, list::plus(at, 3));
+    let said = saying(0, start_of(part, start), part.len());
+    Outcome {
+        number: 0,
+        differs: either(
+            said_differs(list, at, 2, said),
+            part_differs(part, corners, start),
+        ),
+        end: lists_from(at, 2),
+    }
+}
+
+// The start of a part: 0 where it is empty.
+fn start_of(part: &[u32], start: usize) -> usize {
+    if part.len() == 0 {
+        return 0;
+    }
+    start
+}
+
+// Whether a part is not what stands in the corners from `start` on.
+fn part_differs(part: &[u32], corners: &[u32], start: usize) -> bool {
+    if start > corners.len() {
+        return true;
+    }
+    let rest = &corners[start..];
+    if rest.len() < part.len() {
+        return true;
+    }
+    let mut i = 0;
+    while i < part.len() {
+        if part[i] != rest[i] {
+            return true;
+        }
+        i += 1;
+    }
+    false
+}
+
+// The verdict.
+pub fn shell_condition(
+    list: &[u8],
+    at: usize,
+    positions: &[f64],
+    textures: &[f64],
+    normals: &[f64],
+    corners: &[u32],
+    sizes: &[u32],
+) -> Outcome {
+    let said = judged(positions, textures, normals, corners, sizes);
+    Outcome {
+        number: said.number,
+        differs: said_differs(list, at, 1, said),
+        end: lists_from(at, 1),
+    }
+}
+
+fn judged(
+    positions: &[f64],
+    textures: &[f64],
+    normals: &[f64],
+    corners: &[u32],
+    sizes: &[u32],
+) -> Said {
+    let answer = edges::shell_condition(positions, textures, normals, corners, sizes);
+    match answer {
+        Judged::Found(condition) => saying(0, verdict_number(condition), 0),
+        Judged::Refused(number) => saying(number, NONE, 0),
+    }
+}
+
+fn verdict_number(condition: ShellCondition) -> usize {
+    match condition {
+        ShellCondition::Irregular => 0,
+        ShellCondition::Regular => 1,
+        ShellCondition::Oriented => 2,
+        ShellCondition::Closed => 3,
+    }
+}
+
+// A number and two counts.
+pub fn saying(number: u32, first: usize, second: usize) -> Said {
+    Said {
+        number: number,
+        first: first,
+        second: second,
+        third: 0,
+    }
+}

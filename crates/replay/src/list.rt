@@ -1,0 +1,131 @@
+// The list of answers, as words of 32 bits, the lowest byte first; `at` is a word's number. README.md has the format.
+//
+// Nothing is taken on trust: a word past the list's end reads as 0, and every place stays below BEYOND, so that a list that is
+// damaged gives an answer that is wrong and not a program that fails.
+ghost use Prim.Native.Nat.{_<_, _≤_};
+
+// No list has so many words.
+const BEYOND: usize = 1000000;
+
+// A byte, in room for more.
+pub fn wide(b: u8) -> u32
+    ensures { λ r. ⌜ r < 256 ⌝ }
+{
+    b as u32
+}
+
+// A word, as an index, and in room for two.
+fn index(w: u32) -> usize {
+    w as usize
+}
+
+fn double(w: u32) -> u64
+    ensures { λ r. ⌜ r < 4294967296 ⌝ }
+{
+    w as u64
+}
+
+// The word with this number.
+pub fn word(list: &[u8], at: usize) -> u32 {
+    if at < list.len() / 4 {
+        let i = 4 * at;
+        return wide(list[i])
+            + 256 * wide(list[i + 1])
+            + 65536 * wide(list[i + 2])
+            + 16777216 * wide(list[i + 3]);
+    }
+    0
+}
+
+// The word with this number, as a count or a place.
+pub fn count(list: &[u8], at: usize) -> usize {
+    index(word(list, at))
+}
+
+// Two words, the lower first.
+pub fn long(list: &[u8], at: usize) -> u64 {
+    double(word(list, at)) + 4294967296 * double(word(list, plus(at, 1)))
+}
+
+// A place so many words on.
+pub fn plus(at: usize, n: usize) -> usize {
+    if at < BEYOND {
+        if n < BEYOND {
+            return at + n;
+        }
+    }
+    BEYOND
+}
+
+// ---- a list of numbers within the list: how many there are, how often the first is repeated at the front, and the others
+
+// Which of the numbers that are written stands at i, where the first is repeated so often.
+fn place(i: usize, repeats: usize) -> usize {
+    if i < repeats {
+        return 0;
+    }
+    i - repeats
+}
+
+// How many numbers are written.
+fn written(list: &[u8], at: usize) -> usize {
+    place(count(list, at), count(list, plus(at, 1)))
+}
+
+// Whether a list says that it repeats more numbers than it has.
+pub fn is_odd(list: &[u8], at: usize) -> bool {
+    let repeats = count(list, plus(at, 1));
+    if repeats == 0 {
+        return false;
+    }
+    count(list, at) <= repeats
+}
+
+// Where the words go on after a list of u32, and after one of f64.
+pub fn after_words(list: &[u8], at: usize) -> usize {
+    plus(plus(at, 2), written(list, at))
+}
+
+pub fn after_floats(list: &[u8], at: usize) -> usize {
+    let n = written(list, at);
+    plus(plus(plus(at, 2), n), n)
+}
+
+// Number i of a list of u32, and of one of f64.
+pub fn word_in(list: &[u8], at: usize, i: usize) -> u32 {
+    word(list, plus(plus(at, 2), place(i, count(list, plus(at, 1)))))
+}
+
+pub fn float_in(list: &[u8], at: usize, i: usize) -> f64 {
+    let p = place(i, count(list, plus(at, 1)));
+    floating::of_bits(long(list, plus(plus(plus(at, 2), p), p)))
+}
+
+// Writes a list of u32 to the front of `out`, as far as there is room.
+pub fn copy_words(list: &[u8], at: usize, out: &mut [u32]) {
+    let n = lesser(count(list, at), out.len());
+    let mut i = 0;
+    while i < n {
+        out[i] = word_in(list, at, i);
+        i += 1;
+    }
+}
+
+// The same of f64.
+pub fn copy_floats(list: &[u8], at: usize, out: &mut [f64]) {
+    let n = lesser(count(list, at), out.len());
+    let mut i = 0;
+    while i < n {
+        out[i] = float_in(list, at, i);
+        i += 1;
+    }
+}
+
+pub fn lesser(a: usize, b: usize) -> usize
+    ensures { λ r. ⌜ r ≤ b ⌝ }
+{
+    if a < b {
+        return a;
+    }
+    b
+}

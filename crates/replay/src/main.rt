@@ -1,0 +1,72 @@
+// Replays the list of answers that stands in the file stdin beside src/: each case is put to the product's own public functions, over lent
+// lists that are filled with a pattern, and the whole answer is compared, number, counts, every element, and the room past the
+// result. It prints for each call how many cases there were, how many by number, and how many differed: none may.
+//
+// The list was made by the oracle, from the Rust itself and from a second reading of document 01 (oracle/README.md); README.md has
+// its format, and how this program was seen to fail.
+mod ask;
+mod attributes;
+mod calls;
+mod files;
+mod lent;
+mod list;
+mod pairs;
+mod tally;
+
+use calls::Outcome;
+
+fn main() {
+    let mut list = [0u8; 262144];
+    let n = io::read_full(0, &mut list);
+    let mut counts = [0u32; 192];
+    let whole = replay(&list[..n], &mut counts);
+    tally::print(&counts);
+    if !whole {
+        io::write_all(1, b"the list is damaged\n");
+    }
+}
+
+// Goes through the records; false where the list ends inside one.
+fn replay(list: &[u8], counts: &mut [u32]) -> bool {
+    let end = list.len() / 4;
+    let mut at = 0;
+    let mut subject = 0;
+    while at < end {
+        let n = list::count(list, at);
+        if n == 0 {
+            return false;
+        }
+        if n >= end - at {
+            return false;
+        }
+        let next = at + n + 1;
+        subject = record(list, at, next, subject, counts);
+        at = next;
+    }
+    list.len() % 4 == 0
+}
+
+// One record: a mesh or a panel file, which the cases after it are about, or a case, which must end where the next record begins.
+// Answers where the words of the mesh or the file begin.
+fn record(list: &[u8], at: usize, next: usize, subject: usize, counts: &mut [u32]) -> usize {
+    let kind = list::word(list, list::plus(at, 1));
+    let body = list::plus(at, 2);
+    if kind == ask::MESH {
+        return body;
+    }
+    if kind == ask::FILE {
+        return body;
+    }
+    let found = ask::ask(list, subject, kind, body);
+    let differs = calls::either(found.differs, found.end != next);
+    tally::add(
+        counts,
+        kind,
+        Outcome {
+            number: found.number,
+            differs: differs,
+            end: next,
+        },
+    );
+    subject
+}

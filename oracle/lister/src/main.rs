@@ -1,0 +1,163 @@
+//! Writes the list of answers that crate `replay` replays: cases of every call that takes a mesh or a panel file, with every number
+//! that it can answer. Each answer is document 01's reading; where the Rust has one too, untouched and ascending, it must be the same.
+//!
+//!     lister FILE     writes the list there, and prints how many cases each call has, and how many the Rust answered
+
+mod merging;
+mod panel_files;
+mod record;
+mod subjects;
+
+use comparer::check::{rust_differs, rust_knows};
+use comparer::meshes::Case;
+use judge::reading::numbers::stated_rooms;
+use judge::{reading, Call, Mesh, Question};
+use record::{File, List};
+
+/// The calls that the list asks.
+const CALLS: [Call; 11] = [
+    Call::MeshNumber,
+    Call::Face,
+    Call::RemoveUnusedAttrs,
+    Call::RemoveDegenerateFaces,
+    Call::PutTogetherSameAttrs,
+    Call::ShellCondition,
+    Call::HemEdges,
+    Call::ExtractBoundaries,
+    Call::HouseWires,
+    Call::Components,
+    Call::ReadPanel,
+];
+
+/// The numbers that a call can answer: the list has each of them.
+fn numbers(call: Call) -> &'static [u32] {
+    match call {
+        Call::Face => &[0],
+        Call::MeshNumber | Call::ShellCondition => &[0, 1, 2, 3, 4, 5],
+        Call::PutTogetherSameAttrs => &[0, 1, 2, 3, 4, 5, 6, 7, 8, 9],
+        Call::HouseWires => &[0, 1, 2, 3, 4, 5, 9, 10],
+        Call::ReadPanel => &[0, 1, 3, 5, 9, 11, 12, 13],
+        _ => &[0, 1, 2, 3, 4, 5, 9],
+    }
+}
+
+/// The list and what is in it: for each call how many cases there are by number, and how many the Rust answered.
+#[derive(Default)]
+struct Lister {
+    list: List,
+    cases: usize,
+    by_number: [[usize; 14]; CALLS.len()],
+    by_rust: [usize; CALLS.len()],
+}
+
+impl Lister {
+    /// One case: the answer, once the Rust was found to agree.
+    fn case(&mut self, call: Call, question: &Question) {
+        let answer = reading::answer(call, question);
+        if let Some(difference) = rust_differs(call, question, &answer) {
+            panic!("{}: {difference}", call.name());
+        }
+        self.list.case(call, question, &answer);
+        let place = CALLS.iter().position(|other| *other == call).unwrap();
+        self.cases += 1;
+        self.by_number[place][answer.number as usize] += 1;
+        self.by_rust[place] += rust_knows(call, question, &answer) as usize;
+    }
+
+    /// A mesh, put to every call that takes one, with exact rooms or `more` in each; panels by both settings, the first face, the last
+    /// one, and some that are no faces.
+    fn mesh(&mut self, mesh: &Mesh, tolerance: f64, more: usize) {
+        self.list.mesh(mesh);
+        let mut question = Question { mesh: mesh.clone(), tolerance, ..Question::default() };
+        for call in CALLS.into_iter().filter(|call| !call.reads_a_file()) {
+            question.rooms = stated_rooms(call, mesh).iter().map(|room| room + more).collect();
+            match call {
+                Call::Face => {
+                    let faces = mesh.sizes.len();
+                    for face in [0, faces.saturating_sub(1), faces, usize::MAX] {
+                        question.face = face;
+                        self.case(call, &question);
+                    }
+                }
+                Call::Components => {
+                    for use_normal in [false, true] {
+                        question.use_normal = use_normal;
+                        self.case(call, &question);
+                    }
+                }
+                _ => self.case(call, &question),
+            }
+        }
+    }
+
+    /// A mesh, put to every call that lends, with the room of each list one short in turn, and with all of them empty.
+    fn short_rooms(&mut self, mesh: &Mesh, tolerance: f64) {
+        self.list.mesh(mesh);
+        for call in CALLS.into_iter().filter(|call| !call.reads_a_file()) {
+            let mut question = Question { mesh: mesh.clone(), tolerance, ..Question::default() };
+            self.short_rooms_of(call, &mut question);
+        }
+    }
+
+    fn short_rooms_of(&mut self, call: Call, question: &mut Question) {
+        let stated = stated_rooms(call, &question.mesh);
+        for short in 0..stated.len() {
+            question.rooms = stated.clone();
+            question.rooms[short] -= 1;
+            self.case(call, question);
+        }
+        if !stated.is_empty() {
+            question.rooms = vec![0; stated.len()];
+            self.case(call, question);
+        }
+    }
+
+    fn merging(&mut self, mesh: &Mesh, tolerance: f64) {
+        self.list.mesh(mesh);
+        let rooms = vec![mesh.corners.len()];
+        self.case(Call::PutTogetherSameAttrs, &Question { mesh: mesh.clone(), tolerance, rooms, ..Question::default() });
+    }
+
+    fn file(&mut self, file: &File) -> Question {
+        self.list.file(file);
+        let rooms = stated_rooms(Call::ReadPanel, &Mesh::default());
+        let question = Question { file: file.bytes(), rooms, ..Question::default() };
+        self.case(Call::ReadPanel, &question);
+        question
+    }
+}
+
+/// The whole list.
+fn list() -> Lister {
+    let mut lister = Lister::default();
+    subjects::examples().iter().enumerate().for_each(|(i, mesh)| lister.mesh(mesh, 0.625, i % 3));
+    subjects::both_sides().iter().for_each(|mesh| lister.mesh(mesh, 0.5, 0));
+    for (i, Case { mesh, tolerance }) in subjects::at_random().iter().enumerate() {
+        lister.mesh(mesh, *tolerance, i % 3);
+    }
+    let examples = subjects::examples();
+    [&examples[10], &examples[11]].iter().for_each(|mesh| lister.short_rooms(mesh, 0.5));
+    subjects::that_merge().iter().for_each(|case| lister.merging(&case.mesh, case.tolerance));
+    for asked in [merging::tolerances(), merging::coordinates(), merging::quotients(), merging::merges()] {
+        asked.iter().for_each(|(mesh, tolerance)| lister.merging(mesh, *tolerance));
+    }
+    panel_files::both_sides().iter().chain(&panel_files::at_random()).for_each(|file| {
+        lister.file(file);
+    });
+    let mut question = lister.file(&panel_files::both_sides()[0]);
+    lister.short_rooms_of(Call::ReadPanel, &mut question);
+    lister
+}
+
+fn main() {
+    let name = std::env::args().nth(1).expect("lister FILE");
+    let lister = list();
+    for (call, (by_number, by_rust)) in CALLS.iter().zip(lister.by_number.iter().zip(&lister.by_rust)) {
+        let missing = numbers(*call).iter().find(|number| by_number[**number as usize] == 0);
+        assert!(missing.is_none(), "{}: no case answers {missing:?}", call.name());
+        println!("{}: {} cases, {by_rust} of them the Rust's too", call.name(), by_number.iter().sum::<usize>());
+    }
+    let bytes = lister.list.bytes();
+    std::fs::write(&name, &bytes).expect("the list cannot be written");
+    println!("{} cases, {} bytes", lister.cases, bytes.len());
+}

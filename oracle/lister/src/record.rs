@@ -1,0 +1,122 @@
+//! The list's format: words of 32 bits, the lowest byte first. crates/replay/README.md has it in full.
+
+use judge::{Answer, Call, Count, Mesh, Numbers, Question};
+
+/// The kind of a record that holds a mesh; the calls have 1 and up, in the order of the C interface.
+const MESH: u32 = 0;
+/// The kind of a record that holds a panel file.
+const FILE: u32 = 12;
+/// What stands for a verdict that is not answered.
+const NONE: u32 = 0xffff_ffff;
+
+/// A panel file: some bytes, several times over, and then others.
+#[derive(Clone, Debug, Default)]
+pub struct File {
+    pub unit: Vec<u8>,
+    pub times: usize,
+    pub rest: Vec<u8>,
+}
+
+impl File {
+    pub fn plain(rest: Vec<u8>) -> File {
+        File { rest, ..File::default() }
+    }
+
+    pub fn bytes(&self) -> Vec<u8> {
+        [self.unit.repeat(self.times), self.rest.clone()].concat()
+    }
+}
+
+/// The list as it is written.
+#[derive(Default)]
+pub struct List {
+    words: Vec<u32>,
+}
+
+impl List {
+    pub fn bytes(&self) -> Vec<u8> {
+        self.words.iter().flat_map(|word| word.to_le_bytes()).collect()
+    }
+
+    /// The mesh that the cases after it are about.
+    pub fn mesh(&mut self, mesh: &Mesh) {
+        let mut body = vec![];
+        floats(&mut body, &mesh.positions);
+        floats(&mut body, &mesh.textures);
+        floats(&mut body, &mesh.normals);
+        words(&mut body, &mesh.corners);
+        words(&mut body, &mesh.sizes);
+        self.record(MESH, &body);
+    }
+
+    /// The panel file that the cases after it are about.
+    pub fn file(&mut self, file: &File) {
+        let mut body = [file.unit.len(), file.unit.len() * file.times, file.rest.len()].map(|n| n as u32).to_vec();
+        body.extend(packed(&file.unit));
+        body.extend(packed(&file.rest));
+        self.record(FILE, &body);
+    }
+
+    /// A case: what the call is given beside the mesh or the file, and its whole answer.
+    pub fn case(&mut self, call: Call, question: &Question, answer: &Answer) {
+        let given = given(call, question);
+        let mut body = vec![given as u32, (given >> 32) as u32, answer.number];
+        body.extend(answer.counts.iter().map(|count| match count {
+            Count::Is(count) => *count as u32,
+            Count::Untouched => NONE,
+        }));
+        for (room, list) in question.rooms.iter().zip(&answer.lists) {
+            body.push(*room as u32);
+            match list {
+                Numbers::Floats(list) => floats(&mut body, list),
+                Numbers::Words(list) => words(&mut body, list),
+                Numbers::Bytes(_) => unreachable!("no call of the list lends bytes"),
+            }
+        }
+        self.record(kind(call), &body);
+    }
+
+    fn record(&mut self, kind: u32, body: &[u32]) {
+        self.words.extend([body.len() as u32 + 1, kind]);
+        self.words.extend(body);
+    }
+}
+
+fn kind(call: Call) -> u32 {
+    1 + Call::ALL.iter().position(|other| *other == call).unwrap() as u32
+}
+
+/// The face, the tolerance or the normals setting, in 64 bits; 0 where the call takes none.
+fn given(call: Call, question: &Question) -> u64 {
+    match call {
+        Call::Face => question.face as u64,
+        Call::PutTogetherSameAttrs => question.tolerance.to_bits(),
+        Call::Components => question.use_normal as u64,
+        _ => 0,
+    }
+}
+
+/// How many numbers a list has, how often its first is repeated at its front, and the numbers without these repetitions.
+fn words(body: &mut Vec<u32>, list: &[u32]) {
+    let repeats = repeats(list);
+    body.extend([list.len() as u32, repeats as u32]);
+    body.extend(&list[repeats..]);
+}
+
+/// The same of f64s, each by its bits in two words, the lower first. Every NaN is written alike: which one arithmetic makes is the
+/// machine's own affair.
+fn floats(body: &mut Vec<u32>, list: &[f64]) {
+    let bits: Vec<u64> = list.iter().map(|x| if x.is_nan() { 0x7ff8_0000_0000_0000 } else { x.to_bits() }).collect();
+    let repeats = repeats(&bits);
+    body.extend([list.len() as u32, repeats as u32]);
+    body.extend(bits[repeats..].iter().flat_map(|x| [*x as u32, (x >> 32) as u32]));
+}
+
+fn repeats<T: PartialEq>(list: &[T]) -> usize {
+    list.iter().skip(1).take_while(|x| **x == list[0]).count()
+}
+
+/// Four bytes to a word, the last word filled up with zeros.
+fn packed(bytes: &[u8]) -> Vec<u32> {
+    bytes.chunks(4).map(|four| four.iter().rev().fold(0, |word, byte| word << 8 | *byte as u32)).collect()
+}
