@@ -23,11 +23,11 @@ use Rattle.nearby.proofs.Flags.{room, list-more, taken-more, still}
 -- ---- the walk, a turn at a time
 
 module _ (r : ℕ → ℕ → Bool) (n : ℕ) (before : List ℕ) where
-  turn-old : (f i : ℕ) (s g : List ℕ) → has i (before ++ g) ≡ true → walk r n before (suc f) (at (i ∷ s) g) ≡ walk r n before f (at s g)
+  pub turn-old : (f i : ℕ) (s g : List ℕ) → has i (before ++ g) ≡ true → walk r n before (suc f) (at (i ∷ s) g) ≡ walk r n before f (at s g)
   unfolding walk popped
   turn-old f i s g h = rw h
 
-  turn-new : (f i : ℕ) (s g : List ℕ) → has i (before ++ g) ≡ false → walk r n before (suc f) (at (i ∷ s) g) ≡ walk r n before f (at (descending (r i) n ++ s) (g ++ (i ∷ [])))
+  pub turn-new : (f i : ℕ) (s g : List ℕ) → has i (before ++ g) ≡ false → walk r n before (suc f) (at (i ∷ s) g) ≡ walk r n before f (at (descending (r i) n ++ s) (g ++ (i ∷ [])))
   unfolding walk popped
   turn-new f i s g h = rw h
 

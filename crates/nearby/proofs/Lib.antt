@@ -6,3 +6,8 @@ pub mod Flags
 pub mod Frames
 pub mod Walking
 pub mod Laws
+pub mod Both
+pub mod Chains
+pub mod Classes
+pub mod Reaching
+pub mod Connected
