@@ -1,4 +1,4 @@
-/* The comparer's main: it knows which functions the product's library has, and says where it was when a call does not come back.
+/* The main of the comparer and, with another ENTRY, of the benchmark: it knows which functions the product's library has, and says where it was when a call does not come back.
    A function that the library does not have is a null pointer here (a weak symbol that nothing defines). */
 #include <signal.h>
 #include <stdio.h>
@@ -17,7 +17,12 @@
 CALLS(DECLARE)
 struct library { CALLS(FIELD) };
 typedef void watch(const char *call, unsigned long long index);
-extern int compare(struct library library, watch *watch, int argc, char **argv);
+
+/* The program itself. */
+#ifndef ENTRY
+#define ENTRY compare
+#endif
+extern int ENTRY(struct library library, watch *watch, int argc, char **argv);
 
 /* How long one mesh may take, in seconds. */
 enum { PATIENCE = 900 };
@@ -50,5 +55,5 @@ int main(int argc, char **argv) {
         signal(signals[i], died);
     }
     setvbuf(stdout, NULL, _IOLBF, 0);
-    return compare(library, note, argc, argv);
+    return ENTRY(library, note, argc, argv);
 }

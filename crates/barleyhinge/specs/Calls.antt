@@ -10,10 +10,12 @@ use Rattle.mesh.specs.Table.{shapeNumber, meshNumber, after}
 use Rattle.mesh.specs.Face.{offsetOf, facePart}
 use Rattle.compaction.specs.declared.Compacted.{Compacted}
 use Rattle.folded.specs.declared.Removed.{Removed}
+use Rattle.merging.specs.declared.Merged.{Merged}
 use Rattle.edges.specs.Edges.{Verdict, verdict}
 use Rattle.edges.specs.Answers.{meshEdgesOf}
 use Rattle.edges.specs.declared.HemEdges.{HemEdges}
 use Rattle.panelfile.specs.declared.Panel.{Panel}
+use Rattle.sheet.specs.declared.Answer.{Answer as Sheet}
 
 -- where the part of face k starts in the list of corners: behind three numbers for each corner of the faces before it; 0 where
 -- the part is empty
@@ -33,6 +35,10 @@ compactedBy number p t n = record { number = number; positions = p; textures = t
 -- what the removal of folded faces answers: the number returned, and the counts of corners and faces
 abbrev pub removedBy : ℕ → ℕ → ℕ → Removed
 removedBy number c f = record { number = number; corners = c; faces = f }
+
+-- what merging answers: the number returned, and how many pairs were compared among positions, texture points and normals
+abbrev pub mergedBy : ℕ → ℕ → ℕ → ℕ → Merged
+mergedBy number p t n = record { number = number; positions = p; textures = t; normals = n }
 
 -- the verdicts by number, from the weakest to the strongest
 unfoldable pub verdictNumber : Verdict → ℕ
@@ -54,3 +60,7 @@ hemmedBy number n = record { number = number; count = n }
 abbrev pub readBy : ℕ → ℕ → ℕ → ℕ → ℕ → ℕ → Panel
 readBy number p t n c f =
     record { number = number; positions = p; textures = t; normals = n; corners = c; faces = f }
+
+-- what the sheet answers: the number returned, and the sheet's length
+abbrev pub printedBy : ℕ → ℕ → Sheet
+printedBy number n = record { number = number; length = n }

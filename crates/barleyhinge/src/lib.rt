@@ -11,7 +11,11 @@ ghost use Rattle.compaction.specs.Compaction as compacting;
 ghost use Rattle.folded.specs.Folded as folding;
 ghost use Rattle.edges.specs.Edges.{Verdict};
 ghost use Rattle.edges.specs.Answers.{verdictOf, HemAnswer};
+ghost use Rattle.merging.specs.Merging.{PutTogether};
+ghost use Rattle.wires.specs.Answers.{PortedAnswer, HouseAnswer};
+ghost use Rattle.panels.specs.Contract as paneling;
 ghost use Rattle.panelfile.specs.Answer.{PanelRead};
+ghost use Rattle.sheet.specs.Sheet.{Printed};
 ghost use Rattle.barleyhinge.specs.Calls as call;
 use edges::Judged;
 use edges::ShellCondition;
@@ -117,6 +121,37 @@ pub extern "C" fn bh_remove_degenerate_faces(
     left.number
 }
 
+// Merging: the new corners, and how many pairs were compared among positions, texture points and normals.
+#[no_mangle]
+pub extern "C" fn bh_put_together_same_attrs(
+    positions: &[f64],
+    textures: &[f64],
+    normals: &[f64],
+    corners: &[u32],
+    sizes: &[u32],
+    tolerance: f64,
+    newcorners: &mut [u32],
+    positionpairs: &mut usize,
+    texturepairs: &mut usize,
+    normalpairs: &mut usize,
+) -> u32
+    ensures { λ r. ⌜ PutTogether (meshOf (now (positions .entry)) (now (textures .entry)) (now (normals .entry)) (now (corners .entry)) (now (sizes .entry))) tolerance (now (newcorners .entry)) (call.mergedBy r (now (positionpairs .exit)) (now (texturepairs .exit)) (now (normalpairs .exit))) (now (newcorners .exit)) ⌝ }
+{
+    let merged = merging::put_together_same_attrs(
+        positions,
+        textures,
+        normals,
+        corners,
+        sizes,
+        tolerance,
+        newcorners,
+    );
+    *positionpairs = merged.positions;
+    *texturepairs = merged.textures;
+    *normalpairs = merged.normals;
+    merged.number
+}
+
 // The verdict, by number: 0 Irregular, 1 Regular, 2 Oriented, 3 Closed. It is written only with 0.
 #[no_mangle]
 pub extern "C" fn bh_shell_condition(
@@ -170,6 +205,87 @@ pub extern "C" fn bh_hem_edges(
     hems.number
 }
 
+// Ported wires: their positions one after the other, and how many each wire has.
+#[no_mangle]
+pub extern "C" fn bh_extract_boundaries(
+    positions: &[f64],
+    textures: &[f64],
+    normals: &[f64],
+    corners: &[u32],
+    sizes: &[u32],
+    flat: &mut [u32],
+    lengths: &mut [u32],
+    flatcount: &mut usize,
+    wirecount: &mut usize,
+) -> u32
+    ensures { λ r. ⌜ PortedAnswer (meshOf (now (positions .entry)) (now (textures .entry)) (now (normals .entry)) (now (corners .entry)) (now (sizes .entry))) (now (flat .entry)) (now (lengths .entry)) (now (flat .exit)) (now (lengths .exit)) r (now (flatcount .exit)) (now (wirecount .exit)) ⌝ }
+{
+    let wires = wires::extract_boundaries(
+        positions,
+        textures,
+        normals,
+        corners,
+        sizes,
+        flat,
+        lengths,
+    );
+    *flatcount = wires.flat;
+    *wirecount = wires.wires;
+    wires.number
+}
+
+// House wires, in the same form.
+#[no_mangle]
+pub extern "C" fn bh_house_wires(
+    positions: &[f64],
+    textures: &[f64],
+    normals: &[f64],
+    corners: &[u32],
+    sizes: &[u32],
+    flat: &mut [u32],
+    lengths: &mut [u32],
+    flatcount: &mut usize,
+    wirecount: &mut usize,
+) -> u32
+    ensures { λ r. ⌜ HouseAnswer (meshOf (now (positions .entry)) (now (textures .entry)) (now (normals .entry)) (now (corners .entry)) (now (sizes .entry))) (now (flat .entry)) (now (lengths .entry)) (now (flat .exit)) (now (lengths .exit)) r (now (flatcount .exit)) (now (wirecount .exit)) ⌝ }
+{
+    let wires = wires::house_wires(positions, textures, normals, corners, sizes, flat, lengths);
+    *flatcount = wires.flat;
+    *wirecount = wires.wires;
+    wires.number
+}
+
+// Panels: the faces of all panels one after the other, and how many each panel has.
+#[no_mangle]
+pub extern "C" fn bh_components(
+    positions: &[f64],
+    textures: &[f64],
+    normals: &[f64],
+    corners: &[u32],
+    sizes: &[u32],
+    use_normal: bool,
+    flat: &mut [u32],
+    lengths: &mut [u32],
+    flatcount: &mut usize,
+    panelcount: &mut usize,
+) -> u32
+    ensures { λ r. ⌜ paneling.Answered (meshOf (now (positions .entry)) (now (textures .entry)) (now (normals .entry)) (now (corners .entry)) (now (sizes .entry))) «use_normal» (now (flat .entry)) (now (lengths .entry)) r (now (flatcount .exit)) (now (panelcount .exit)) (now (flat .exit)) (now (lengths .exit)) ⌝ }
+{
+    let found = panels::components(
+        positions,
+        textures,
+        normals,
+        corners,
+        sizes,
+        use_normal,
+        flat,
+        lengths,
+    );
+    *flatcount = found.faces;
+    *panelcount = found.panels;
+    found.number
+}
+
 // The reader of a panel file.
 #[no_mangle]
 pub extern "C" fn bh_read_panel(
@@ -194,4 +310,14 @@ pub extern "C" fn bh_read_panel(
     *cornercount = panel.corners;
     *facecount = panel.faces;
     panel.number
+}
+
+// The sheet of a panel file: its bytes, and how many they are.
+#[no_mangle]
+pub extern "C" fn bh_sheet(file: &[u8], text: &mut [u8], length: &mut usize) -> u32
+    ensures { λ r. ⌜ Printed (now (file .entry)) (now (text .entry)) (now (text .exit)) (call.printedBy r (now (length .exit))) ⌝ }
+{
+    let printed = sheet::sheet(file, text);
+    *length = printed.length;
+    printed.number
 }

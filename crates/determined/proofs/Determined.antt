@@ -13,7 +13,7 @@ use Rattle.edges.specs.Answers.{answerOf, judged}
 use Rattle.edges.proofs.Answering.{answer-only}
 use Rattle.wires.specs.Answers.{Answered}
 use Rattle.wires.specs.declared.Wires.{Wires}
-use Rattle.determined.specs.Determined.{Call, Determined, _and_, done, equals, TwoLists, number, face, compactionCall, removalCall, mergingCall, verdictCall, hemCall, portedCall, houseCall, panelsCall, readCall, AllDetermined}
+use Rattle.determined.specs.Determined.{Call, Determined, _and_, done, equals, TwoLists, number, face, compactionCall, removalCall, mergingCall, verdictCall, hemCall, portedCall, houseCall, panelsCall, readCall, sheetCall, AllDetermined}
 
 -- ---- the general law
 
@@ -125,6 +125,13 @@ read-determined g r q a b =
       meshOf (p′ i) (t′ i) (u′ i) (c′ i) (s′ i),
     )
 
+sheet-determined : Determined sheetCall
+sheet-determined g r q a b =
+    let n : r .0 .number ≡ q .0 .number = cc in
+    let l : r .0 .length ≡ q .0 .length = cc in
+    let o : r .1 ≡ q .1 = cc in
+    λ i. (record { number = n i; length = l i }, o i)
+
 -- ---- every call
 
 pub all-determined : AllDetermined
@@ -140,4 +147,5 @@ all-determined =
     and house-determined
     and panels-determined
     and read-determined
+    and sheet-determined
     and done

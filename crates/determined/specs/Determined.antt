@@ -23,6 +23,8 @@ use Rattle.panels.specs.Contract.{Answered}
 use Rattle.panels.specs.declared.Answer.{Answer}
 use Rattle.panelfile.specs.Answer.{PanelRead}
 use Rattle.panelfile.specs.declared.Panel.{Panel}
+use Rattle.sheet.specs.Sheet.{Printed}
+use Rattle.sheet.specs.declared.Answer.{Answer as Sheet}
 
 -- a call: what it is given, what it answers and leaves, and which of these its contract allows
 pub record Call : Type 1 where
@@ -131,6 +133,14 @@ readCall = record {
       (g .1 .sizes) (r .1 .sizes);
 }
 
+-- `sheet::sheet`: the bytes of a file, and the lent list
+abbrev pub sheetCall : Call
+sheetCall = record {
+  Given = List ℕ × List ℕ;
+  Result = Sheet × List ℕ;
+  Allows = λ g r. Printed (g .0) (g .1) (r .1) (r .0);
+}
+
 abbrev pub calls : List Call
 calls =
     number
@@ -144,6 +154,7 @@ calls =
     ∷ houseCall
     ∷ panelsCall
     ∷ readCall
+    ∷ sheetCall
     ∷ []
 
 -- the statement: every call's results are determined

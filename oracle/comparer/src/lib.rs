@@ -25,6 +25,7 @@ mod wrong;
 mod wrong_merging;
 
 pub use library::{Library, Watch};
+pub use random::Random;
 pub use run::run;
 
 use std::ffi::CStr;

@@ -1,3 +1,4 @@
+-- `edges::close_edge` meets its contract. Assumes nothing.
 use Rattle.edges.specs.Runs.{closed}
 use native.Mathlib.Omega.{arith}
 use borrow.Author.Needs.{needs}

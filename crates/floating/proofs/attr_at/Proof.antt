@@ -1,3 +1,4 @@
+-- `floating::attr_at` meets its contract, by the laws of `Rows`. Assumes nothing.
 use mathlib.Core.Path.{subst}
 use Prim.Native.Nat.{ℕ, _+_, _*_, _≤_}
 use lib.ListN.{length}

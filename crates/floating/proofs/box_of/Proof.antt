@@ -1,3 +1,4 @@
+-- `floating::box_of` meets its contract, by the laws of `Boxes`. Assumes nothing.
 use mathlib.Core.Path.{sym, subst, _∙_, ap}
 use Prim.Native.Nat.{_+_, _-_, _/_}
 use native.Mathlib.Omega.{arith}

@@ -1,3 +1,4 @@
+-- `floating::centre_of` meets its contract, by the laws of `Literals`. Assumes nothing.
 use Rattle.floating.specs.Scaling.{centreOf}
 use Rattle.floating.proofs.Literals.{two-is}
 use Rattle.floating.proofs.centre_of.Statement.{statement}

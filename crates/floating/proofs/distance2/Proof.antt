@@ -1,3 +1,4 @@
+-- `floating::distance2` meets its contract, by the laws of `Rows`. Assumes nothing.
 use Rattle.floating.proofs.Rows.{three, squared-two, squared-three}
 use Rattle.floating.proofs.distance2.Statement.{statement}
 use Rattle.floating.proofs.distance2.Tie as tie

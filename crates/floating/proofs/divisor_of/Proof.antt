@@ -1,3 +1,4 @@
+-- `floating::divisor_of` meets its contract, by the laws of `Literals`. Assumes nothing.
 use borrow.Author.Needs.{needs}
 use Rattle.floating.specs.Scaling.{divisorOf}
 use Rattle.floating.proofs.Literals.{one-is}

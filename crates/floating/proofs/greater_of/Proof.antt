@@ -1,3 +1,4 @@
+-- `floating::greater_of` meets its contract. Assumes nothing.
 use Rattle.floating.specs.Scaling.{greater}
 use Rattle.floating.proofs.greater_of.Statement.{statement}
 use Rattle.floating.proofs.greater_of.Tie as tie

@@ -1,3 +1,4 @@
+-- `floating::is_boundless` meets its contract, by the laws of `Ranges`. Assumes nothing.
 use Rattle.floating.proofs.Ranges.{bounded-tests, both-hold, first-fails, second-fails}
 use Rattle.floating.proofs.is_boundless.Statement.{statement}
 use Rattle.floating.proofs.is_boundless.Tie as tie

@@ -1,3 +1,4 @@
+-- `floating::is_distant` meets its contract, by the laws of `Ranges`. Assumes nothing.
 use Rattle.floating.specs.Limits.{quotient}
 use Rattle.floating.proofs.Ranges.{short-tests, both-hold, first-fails, second-fails}
 use Rattle.floating.proofs.is_distant.Statement.{statement}

@@ -1,3 +1,4 @@
+-- `floating::is_unfit` meets its contract, by the laws of `Ranges`. Assumes nothing.
 use Rattle.floating.proofs.Ranges.{fit-tests, both-hold, first-fails, second-fails}
 use Rattle.floating.proofs.is_unfit.Statement.{statement}
 use Rattle.floating.proofs.is_unfit.Tie as tie

@@ -1,3 +1,4 @@
+-- `floating::lesser_of` meets its contract. Assumes nothing.
 use Rattle.floating.specs.Scaling.{lesser}
 use Rattle.floating.proofs.lesser_of.Statement.{statement}
 use Rattle.floating.proofs.lesser_of.Tie as tie

@@ -1,3 +1,4 @@
+-- `floating::of_bits` meets its contract, by the laws of `Nans`. Assumes nothing.
 use mathlib.Core.Path.{sym, _∙_}
 use borrow.Author.Needs.{needs}
 use Rattle.floating.proofs.Nans.{plain, special, nan-made}

@@ -1,3 +1,4 @@
+-- `floating::point_at` meets its contract. Assumes nothing.
 use borrow.Author.Needs.{needs}
 use Rattle.floating.specs.Points.{pointAt}
 use Rattle.floating.proofs.point_at.Statement.{statement}

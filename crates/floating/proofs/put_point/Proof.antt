@@ -1,3 +1,4 @@
+-- `floating::put_point` meets its contract, by the laws of `Boxes`. Assumes nothing.
 use Prim.Native.Nat.{_*_}
 use native.Mathlib.Omega.{arith}
 use lib.ListN.{length-set}

@@ -1,3 +1,4 @@
+-- `floating::scale` meets its contract, by the laws of `Boxes`. Assumes nothing.
 use mathlib.Core.Path.{_≡_, sym, subst, _∙_, ap}
 use mathlib.Core.List.{List}
 use Prim.Native.Nat.{_-_, _/_, _+_}

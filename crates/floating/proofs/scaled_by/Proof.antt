@@ -1,3 +1,4 @@
+-- `floating::scaled_by` meets its contract, by the laws of `Literals`. Assumes nothing.
 use Rattle.floating.specs.Scaling.{scaledOf}
 use Rattle.floating.proofs.Literals.{two-is}
 use Rattle.floating.proofs.scaled_by.Statement.{statement}

@@ -1,3 +1,4 @@
+-- `floating::texel_at` meets its contract. Assumes nothing.
 use borrow.Author.Needs.{needs}
 use Rattle.floating.specs.Points.{texelAt}
 use Rattle.floating.proofs.texel_at.Statement.{statement}

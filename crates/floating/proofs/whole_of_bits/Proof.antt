@@ -1,3 +1,4 @@
+-- `floating::whole_of_bits` meets its contract, by the laws of `Cut`. Assumes nothing.
 use borrow.Author.Needs.{needs}
 use Rattle.floating.proofs.Cut.{bits-small, bits-middle, bits-large}
 use Rattle.floating.proofs.whole_of_bits.Statement.{statement}

@@ -1,3 +1,4 @@
+-- `floating::with_point` meets its contract. Assumes nothing.
 use borrow.Author.Needs.{needs}
 use Rattle.floating.proofs.with_point.Statement.{statement}
 use Rattle.floating.proofs.with_point.Tie as tie

@@ -1,3 +1,4 @@
+-- `merging::any_distant` meets its contract. Assumes nothing.
 use mathlib.Core.Path.{sym, _∙_}
 use borrow.Author.Needs.{needs}
 use Rattle.merging.proofs.any_distant.Statement.{statement}

@@ -1,3 +1,4 @@
+-- `merging::centralize` meets its contract, by the laws of `Sending`. Assumes nothing.
 use Prim.Native.Nat.{_-_}
 use native.Mathlib.Omega.{arith}
 use denote.Ref.{now}

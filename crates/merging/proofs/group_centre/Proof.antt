@@ -1,3 +1,4 @@
+-- `merging::group_centre` meets its contract, by the laws of `Centres`. Assumes nothing.
 use Prim.Native.Nat.{_-_}
 use native.Mathlib.Omega.{arith}
 use denote.Ref.{now}

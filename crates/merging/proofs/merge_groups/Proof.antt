@@ -1,3 +1,4 @@
+-- `merging::merge_groups` meets its contract, by the laws of `Settling`. Assumes nothing.
 use mathlib.Core.Path.{_∙_, sym}
 use Prim.Native.Nat.{_-_}
 use native.Mathlib.Omega.{arith}

@@ -1,3 +1,4 @@
+-- `merging::number` meets its contract, by the laws of `Numbers`. Assumes nothing.
 use mathlib.Core.Path.{sym, _∙_}
 use denote.Ref.{now}
 use borrow.Author.Needs.{needs}

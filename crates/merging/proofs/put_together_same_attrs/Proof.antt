@@ -1,3 +1,4 @@
+-- `merging::put_together_same_attrs` meets its contract, by the laws of `Whole`. Assumes nothing.
 use mathlib.Core.Path.{sym, _∙_}
 use denote.Ref.{now}
 use borrow.Author.Needs.{needs}

@@ -1,3 +1,4 @@
+-- `merging::representative` meets its contract, by the laws of `Centres`. Assumes nothing.
 use mathlib.Core.Logic.{⊎-elim}
 use Prim.Native.Nat.{_-_}
 use native.Mathlib.Omega.{arith}

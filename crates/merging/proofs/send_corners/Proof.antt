@@ -1,3 +1,4 @@
+-- `merging::send_corners` meets its contract, by the laws of `Corners`. Assumes nothing.
 use mathlib.Core.Path.{refl}
 use Prim.Native.Nat.{_-_, _/_}
 use native.Mathlib.Omega.{arith}

@@ -1,3 +1,4 @@
+-- `merging::sent` meets its contract, by the laws of `Corners`. Assumes nothing.
 use denote.Ref.{now}
 use borrow.Author.Needs.{needs}
 use Rattle.merging.proofs.Corners.{sent-missing, sent-other}

@@ -1,3 +1,4 @@
+-- `nearby::count_pairs` meets its contract, by the laws of `Counting`. Assumes nothing.
 use Prim.Native.Nat.{_-_}
 use native.Mathlib.Omega.{arith}
 use borrow.Author.Needs.{needs}

@@ -1,3 +1,4 @@
+-- `nearby::count_with` meets its contract, by the laws of `Counting`. Assumes nothing.
 use mathlib.Core.Path.{sym, _∙_, subst}
 use mathlib.Core.Logic.{⊎-elim}
 use Prim.Native.Nat.{ℕ, _-_, _+_}

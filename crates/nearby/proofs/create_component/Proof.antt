@@ -1,3 +1,4 @@
+-- `nearby::create_component` meets its contract, by the laws of `Flags`, `Frames` and `Walking`. Assumes nothing.
 use mathlib.Core.Bool.{true}
 use mathlib.Core.Path.{sym, ap, _∙_, subst}
 use mathlib.Core.List.{List, _++_}

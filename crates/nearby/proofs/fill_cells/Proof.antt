@@ -1,3 +1,4 @@
+-- `nearby::fill_cells` meets its contract, by the laws of `Agree`. Assumes nothing.
 use Prim.Native.Nat.{_-_}
 use native.Mathlib.Omega.{arith}
 use lib.ListN.{length}

@@ -1,3 +1,4 @@
+-- `nearby::is_beside` meets its contract, by the laws of `Beside`. Assumes nothing.
 use native.Mathlib.Omega.{arith}
 use lib.ListN.{getD}
 use denote.Ref.{now}

@@ -1,3 +1,4 @@
+-- `nearby::is_beside_at` meets its contract, by the laws of `Beside`. Assumes nothing.
 use mathlib.Core.Path.{sym, _∙_}
 use native.Mathlib.Omega.{arith}
 use borrow.Author.Tests.{not-true, not-false}

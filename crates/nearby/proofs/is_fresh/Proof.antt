@@ -1,3 +1,4 @@
+-- `nearby::is_fresh` meets its contract, by the laws of `Fresh`. Assumes nothing.
 use mathlib.Core.Path.{sym, _∙_}
 use denote.Ref.{now}
 use borrow.Author.Tests.{not-true, not-false}

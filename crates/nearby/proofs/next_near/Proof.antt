@@ -1,3 +1,4 @@
+-- `nearby::next_near` meets its contract, by the laws of `Fresh`. Assumes nothing.
 use mathlib.Core.Path.{sym, _∙_}
 use native.Mathlib.Omega.{arith}
 use borrow.Author.Needs.{needs}

@@ -11,8 +11,11 @@ pub type FxHashSet<K> = HashSet<K, BuildHasherDefault<FxHasher>>;
 pub struct FxHasher(u64);
 
 impl Hasher for FxHasher {
+    /// A word at a time, as the crate itself does: the benchmark would charge the Rust for more.
     fn write(&mut self, bytes: &[u8]) {
-        bytes.iter().for_each(|byte| self.write_u64(*byte as u64))
+        let words = bytes.chunks_exact(8);
+        words.remainder().iter().for_each(|byte| self.write_u64(*byte as u64));
+        words.for_each(|word| self.write_u64(u64::from_le_bytes(word.try_into().unwrap())))
     }
     fn write_u64(&mut self, word: u64) {
         self.0 = (self.0.rotate_left(5) ^ word).wrapping_mul(0x517c_c1b7_2722_0a95)

@@ -1,0 +1,97 @@
+/* The library tried from C: reads a panel file from standard input, cleans it and prints its sheet, as document 01 has it; then a line
+   from each call that the sheet does not need. A refusal prints 'refused' and its number. Last comes the sheet again, from the one call that makes all of it. rust/barleyhinge/examples/cover.rs is the same
+   from Rust; tools/try_library builds and runs both. */
+#include "barleyhinge.h"
+#include <stdio.h>
+
+/* A mesh at the full limits. */
+struct mesh {
+    double positions[3 * BH_MAX_ENTRIES], textures[2 * BH_MAX_ENTRIES], normals[3 * BH_MAX_ENTRIES];
+    uint32_t corners[3 * BH_MAX_CORNERS], sizes[BH_MAX_FACES];
+    size_t positioncount, texturecount, normalcount, cornercount, facecount;
+};
+
+/* The five lists of a mesh, as every call on a mesh takes them. */
+#define LISTS(m) \
+    (m)->positions, 3 * (m)->positioncount, (m)->textures, 2 * (m)->texturecount, (m)->normals, 3 * (m)->normalcount, \
+    (m)->corners, 3 * (m)->cornercount, (m)->sizes, (m)->facecount
+/* A lent list: where it is, and its whole length. */
+#define ROOM(list) list, sizeof list / sizeof *list
+
+static struct mesh drawn, left, clean;
+static uint32_t flat[2 * BH_MAX_CORNERS], lengths[BH_MAX_CORNERS];
+static const char *const verdicts[] = {"Irregular", "Regular", "Oriented", "Closed"};
+
+/* Reads, removes folded faces, compacts; the number of the first refusal, or 0. */
+static uint32_t draw(const uint8_t *file, size_t file_len) {
+    uint32_t number = bh_read_panel(
+        file, file_len, ROOM(drawn.positions), ROOM(drawn.textures), ROOM(drawn.normals), ROOM(drawn.corners), ROOM(drawn.sizes),
+        &drawn.positioncount, &drawn.texturecount, &drawn.normalcount, &drawn.cornercount, &drawn.facecount);
+    if (number != BH_DONE) {
+        return number;
+    }
+    left = drawn;
+    number = bh_remove_degenerate_faces(LISTS(&drawn), ROOM(left.corners), ROOM(left.sizes), &left.cornercount, &left.facecount);
+    if (number != BH_DONE) {
+        return number;
+    }
+    clean = left;
+    return bh_remove_unused_attrs(
+        LISTS(&left), ROOM(clean.corners), ROOM(clean.positions), ROOM(clean.textures), ROOM(clean.normals),
+        &clean.positioncount, &clean.texturecount, &clean.normalcount);
+}
+
+static void print_rows(const char *name, size_t rows) {
+    const uint32_t *at = flat;
+    for (size_t i = 0; i < rows; i++) {
+        printf("%s", name);
+        for (uint32_t k = 0; k < lengths[i]; k++) {
+            printf(" %u", *at++);
+        }
+        printf("\n");
+    }
+}
+
+static void print_sheet(void) {
+    uint32_t verdict = 0;
+    size_t numbers, rows;
+    bh_shell_condition(LISTS(&clean), &verdict);
+    bh_components(LISTS(&clean), false, ROOM(flat), ROOM(lengths), &numbers, &rows);
+    printf("mesh %zu %zu %zu %zu\n", clean.positioncount, clean.texturecount, clean.normalcount, clean.facecount);
+    printf("verdict %s\npanels %zu\n", verdicts[verdict], rows);
+    uint32_t number = bh_house_wires(LISTS(&clean), ROOM(flat), ROOM(lengths), &numbers, &rows);
+    if (number != BH_DONE) {
+        printf("hems refused %u\n", number);
+    }
+    print_rows("hem", rows);
+}
+
+static void print_more(void) {
+    size_t start, len, numbers, rows, pairs[3];
+    printf("number %u\n", bh_mesh_number(LISTS(&clean)));
+    bh_face(LISTS(&clean), clean.facecount - 1, &start, &len);
+    printf("last face %zu %zu\n", start, len);
+    bh_hem_edges(LISTS(&clean), ROOM(flat), ROOM(lengths), &rows);
+    printf("hem edges %zu\n", rows);
+    bh_extract_boundaries(LISTS(&clean), ROOM(flat), ROOM(lengths), &numbers, &rows);
+    print_rows("ported", rows);
+    uint32_t number = bh_put_together_same_attrs(LISTS(&clean), 0.125, ROOM(left.corners), &pairs[0], &pairs[1], &pairs[2]);
+    printf("merging %u pairs %zu %zu %zu\n", number, pairs[0], pairs[1], pairs[2]);
+    number = bh_put_together_same_attrs(LISTS(&clean), 2.0, ROOM(left.corners), &pairs[0], &pairs[1], &pairs[2]);
+    printf("merging %u pairs %zu %zu %zu\n", number, pairs[0], pairs[1], pairs[2]);
+}
+
+int main(void) {
+    static uint8_t file[65536], text[BH_SHEET_ROOM];
+    size_t length = fread(file, 1, sizeof file, stdin), bytes;
+    uint32_t number = draw(file, length);
+    if (number == BH_DONE) {
+        print_sheet();
+        print_more();
+    } else {
+        printf("refused %u\n", number);
+    }
+    bh_sheet(file, length, ROOM(text), &bytes);
+    fwrite(text, 1, bytes, stdout);
+    return 0;
+}

@@ -1,0 +1,246 @@
+/* Barleyhinge for C: the calls of the verified mesh library (crates/barleyhinge), linked from libbarleyhinge.a.
+
+   'rt staticlib barleyhinge' makes the archive, target/staticlib/libbarleyhinge.a, for x86-64 Linux. tools/check_declarations holds
+   the declarations below to the source of the library, name by name, order by order, type by type.
+
+   A MESH is five lists that the caller keeps and the calls only read:
+     positions  3 numbers to a position       at most BH_MAX_ENTRIES positions
+     textures   2 numbers to a texture point  at most BH_MAX_ENTRIES
+     normals    3 numbers to a normal         at most BH_MAX_ENTRIES
+     corners    3 numbers to a corner: the index of its position, of its texture point and of its normal; at most BH_MAX_CORNERS.
+                BH_MISSING is no index: a texture point or a normal may be missing, a position never
+     sizes      how many corners each face has, 3 to BH_MAX_FACE_CORNERS: triangles first, then quadrangles, then larger faces.
+                The corners of the faces stand one after the other in 'corners'; so faces are numbered, from 0
+
+   WHAT A CALL NEEDS. Each list comes as a pointer and a length ('_len'), which counts numbers, not points or corners. A pointer is
+   never null and is aligned for its type, also where the length is 0. What a call may write (lists and counts without 'const')
+   overlaps nothing else that it is given. That is all: whatever the numbers in the lists are, the call is safe and ends.
+
+   WHAT A CALL ANSWERS. A number of 'enum bh_number': 0 and the whole result, or the first number of the table that applies and
+   nothing: then no lent list is touched, and each count is 0. On 0 the result stands at the front of each lent list, and the room
+   behind it is as it was. Calls check in ascending order of number. Any call on a mesh may answer 1 to 5; what else it may answer
+   stands with it.
+
+   What is promised is proved for every input: each call's contract stands in crates/barleyhinge/src/lib.rt. */
+#ifndef BARLEYHINGE_H
+#define BARLEYHINGE_H
+
+#include <stdbool.h>
+#include <stddef.h>
+#include <stdint.h>
+
+#ifdef __cplusplus
+extern "C" {
+#endif
+
+/* No index. */
+#define BH_MISSING UINT32_C(4294967295)
+
+/* The limits. */
+enum bh_limit {
+    BH_MAX_ENTRIES = 2048,
+    BH_MAX_CORNERS = 4096,
+    BH_MAX_FACES = 1365,
+    BH_MAX_FACE_CORNERS = 32,
+    BH_SHEET_ROOM = 65536 /* bytes: room for every sheet */
+};
+
+/* The numbers that calls return. */
+enum bh_number {
+    BH_DONE = 0,
+    BH_OVER_LIMIT = 1,      /* a list is over its limit */
+    BH_MISFIT = 2,          /* a length is no multiple of its width, or the sizes don't add up to the corners */
+    BH_FACE_SIZE = 3,       /* a face size lies outside 3 to 32 */
+    BH_UNGROUPED = 4,       /* the sizes aren't grouped: triangles, quadrangles, larger faces */
+    BH_INDEX = 5,           /* a position index, or another index that isn't missing, is not below its list's count */
+    BH_TOLERANCE = 6,       /* the tolerance is not a number from 2^-30 to 1 inclusive */
+    BH_COORDINATE = 7,      /* a coordinate is not finite, or its magnitude is above 2^60 */
+    BH_QUOTIENT = 8,        /* a texture or normal coordinate divided by the tolerance has magnitude 2^53 or more */
+    BH_ROOM = 9,            /* a lent list is shorter than its stated room */
+    BH_NO_HOUSE_WIRES = 10, /* house wires where the verdict is neither Oriented nor Closed */
+    BH_FILE_CUT = 11,       /* the file stops inside a record, or before its end record */
+    BH_RECORD = 12,         /* a record's kind is unknown, or its length is wrong for its kind */
+    BH_AFTER_END = 13       /* bytes follow the end record */
+};
+
+/* The verdicts, from the weakest to the strongest. */
+enum bh_verdict {
+    BH_IRREGULAR = 0, /* some edge is used three times or more */
+    BH_REGULAR = 1,   /* else: some edge is used twice in the same direction */
+    BH_ORIENTED = 2,  /* else: some edge is used exactly once */
+    BH_CLOSED = 3     /* else */
+};
+
+/* Is this a mesh? Answers 0 where it is, else the first of 1 to 5 that applies. Lends nothing. */
+uint32_t bh_mesh_number(
+    const double *positions, size_t positions_len,
+    const double *textures, size_t textures_len,
+    const double *normals, size_t normals_len,
+    const uint32_t *corners, size_t corners_len,
+    const uint32_t *sizes, size_t sizes_len);
+
+/* The corners of face k, as a part of 'corners': '*start' is the place of their first number, '*len' how many numbers they are.
+   Both are 0 where k is no face or the lists earn 1 to 4. This call alone has no number; an index out of range (5) does not matter to it. */
+void bh_face(
+    const double *positions, size_t positions_len,
+    const double *textures, size_t textures_len,
+    const double *normals, size_t normals_len,
+    const uint32_t *corners, size_t corners_len,
+    const uint32_t *sizes, size_t sizes_len,
+    size_t k,
+    size_t *start,
+    size_t *len);
+
+/* Compaction: entries that no corner uses go; the others are renumbered by first use, from 0, each of the three lists by itself.
+   Lends four lists, each with the room of the list that it is made from. The sizes don't change and are not given back.
+   On 0: corners_len numbers in 'newcorners', and in the other three 3, 2 and 3 numbers for each position, texture point and normal
+   that '*positioncount', '*texturecount' and '*normalcount' count. A missing index stays missing. Each number, the infinities and both
+   zeros are kept bit for bit; a NaN stays a NaN.
+   May also answer 9. */
+uint32_t bh_remove_unused_attrs(
+    const double *positions, size_t positions_len,
+    const double *textures, size_t textures_len,
+    const double *normals, size_t normals_len,
+    const uint32_t *corners, size_t corners_len,
+    const uint32_t *sizes, size_t sizes_len,
+    uint32_t *newcorners, size_t newcorners_len,
+    double *newpositions, size_t newpositions_len,
+    double *newtextures, size_t newtextures_len,
+    double *newnormals, size_t newnormals_len,
+    size_t *positioncount,
+    size_t *texturecount,
+    size_t *normalcount);
+
+/* Folded faces (two corners with one position) go or are cut open; no face of the result is folded.
+   Lends 'newcorners', with room for corners_len numbers, and 'newsizes', with room for a third of the count of corners, rounded
+   down (corners_len / 9). The attribute lists don't change.
+   On 0: 3 numbers in 'newcorners' for each of '*cornercount' corners, and '*facecount' sizes.
+   May also answer 9. */
+uint32_t bh_remove_degenerate_faces(
+    const double *positions, size_t positions_len,
+    const double *textures, size_t textures_len,
+    const double *normals, size_t normals_len,
+    const uint32_t *corners, size_t corners_len,
+    const uint32_t *sizes, size_t sizes_len,
+    uint32_t *newcorners, size_t newcorners_len,
+    uint32_t *newsizes, size_t newsizes_len,
+    size_t *cornercount,
+    size_t *facecount);
+
+/* Merging: near positions, texture points and normals each get the index of one of them. Positions are first scaled to their box.
+   'tolerance' is from 2^-30 to 1. Lends 'newcorners', with room for corners_len numbers; the other lists don't change.
+   On 0: corners_len numbers in 'newcorners', and how many pairs were compared among positions, texture points and normals.
+   May also answer 6, 7, 8 and 9. */
+uint32_t bh_put_together_same_attrs(
+    const double *positions, size_t positions_len,
+    const double *textures, size_t textures_len,
+    const double *normals, size_t normals_len,
+    const uint32_t *corners, size_t corners_len,
+    const uint32_t *sizes, size_t sizes_len,
+    double tolerance,
+    uint32_t *newcorners, size_t newcorners_len,
+    size_t *positionpairs,
+    size_t *texturepairs,
+    size_t *normalpairs);
+
+/* The verdict, a number of 'enum bh_verdict', by counting every use of every edge. It is written only with 0. */
+uint32_t bh_shell_condition(
+    const double *positions, size_t positions_len,
+    const double *textures, size_t textures_len,
+    const double *normals, size_t normals_len,
+    const uint32_t *corners, size_t corners_len,
+    const uint32_t *sizes, size_t sizes_len,
+    uint32_t *verdict);
+
+/* The hem edges: those used an odd number of times, ascending by their lower and then their higher position, each in the direction
+   of its last use. Lends 'starts' and 'ends', each with room for one number per corner (corners_len / 3).
+   On 0: '*count' edges, from starts[i] to ends[i].
+   May also answer 9. */
+uint32_t bh_hem_edges(
+    const double *positions, size_t positions_len,
+    const double *textures, size_t textures_len,
+    const double *normals, size_t normals_len,
+    const uint32_t *corners, size_t corners_len,
+    const uint32_t *sizes, size_t sizes_len,
+    uint32_t *starts, size_t starts_len,
+    uint32_t *ends, size_t ends_len,
+    size_t *count);
+
+/* The ported wires along the hem edges, as truck traces them, with its maps in ascending order.
+   Lends 'flat', with room for two numbers per corner (2 * (corners_len / 3)), and 'lengths', with room for one.
+   On 0: '*flatcount' positions in 'flat', the wires one after the other, and in 'lengths' how many each of '*wirecount' wires has.
+   May also answer 9. */
+uint32_t bh_extract_boundaries(
+    const double *positions, size_t positions_len,
+    const double *textures, size_t textures_len,
+    const double *normals, size_t normals_len,
+    const uint32_t *corners, size_t corners_len,
+    const uint32_t *sizes, size_t sizes_len,
+    uint32_t *flat, size_t flat_len,
+    uint32_t *lengths, size_t lengths_len,
+    size_t *flatcount,
+    size_t *wirecount);
+
+/* The house wires: every hem edge is used exactly once. Lends 'flat' and 'lengths', each with room for one number per corner.
+   On 0: as for the ported wires.
+   May also answer 9, and 10 where the verdict is neither Oriented nor Closed. */
+uint32_t bh_house_wires(
+    const double *positions, size_t positions_len,
+    const double *textures, size_t textures_len,
+    const double *normals, size_t normals_len,
+    const uint32_t *corners, size_t corners_len,
+    const uint32_t *sizes, size_t sizes_len,
+    uint32_t *flat, size_t flat_len,
+    uint32_t *lengths, size_t lengths_len,
+    size_t *flatcount,
+    size_t *wirecount);
+
+/* The panels: faces that hang together by shared edges, and with 'use_normal' only where both normals there are the same too.
+   Lends 'flat' and 'lengths', each with room for one number per corner.
+   On 0: '*flatcount' face numbers in 'flat', the panels one after the other, and in 'lengths' how many faces each of '*panelcount'
+   panels has. Each face stands in exactly one panel, once.
+   May also answer 9. */
+uint32_t bh_components(
+    const double *positions, size_t positions_len,
+    const double *textures, size_t textures_len,
+    const double *normals, size_t normals_len,
+    const uint32_t *corners, size_t corners_len,
+    const uint32_t *sizes, size_t sizes_len,
+    bool use_normal,
+    uint32_t *flat, size_t flat_len,
+    uint32_t *lengths, size_t lengths_len,
+    size_t *flatcount,
+    size_t *panelcount);
+
+/* Reads a panel file into five lists. Lends them at the full limits: 3 * BH_MAX_ENTRIES numbers for positions, 2 * BH_MAX_ENTRIES for
+   texture points, 3 * BH_MAX_ENTRIES for normals, 3 * BH_MAX_CORNERS for corners, BH_MAX_FACES for sizes.
+   On 0: the lists are a mesh, with so many positions, texture points, normals, corners and faces as the five counts say.
+   Answers, in this order: 9; record by record 11 header cut, 12 kind, 12 length, 11 body cut, 12 a face's own count is not that of its
+   length, 3 a face of more than 32 corners, 1 limit; then 13; then 5. */
+uint32_t bh_read_panel(
+    const uint8_t *file, size_t file_len,
+    double *positions, size_t positions_len,
+    double *textures, size_t textures_len,
+    double *normals, size_t normals_len,
+    uint32_t *corners, size_t corners_len,
+    uint32_t *sizes, size_t sizes_len,
+    size_t *positioncount,
+    size_t *texturecount,
+    size_t *normalcount,
+    size_t *cornercount,
+    size_t *facecount);
+
+/* The sheet of a panel file, as the program meshsheet prints it. Lends 'text', with room for BH_SHEET_ROOM bytes, which are enough for
+   every sheet.
+   On 0: '*length' bytes in 'text'. A refused file has a sheet too: the line 'refused' and its number, which comes with 0.
+   May also answer 9, and nothing else. */
+uint32_t bh_sheet(
+    const uint8_t *file, size_t file_len,
+    uint8_t *text, size_t text_len,
+    size_t *length);
+
+#ifdef __cplusplus
+}
+#endif
+
+#endif

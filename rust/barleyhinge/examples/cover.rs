@@ -1,0 +1,68 @@
+//! The library tried from Rust: reads a panel file from standard input, cleans it and prints its sheet, as document 01 has it; then a
+//! line from each call that the sheet does not need. A refusal prints 'refused' and its number. Last comes the sheet again,
+//! from the one call that makes all of it. examples/cover.c is the same from C;
+//! tools/try_library builds and runs both.
+//!
+//! It has C's `main`, since the start-up code of a Rust `main` does not get through the emulator that runs x86-64 programs on Arm.
+#![no_main]
+
+use barleyhinge::{read_panel, sheet, Mesh, OwnedMesh, Refusal, Rows};
+use std::io::Read;
+
+/// Reads, removes folded faces, compacts.
+fn draw(file: &[u8]) -> Result<OwnedMesh, Refusal> {
+    let drawn = read_panel(file)?;
+    let left = drawn.mesh().remove_degenerate_faces()?;
+    Mesh { corners: &left.corners, sizes: &left.sizes, ..drawn.mesh() }.remove_unused_attrs()
+}
+
+fn print_rows(name: &str, rows: &Rows) {
+    for row in rows.rows() {
+        let numbers: Vec<String> = row.iter().map(|number| number.to_string()).collect();
+        println!("{name} {}", numbers.join(" "));
+    }
+}
+
+fn print_sheet(mesh: Mesh) -> Result<(), Refusal> {
+    let counts = [mesh.positions.len() / 3, mesh.textures.len() / 2, mesh.normals.len() / 3, mesh.sizes.len()];
+    println!("mesh {} {} {} {}", counts[0], counts[1], counts[2], counts[3]);
+    println!("verdict {:?}", mesh.shell_condition()?);
+    println!("panels {}", mesh.components(false)?.lengths.len());
+    match mesh.house_wires() {
+        Ok(wires) => print_rows("hem", &wires),
+        Err(refusal) => println!("hems refused {}", refusal.number()),
+    }
+    Ok(())
+}
+
+fn print_more(mesh: Mesh) -> Result<(), Refusal> {
+    println!("number {}", mesh.check().map_or_else(Refusal::number, |()| 0));
+    let part = mesh.face(mesh.sizes.len().wrapping_sub(1));
+    let start = if part.is_empty() { 0 } else { mesh.corners.len() - part.len() };
+    println!("last face {start} {}", part.len());
+    println!("hem edges {}", mesh.hem_edges()?.len());
+    print_rows("ported", &mesh.extract_boundaries()?);
+    for tolerance in [0.125, 2.0] {
+        let (number, merged) = match mesh.put_together_same_attrs(tolerance) {
+            Ok(merged) => (0, merged),
+            Err(refusal) => (refusal.number(), Default::default()),
+        };
+        println!("merging {number} pairs {} {} {}", merged.position_pairs, merged.texture_pairs, merged.normal_pairs);
+    }
+    Ok(())
+}
+
+#[no_mangle]
+pub extern "C" fn main() -> i32 {
+    let mut file = vec![];
+    std::io::stdin().take(65_536).read_to_end(&mut file).unwrap();
+    let done = draw(&file).and_then(|clean| {
+        print_sheet(clean.mesh())?;
+        print_more(clean.mesh())
+    });
+    if let Err(refusal) = done {
+        println!("refused {}", refusal.number());
+    }
+    print!("{}", sheet(&file));
+    0
+}

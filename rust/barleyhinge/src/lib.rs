@@ -1,0 +1,306 @@
+//! The verified mesh library of Barleyhinge, for Rust.
+//!
+//! Each method passes on to the library's function of the same name (`include/barleyhinge.h` says what it promises), lends it the room
+//! that is stated for it, and gives back what was written, as lists of its own. A number other than 0 comes back as a [`Refusal`].
+//!
+//! ```no_run
+//! use barleyhinge::{read_panel, Refusal, Verdict};
+//!
+//! fn hems(file: &[u8]) -> Result<usize, Refusal> {
+//!     let read = read_panel(file)?;
+//!     let mesh = read.mesh();
+//!     match mesh.shell_condition()? {
+//!         Verdict::Oriented | Verdict::Closed => Ok(mesh.house_wires()?.rows().count()),
+//!         _ => Ok(mesh.hem_edges()?.len()),
+//!     }
+//! }
+//! ```
+
+mod library;
+mod numbers;
+
+pub use numbers::{Refusal, Verdict};
+
+/// The index that means 'missing'.
+pub const MISSING: u32 = 4_294_967_295;
+
+/// The limits: positions, texture points or normals; corners; faces.
+pub const MAX_ENTRIES: usize = 2_048;
+pub const MAX_CORNERS: usize = 4_096;
+pub const MAX_FACES: usize = 1_365;
+
+/// Room for every sheet, in bytes.
+pub const SHEET_ROOM: usize = 65_536;
+
+/// A mesh in five lists that are only read: 3 numbers to a position, 2 to a texture point, 3 to a normal; 3 indices to a corner
+/// (position, texture point, normal); and how many corners each face has: triangles first, then quadrangles, then larger faces.
+#[derive(Clone, Copy, Debug, Default)]
+pub struct Mesh<'a> {
+    pub positions: &'a [f64],
+    pub textures: &'a [f64],
+    pub normals: &'a [f64],
+    pub corners: &'a [u32],
+    pub sizes: &'a [u32],
+}
+
+/// A mesh that has its own lists.
+#[derive(Clone, Debug, Default, PartialEq)]
+pub struct OwnedMesh {
+    pub positions: Vec<f64>,
+    pub textures: Vec<f64>,
+    pub normals: Vec<f64>,
+    pub corners: Vec<u32>,
+    pub sizes: Vec<u32>,
+}
+
+impl OwnedMesh {
+    /// Its lists, to be read.
+    pub fn mesh(&self) -> Mesh<'_> {
+        Mesh {
+            positions: &self.positions,
+            textures: &self.textures,
+            normals: &self.normals,
+            corners: &self.corners,
+            sizes: &self.sizes,
+        }
+    }
+}
+
+/// The faces that removal leaves: their corners and their sizes. The attribute lists of the mesh don't change.
+#[derive(Clone, Debug, Default, PartialEq, Eq)]
+pub struct Faces {
+    pub corners: Vec<u32>,
+    pub sizes: Vec<u32>,
+}
+
+/// What merging gives: the corners, and how many pairs were compared in each list. The other lists don't change.
+#[derive(Clone, Debug, Default, PartialEq, Eq)]
+pub struct Merged {
+    pub corners: Vec<u32>,
+    pub position_pairs: usize,
+    pub texture_pairs: usize,
+    pub normal_pairs: usize,
+}
+
+/// Wires or panels: all rows one after the other, and the length of each.
+#[derive(Clone, Debug, Default, PartialEq, Eq)]
+pub struct Rows {
+    pub flat: Vec<u32>,
+    pub lengths: Vec<u32>,
+}
+
+impl Rows {
+    /// The rows, one by one.
+    pub fn rows(&self) -> impl Iterator<Item = &[u32]> {
+        let mut left = &self.flat[..];
+        self.lengths.iter().map(move |length| {
+            let (row, behind) = left.split_at(*length as usize);
+            left = behind;
+            row
+        })
+    }
+}
+
+// Safety, here and below: each list is a live slice that passes as its pointer, which is never null, and its length; what may be
+// written is lent as `&mut` and so overlaps nothing. The library asks nothing else (no function of it has a `requires`).
+
+/// A call on the five lists of a mesh, with what follows them.
+macro_rules! on {
+    ($mesh: expr, $name: ident $(, $more: expr)*) => {
+        unsafe {
+            library::$name(
+                $mesh.positions.as_ptr(), $mesh.positions.len(),
+                $mesh.textures.as_ptr(), $mesh.textures.len(),
+                $mesh.normals.as_ptr(), $mesh.normals.len(),
+                $mesh.corners.as_ptr(), $mesh.corners.len(),
+                $mesh.sizes.as_ptr(), $mesh.sizes.len()
+                $(, $more)*
+            )
+        }
+    };
+}
+
+/// A call that gives rows: a flat list with this room, and lengths with room for one number per corner.
+macro_rules! rows {
+    ($mesh: expr, $name: ident, $room: expr $(, $more: expr)*) => {{
+        let (mut flat, mut lengths) = (vec![0; $room], vec![0; $mesh.corner_count()]);
+        let (mut numbers, mut rows) = (0, 0);
+        let number = on!(
+            $mesh, $name $(, $more)*,
+            flat.as_mut_ptr(), flat.len(), lengths.as_mut_ptr(), lengths.len(), &mut numbers, &mut rows
+        );
+        Refusal::unless_done(number)?;
+        flat.truncate(numbers);
+        lengths.truncate(rows);
+        Ok(Rows { flat, lengths })
+    }};
+}
+
+impl<'a> Mesh<'a> {
+    fn corner_count(self) -> usize {
+        self.corners.len() / 3
+    }
+
+    /// Is this a mesh? Else the first of the numbers 1 to 5 that applies.
+    pub fn check(self) -> Result<(), Refusal> {
+        Refusal::unless_done(on!(self, bh_mesh_number))
+    }
+
+    /// The corners of face `k`, three numbers to each: a part of the mesh's own list. Nothing where `k` is no face or the lists earn 1
+    /// to 4.
+    pub fn face(self, k: usize) -> &'a [u32] {
+        let (mut start, mut len) = (0, 0);
+        on!(self, bh_face, k, &mut start, &mut len);
+        &self.corners[start..start + len]
+    }
+
+    /// Compaction: entries that no corner uses go, the others are renumbered by first use.
+    pub fn remove_unused_attrs(self) -> Result<OwnedMesh, Refusal> {
+        let mut made = OwnedMesh {
+            positions: vec![0.0; self.positions.len()],
+            textures: vec![0.0; self.textures.len()],
+            normals: vec![0.0; self.normals.len()],
+            corners: vec![0; self.corners.len()],
+            sizes: self.sizes.to_vec(),
+        };
+        let (mut positions, mut textures, mut normals) = (0, 0, 0);
+        let number = on!(
+            self,
+            bh_remove_unused_attrs,
+            made.corners.as_mut_ptr(),
+            made.corners.len(),
+            made.positions.as_mut_ptr(),
+            made.positions.len(),
+            made.textures.as_mut_ptr(),
+            made.textures.len(),
+            made.normals.as_mut_ptr(),
+            made.normals.len(),
+            &mut positions,
+            &mut textures,
+            &mut normals
+        );
+        Refusal::unless_done(number)?;
+        made.positions.truncate(3 * positions);
+        made.textures.truncate(2 * textures);
+        made.normals.truncate(3 * normals);
+        Ok(made)
+    }
+
+    /// Folded faces go or are cut open.
+    pub fn remove_degenerate_faces(self) -> Result<Faces, Refusal> {
+        let mut made = Faces { corners: vec![0; self.corners.len()], sizes: vec![0; self.corner_count() / 3] };
+        let (mut corners, mut faces) = (0, 0);
+        let number = on!(
+            self,
+            bh_remove_degenerate_faces,
+            made.corners.as_mut_ptr(),
+            made.corners.len(),
+            made.sizes.as_mut_ptr(),
+            made.sizes.len(),
+            &mut corners,
+            &mut faces
+        );
+        Refusal::unless_done(number)?;
+        made.corners.truncate(3 * corners);
+        made.sizes.truncate(faces);
+        Ok(made)
+    }
+
+    /// Merging: near positions, texture points and normals each get the index of one of them.
+    pub fn put_together_same_attrs(self, tolerance: f64) -> Result<Merged, Refusal> {
+        let mut made = Merged { corners: vec![0; self.corners.len()], ..Merged::default() };
+        let number = on!(
+            self,
+            bh_put_together_same_attrs,
+            tolerance,
+            made.corners.as_mut_ptr(),
+            made.corners.len(),
+            &mut made.position_pairs,
+            &mut made.texture_pairs,
+            &mut made.normal_pairs
+        );
+        Refusal::unless_done(number)?;
+        Ok(made)
+    }
+
+    /// The verdict.
+    pub fn shell_condition(self) -> Result<Verdict, Refusal> {
+        let mut verdict = 0;
+        Refusal::unless_done(on!(self, bh_shell_condition, &mut verdict))?;
+        Ok(Verdict::of(verdict))
+    }
+
+    /// The hem edges, from start to end, ascending by their lower and then their higher position.
+    pub fn hem_edges(self) -> Result<Vec<[u32; 2]>, Refusal> {
+        let (mut starts, mut ends) = (vec![0; self.corner_count()], vec![0; self.corner_count()]);
+        let mut count = 0;
+        let number = on!(self, bh_hem_edges, starts.as_mut_ptr(), starts.len(), ends.as_mut_ptr(), ends.len(), &mut count);
+        Refusal::unless_done(number)?;
+        Ok(starts.into_iter().zip(ends).take(count).map(|(start, end)| [start, end]).collect())
+    }
+
+    /// The ported wires: positions.
+    pub fn extract_boundaries(self) -> Result<Rows, Refusal> {
+        rows!(self, bh_extract_boundaries, 2 * self.corner_count())
+    }
+
+    /// The house wires: positions. Only where the verdict is Oriented or Closed.
+    pub fn house_wires(self) -> Result<Rows, Refusal> {
+        rows!(self, bh_house_wires, self.corner_count())
+    }
+
+    /// The panels: face numbers. With `use_normal`, faces hang together only where the normals at their shared edge are the same too.
+    pub fn components(self, use_normal: bool) -> Result<Rows, Refusal> {
+        rows!(self, bh_components, self.corner_count(), use_normal)
+    }
+}
+
+/// Reads a panel file.
+pub fn read_panel(file: &[u8]) -> Result<OwnedMesh, Refusal> {
+    let mut read = OwnedMesh {
+        positions: vec![0.0; 3 * MAX_ENTRIES],
+        textures: vec![0.0; 2 * MAX_ENTRIES],
+        normals: vec![0.0; 3 * MAX_ENTRIES],
+        corners: vec![0; 3 * MAX_CORNERS],
+        sizes: vec![0; MAX_FACES],
+    };
+    let (mut positions, mut textures, mut normals, mut corners, mut faces) = (0, 0, 0, 0, 0);
+    let number = unsafe {
+        library::bh_read_panel(
+            file.as_ptr(),
+            file.len(),
+            read.positions.as_mut_ptr(),
+            read.positions.len(),
+            read.textures.as_mut_ptr(),
+            read.textures.len(),
+            read.normals.as_mut_ptr(),
+            read.normals.len(),
+            read.corners.as_mut_ptr(),
+            read.corners.len(),
+            read.sizes.as_mut_ptr(),
+            read.sizes.len(),
+            &mut positions,
+            &mut textures,
+            &mut normals,
+            &mut corners,
+            &mut faces,
+        )
+    };
+    Refusal::unless_done(number)?;
+    read.positions.truncate(3 * positions);
+    read.textures.truncate(2 * textures);
+    read.normals.truncate(3 * normals);
+    read.corners.truncate(3 * corners);
+    read.sizes.truncate(faces);
+    Ok(read)
+}
+
+/// The sheet of a panel file, as the program `meshsheet` prints it. A refused file has a sheet too: the line `refused` and its number.
+pub fn sheet(file: &[u8]) -> String {
+    let mut text = vec![0; SHEET_ROOM];
+    let mut length = 0;
+    let number = unsafe { library::bh_sheet(file.as_ptr(), file.len(), text.as_mut_ptr(), text.len(), &mut length) };
+    assert_eq!(number, 0, "the room is the stated one");
+    text.truncate(length);
+    String::from_utf8(text).expect("a sheet is ASCII")
+}
