@@ -1,6 +1,6 @@
 -- As many panels: where faces that stand apart in the one list of panels stand apart in the other, the other has no fewer. Each panel
 -- of the one goes to the panel of the other that has its first face, and no two go to the same. Assumes nothing.
-use mathlib.Core.Path.{_≡_, refl, sym, ap, ap₂, _∙_}
+use mathlib.Core.Path.{_≡_, refl, sym, ap₂, _∙_}
 use mathlib.Core.Logic.{⊎-elim}
 use mathlib.Core.Bool.{Bool, true, false, cond, _&&_, _||_}
 use mathlib.Core.List.{List, [], _∷_, _++_, map}
@@ -8,35 +8,16 @@ use Prim.Native.Nat.{ℕ, zero, suc, _+_, _≤_, _<_}
 use native.Mathlib.Omega.{arith}
 use lib.Dec.{eqb}
 use lib.ListN.{length, getD, length-append, length-map}
-use borrow.Author.Tests.{eqb-true, ne-eqb}
+use borrow.Author.Tests.{ne-eqb}
 use Rattle.lists.specs.Lists.{count, has, joined}
 use Rattle.lists.proofs.Bools.{by-cases, or-neither}
 use Rattle.lists.proofs.Cases.{and-parts}
-use Rattle.lists.proofs.Counting.{clash, or-either, count-append, count-some, count-none, some-counted}
-use Rattle.lists.proofs.Members.{In, in-cases, in-head, in-tail, in-left, in-right, in-append, Once, free, once-free}
+use Rattle.lists.proofs.Counting.{clash, or-either, count-none, some-counted}
+use Rattle.lists.proofs.Members.{In, in-cases, in-head, in-tail, in-left, in-right, in-append, Once, once-apart, once-rear, once-cons, free, once-free}
 use Rattle.mesh.specs.Mesh.{Ring}
 use Rattle.panels.specs.Panels.{Join, joins, Search, neighbours, look, search′, panelsFrom, panels, together}
 use Rattle.panels.proofs.Panelled.{panels-once, panels-inside}
 use Rattle.order.specs.Demand.{Demand3}
-
--- ---- a number stands in one of two lists
-
-once-apart : {A : Type 0} (x : ℕ) (s t : List ℕ) → Once (s ++ t) → In x s → In x t → A
-once-apart x s t o p q =
-    let a : count (eqb x) (s ++ t) ≤ 1 = o x in
-    let b : 0 < count (eqb x) s = count-some (eqb x) s p in
-    let c : 0 < count (eqb x) t = count-some (eqb x) t q in
-    absurd (omega (arith, count-append (eqb x) s t))
-
-once-rear : (s t : List ℕ) → Once (s ++ t) → Once t
-once-rear s t o x = let a : count (eqb x) (s ++ t) ≤ 1 = o x in omega (arith, count-append (eqb x) s t)
-
-once-cons : (y : ℕ) (l : List ℕ) → has y l ≡ false → Once l → Once (y ∷ l)
-once-cons y l n o x =
-    by-cases
-    (eqb x y)
-    (λ e. let z : count (eqb x) l ≡ 0 = count-none (eqb x) l (ap (λ (k : ℕ). has k l) (eqb-true x y e) ∙ n) in rw e (omega arith))
-    (λ e. rw e (o x))
 
 -- ---- the panel that has a face
 

@@ -1,27 +1,20 @@
 -- The call: what it answers on a refusal and on 0. Assumes nothing.
-use mathlib.Core.Path.{_≡_, refl, sym, _∙_}
+use mathlib.Core.Path.{_≡_, sym, _∙_}
 use mathlib.Core.Bool.{true}
 use mathlib.Core.List.{[], _∷_}
-use Prim.Native.Nat.{ℕ, zero, suc, _*_, _≤_, _<_}
+use Prim.Native.Nat.{ℕ, _*_, _≤_, _<_}
 use native.Mathlib.Omega.{arith}
 use lib.ListN.{length}
 use lib.Seq.{sets}
 use borrow.Author.Tests.{lt-ltb, le-ltb}
 use Rattle.mesh.specs.Mesh.{Mesh, positionCount, textureCount, normalCount}
-use Rattle.mesh.specs.Table.{meshNumber, when, short, after}
+use Rattle.mesh.specs.Table.{meshNumber, when, short}
+use Rattle.mesh.proofs.After.{after-refused, after-done}
 use Rattle.mesh.proofs.Numbers.{first-is, first-on, row-given}
 use Rattle.compaction.specs.declared.Compacted.{Compacted}
 use Rattle.compaction.specs.Compaction.{firstUses, entries, usedPositions, usedTextures, usedNormals, renumbered, compacted, Result, tooShort, compactionNumber, Compaction}
 use Rattle.compaction.specs.Working.{column, Ready, Done, Refused}
 use Rattle.compaction.proofs.Accepting.{pointed-positions, pointed-textures, pointed-normals, length-kept}
-
--- what a refusal leaves, and what 0 leaves
-pub after-refusal : {A : Type 0} (n : ℕ) (new old : A) → (n ≡ 0 → ⊥) → after n new old ≡ old
-after-refusal zero new old h = absurd (h refl)
-after-refusal (suc n) new old h = refl
-
-pub after-done : {A : Type 0} (n : ℕ) (new old : A) → n ≡ 0 → after n new old ≡ new
-after-done n new old h = rw h
 
 module _ (m : Mesh) (before : Result) (answer : Compacted) where
   refused-is : (n : ℕ) → (n ≡ 0 → ⊥) → n ≡ compactionNumber m before → Refused answer n → Compaction m before before answer
@@ -29,14 +22,14 @@ module _ (m : Mesh) (before : Result) (answer : Compacted) where
       let z : answer .number ≡ 0 → ⊥ = λ q. h (sym (r .is) ∙ q) in
       record {
         number = r .is ∙ e;
-        position-count = r .positions ∙ sym (after-refusal (answer .number) (positionCount (compacted m)) 0 z);
-        texture-count = r .textures ∙ sym (after-refusal (answer .number) (textureCount (compacted m)) 0 z);
-        normal-count = r .normals ∙ sym (after-refusal (answer .number) (normalCount (compacted m)) 0 z);
-        corners = sym (after-refusal (answer .number) (sets (before .corners) 0 (compacted m .corners)) (before .corners) z);
+        position-count = r .positions ∙ sym (after-refused (answer .number) (positionCount (compacted m)) 0 z);
+        texture-count = r .textures ∙ sym (after-refused (answer .number) (textureCount (compacted m)) 0 z);
+        normal-count = r .normals ∙ sym (after-refused (answer .number) (normalCount (compacted m)) 0 z);
+        corners = sym (after-refused (answer .number) (sets (before .corners) 0 (compacted m .corners)) (before .corners) z);
         positions =
-            sym (after-refusal (answer .number) (sets (before .positions) 0 (compacted m .positions)) (before .positions) z);
-        textures = sym (after-refusal (answer .number) (sets (before .textures) 0 (compacted m .textures)) (before .textures) z);
-        normals = sym (after-refusal (answer .number) (sets (before .normals) 0 (compacted m .normals)) (before .normals) z);
+            sym (after-refused (answer .number) (sets (before .positions) 0 (compacted m .positions)) (before .positions) z);
+        textures = sym (after-refused (answer .number) (sets (before .textures) 0 (compacted m .textures)) (before .textures) z);
+        normals = sym (after-refused (answer .number) (sets (before .normals) 0 (compacted m .normals)) (before .normals) z);
       }
 
   -- 1 to 5

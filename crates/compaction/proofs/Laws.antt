@@ -11,8 +11,9 @@ use lib.Dec.{eqb}
 use lib.Ieee.{Float}
 use borrow.Author.Tests.{ne-eqb, lt-leb}
 use Rattle.lists.specs.Lists.{some, every, has, joined, each, span}
-use Rattle.lists.proofs.Bools.{and-both, and-left, and-right, or-neither}
-use Rattle.lists.proofs.Parts.{some-none, every-append, joined-append}
+use Rattle.lists.proofs.Bools.{and-both, or-neither}
+use Rattle.lists.proofs.Mapping.{map-same}
+use Rattle.lists.proofs.Parts.{some-none, each-joined, every-joined}
 use Rattle.lists.proofs.Members.{in-head, in-tail}
 use Rattle.mesh.specs.Mesh.{Mesh, meshOf, Corner, Ring, position, texture, normal, missing, threes, rings, faces, positionCount, textureCount, normalCount}
 use Rattle.mesh.specs.Table.{astray, astrayAt, misfit, ungrouped, meshNumber}
@@ -24,7 +25,7 @@ use Rattle.compaction.specs.Compaction.{firstUses, renumber, entries, us
 use Rattle.compaction.specs.Working.{column, Pointed}
 use Rattle.compaction.proofs.Uses.{uses-few, uses-below}
 use Rattle.compaction.proofs.Entries.{entries-again}
-use Rattle.compaction.proofs.Renumbering.{renumber-below, renumber-within, renumber-same, uses-again, renumber-again, renumber-uses, uses-numbered, every-number, map-same}
+use Rattle.compaction.proofs.Renumbering.{renumber-below, renumber-within, renumber-same, uses-again, renumber-again, renumber-uses, uses-numbered, every-number}
 use Rattle.compaction.proofs.Accepting.{pointed-positions, pointed-textures, pointed-normals, length-kept}
 
 -- ---- one column
@@ -104,17 +105,6 @@ its-number f (c ∷ l) zero h = in-head (f c) (map f l)
 its-number f (c ∷ l) (suc k) h = in-tail (f (getD l k [])) (f c) (map f l) (its-number f l k (le-of-suc-le-suc h))
 
 -- ---- faces, one after the other
-
-each-joined : (fs : List Ring) → each joined fs ≡ joined (joined fs)
-each-joined [] = refl
-each-joined (f ∷ fs) = ap (λ (l : List ℕ). joined f ++ l) (each-joined fs) ∙ sym (joined-append f (joined fs))
-
-every-joined : (fs : List Ring) → every isRing fs ≡ true → every isCorner (joined fs) ≡ true
-every-joined [] h = refl
-every-joined (f ∷ fs) h =
-    every-append isCorner f (joined fs)
-    ∙ and-both (every isCorner f) (every isCorner (joined fs)) (and-left (isRing f) (every isRing fs) h)
-    (every-joined fs (and-right (isRing f) (every isRing fs) h))
 
 module _ (r : Corner → Corner) where
   joined-map : (fs : List Ring) → joined (map (map r) fs) ≡ map r (joined fs)
@@ -301,7 +291,7 @@ module _ (m : Mesh) (z : meshNumber m ≡ 0) where
   pub face-order : joined (faces m) ≡ threes (m .corners)
   unfolding faces
   face-order =
-      sym (threes-joined (joined (faces m)) (every-joined (faces m) (rings-are (m .sizes) (m .corners))))
+      sym (threes-joined (joined (faces m)) (every-joined isCorner (faces m) ∙ rings-are (m .sizes) (m .corners)))
       ∙ ap threes (sym (each-joined (faces m)) ∙ corners-back (m .sizes) (m .corners) (accepted m z .whole .adds))
 
   -- the faces are those that were given, each corner renumbered

@@ -1,6 +1,6 @@
 -- Renumbering one column: it is one-to-one, its numbers are below the count of uses, and the uses of a column whose numbers are
 -- changed one-to-one are the changed uses. Assumes nothing.
-use mathlib.Core.Path.{_≡_, refl, sym, ap, ap₂, _∙_}
+use mathlib.Core.Path.{_≡_, refl, sym, ap, _∙_}
 use mathlib.Core.Bool.{Bool, true, false, not, _&&_}
 use mathlib.Core.List.{List, [], _∷_, map}
 use Prim.Native.Nat.{ℕ, zero, suc, _≤_, _<_}
@@ -14,6 +14,7 @@ use Rattle.lists.specs.Lists.{has, keepIf, others, span}
 use Rattle.lists.proofs.Bools.{by-cases, true-false, and-left, and-right, and-false-right}
 use Rattle.lists.proofs.Members.{in-head, in-tail}
 use Rattle.lists.proofs.Buckets.{length-span, span-at}
+use Rattle.lists.proofs.Mapping.{map-same}
 use Rattle.mesh.specs.Mesh.{missing}
 use Rattle.mesh.specs.Table.{beyondUnlessMissing}
 use Rattle.compaction.specs.Compaction.{firstUses, place, renumber}
@@ -129,14 +130,6 @@ module _ (f : ℕ → ℕ) where
       ∙ ap (map f) (sym (uses-present i l e)))
 
 -- ---- a second time
-
--- two functions that agree on what stands in a list change it alike
-pub map-same :
-    {A B : Type 0} (f g : A → B) (d : A) (l : List A) → ((k : ℕ) → k < length l → f (getD l k d) ≡ g (getD l k d))
-    → map f l ≡ map g l
-map-same f g d [] h = refl
-map-same f g d (x ∷ l) h =
-    ap₂ (λ a t. a ∷ t) (h 0 (omega arith)) (map-same f g d l (λ k n. h (suc k) (let e : k < length l = n in omega arith)))
 
 module _ (l : List ℕ) (few : length (firstUses l) ≤ missing) where
   -- the uses of the renumbered column

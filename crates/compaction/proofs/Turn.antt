@@ -1,6 +1,6 @@
 -- One column of one corner: what the code finds in its map, and what it leaves, in each of the three cases. Assumes nothing.
 use mathlib.Core.Path.{_≡_, refl, sym, ap, _∙_}
-use mathlib.Core.Bool.{Bool, true, false, cond, _||_}
+use mathlib.Core.Bool.{true, false, cond, _||_}
 use mathlib.Core.List.{List, [], _∷_, _++_}
 use Prim.Native.Nat.{ℕ, zero, suc, _+_, _*_, _/_, _≤_, _<_}
 use native.Mathlib.Nat.{zero-add}
@@ -12,8 +12,8 @@ use lib.Dec.{eqb}
 use lib.Ieee.{Float}
 use borrow.Author.Tests.{eqb-true, eqb-false, eq-eqb, ne-eqb, leb-false}
 use Rattle.lists.specs.Lists.{some, has}
-use Rattle.lists.proofs.Bools.{by-cases, or-false-left}
-use Rattle.lists.proofs.Parts.{some-append, some-false-at}
+use Rattle.lists.proofs.Bools.{by-cases}
+use Rattle.lists.proofs.Parts.{some-take, some-false-at}
 use Rattle.lists.proofs.Writing.{sets-append}
 use Rattle.lists.proofs.Members.{has-snoc}
 use Rattle.lists.proofs.Others.{eqb-self}
@@ -62,17 +62,11 @@ number-early l k i h =
     let r = uses-rest l k in
     ap (λ (us : List ℕ). place us i) (r .1) ∙ place-append (firstUses (take k l)) (r .0) i h
 
--- what no index has, none of the first k has
-some-take : (p : ℕ → Bool) (l : List ℕ) (k : ℕ) → some p l ≡ false → some p (take k l) ≡ false
-some-take p l k h =
-    or-false-left (some p (take k l)) (some p (drop k l))
-    (sym (some-append p (take k l) (drop k l)) ∙ ap (some p) (take-append-drop k l) ∙ h)
-
 -- ---- the entries that the first corners use
 
 module _ {attrs : List Float} {w : ℕ} {cs : List ℕ} {q : ℕ} (p : Pointed attrs w cs q) where
   early : (n : ℕ) → some (beyondUnlessMissing (p .count)) (take n (column q cs)) ≡ false
-  early n = some-take (beyondUnlessMissing (p .count)) (column q cs) n (p .within)
+  early n = some-take (beyondUnlessMissing (p .count)) n (column q cs) (p .within)
 
   -- no more are used than there are
   pub uses-within : (n : ℕ) → length (usesTo q cs n) ≤ p .count

@@ -17,7 +17,7 @@ use Rattle.mesh.proofs.Numbers.{first-head, first-tail, when-not}
 use Rattle.mesh.proofs.Accepted.{accepted}
 use Rattle.compaction.specs.declared.Compacted.{Compacted}
 use Rattle.compaction.specs.Compaction.{compacted, Result, tooShort, compactionNumber, Compaction}
-use Rattle.compaction.proofs.Answer.{after-done}
+use Rattle.mesh.proofs.After.{after-done}
 use Rattle.compaction.proofs.Laws.{positions-long, textures-long, normals-long, positions-counted, textures-counted, normals-counted, positions-fewer, textures-fewer, normals-fewer, corners-kept}
 
 -- each lent list is as long as the list that it is made from

@@ -13,7 +13,7 @@ use borrow.Author.Tests.{ltb-true}
 use Rattle.lists.specs.Lists.{every, each, span}
 use Rattle.lists.proofs.Bools.{and-left, and-right}
 use Rattle.lists.proofs.Parts.{every-at}
-use Rattle.lists.proofs.Growing.{sets-all}
+use Rattle.lists.proofs.Copies.{sets-whole}
 use Rattle.lists.proofs.Buckets.{length-span}
 use Rattle.sorting.specs.Sorting.{sortedBy, All}
 use Rattle.sorting.proofs.Laws.{sorted-all, sorted-length}
@@ -151,7 +151,7 @@ module _ (cs s : List ℕ) (n : ℕ) (e : Edged cs s n) where
 
   -- one column, written whole
   whole : (f : Edge → ℕ) (l l′ : List ℕ) → length l ≡ length cs / 3 → l′ ≡ sets l 0 (map f es) → l′ ≡ map f es
-  whole f l l′ h w = w ∙ sets-all l (map f es) (length-map es f ∙ length-uses cs s (e .sound) ∙ sym h)
+  whole f l l′ h w = w ∙ sets-whole l (map f es) (length-map es f ∙ length-uses cs s (e .sound) ∙ sym h)
 
   module _ (l h d first order l′ h′ d′ : List ℕ) (r : Rooms (length cs / 3) l h d first order) (w : Written es 0 l h d l′ h′ d′) where
     columns : Columns es l′ h′ d′

@@ -2,7 +2,7 @@
 -- Assumes nothing.
 use mathlib.Core.Path.{_≡_, refl, sym, ap, _∙_, subst}
 use mathlib.Core.Bool.{Bool, true, false, cond, not}
-use mathlib.Core.List.{List, [], _∷_, _++_, map}
+use mathlib.Core.List.{List, [], _∷_, _++_, map, map-append}
 use Prim.Native.Nat.{ℕ, suc, _+_, _-_, _≤_, _<_}
 use native.Mathlib.Nat.{add-zero}
 use native.Mathlib.Numerals.{add-one}
@@ -12,8 +12,8 @@ use lib.Seq.{sets, drop-cons}
 use lib.Dec.{leb, eqb}
 use borrow.Author.Tests.{le-leb, lt-leb, eq-eqb, ne-eqb}
 use Rattle.lists.specs.Lists.{keepIf, span}
-use Rattle.lists.proofs.Mapping.{map-append}
-use Rattle.lists.proofs.Growing.{Growing, grow-begins, grow-turns, grow-part, sets-all}
+use Rattle.lists.proofs.Copies.{sets-whole}
+use Rattle.lists.proofs.Growing.{Growing, grow-begins, grow-turns, grow-part}
 use Rattle.lists.proofs.Buckets.{length-span}
 use Rattle.edges.specs.Edges.{Edge, key}
 use Rattle.edges.specs.Runs.{lowerOf, higherOf, downOf, Written, goesOn, hemsAt, oddAfter, lastOdd, startAt, endAt, Put}
@@ -107,7 +107,7 @@ module _ (l₀ : List ℕ) where
   number-ends l i h n =
       let e : length l₀ - i ≡ 0 = omega arith in
       let g : Growing l₀ l 0 i (span 0 (length l₀)) [] = subst (λ (k : ℕ). Growing l₀ l 0 i (span 0 (length l₀)) (span i k)) e (n .growing) in
-      g .rest ∙ sets-all l₀ (span 0 (length l₀)) (length-span 0 (length l₀))
+      g .rest ∙ sets-whole l₀ (span 0 (length l₀)) (length-span 0 (length l₀))
 
 -- ---- the hem edges
 

@@ -8,12 +8,12 @@ use Prim.Native.Nat.{ℕ, zero, suc, _+_, _≤_, _<_}
 use native.Mathlib.Omega.{arith}
 use lib.ListN.{length, getD, length-map, List·getD-map}
 use lib.Dec.{ltb, eqb}
-use borrow.Author.Tests.{ltb-true, eq-eqb, eqb-true, eqb-false}
+use borrow.Author.Tests.{ltb-true, eqb-true, eqb-false}
 use Rattle.lists.specs.Lists.{only, some, every, each, span}
 use Rattle.lists.proofs.Bools.{by-cases, and-left, and-right, or-left, or-right}
 use Rattle.lists.proofs.Buckets.{only-cong, only-none, each-cong, length-only}
 use Rattle.lists.proofs.Alike.{some-map}
-use Rattle.lists.proofs.Cases.{iff}
+use Rattle.lists.proofs.Others.{eqb-flip}
 use Rattle.lists.proofs.Mapping.{only-map, each-map, each-each, map-span, some-find}
 use Rattle.lists.proofs.Parts.{some-append}
 use Rattle.sorting.specs.Sorting.{sortedBy}
@@ -82,9 +82,6 @@ in-square x N a (suc n) p q r =
 -- both ends are below n
 abbrev pub inside : ℕ → Edge → Bool
 inside n e = ltb (e .0) n && ltb (e .1) n
-
-eqb-swap : (a b : ℕ) → eqb a b ≡ eqb b a
-eqb-swap a b = iff (eqb a b) (eqb b a) (λ p. eq-eqb b a (sym (eqb-true a b p))) (λ p. eq-eqb a b (sym (eqb-true b a p)))
 
 -- ---- the columns of a list of edges
 
@@ -170,4 +167,4 @@ module _ (es : List Edge) where
       where
         key-swap : (l h u : ℕ) → (eqb (getD highers u 0) h && eqb (getD lowers u 0) l) ≡ same (l, h) (keyAt lowers highers u)
         key-swap l h u =
-            and-comm (eqb (getD highers u 0) h) (eqb (getD lowers u 0) l) ∙ ap₂ _&&_ (eqb-swap (getD lowers u 0) l) (eqb-swap (getD highers u 0) h)
+            and-comm (eqb (getD highers u 0) h) (eqb (getD lowers u 0) l) ∙ ap₂ _&&_ (eqb-flip (getD lowers u 0) l) (eqb-flip (getD highers u 0) h)

@@ -1,7 +1,7 @@
 -- How often an edge stands among the hem edges: by its uses, and by the direction of its last use. Assumes nothing.
 use mathlib.Core.Path.{_≡_, refl, sym, ap, _∙_, subst}
 use mathlib.Core.Logic.{_⊎_, inl, inr, ⊎-elim}
-use mathlib.Core.Bool.{Bool, true, false, cond, _||_}
+use mathlib.Core.Bool.{Bool, true, false, cond}
 use mathlib.Core.List.{List, [], _∷_, map}
 use Prim.Native.Nat.{ℕ, zero, suc, _+_, _≤_, _<_}
 use native.Mathlib.Omega.{arith}
@@ -9,6 +9,7 @@ use lib.Dec.{leb, eqb}
 use borrow.Author.Tests.{leb-true, leb-false, le-leb}
 use Rattle.lists.specs.Lists.{bump, count, keepIf, only, some}
 use Rattle.lists.proofs.Bools.{by-cases, or-left, or-right}
+use Rattle.lists.proofs.Only.{some-only}
 use Rattle.lists.proofs.Counting.{clash, or-either, pos, some-count, count-some, count-none, count-less, some-less}
 use Rattle.edges.specs.Edges.{Edge, same, flip, key, uses, runs, thrice, alike, once, verdict, Verdict, Irregular, Regular, keys, odd, lastOr, hemKeys, hems}
 use Rattle.edges.proofs.SameEdge.{same-true, same-refl, same-of, found}
@@ -201,16 +202,8 @@ map-runs f d (x ∷ l) h =
     go false p false q true r ih = ih ∙ rw r
     go false p false q false r ih = ih ∙ rw r
 
-pub some-only : (q p : Edge → Bool) (l : List Edge) → some q (only p l) ≡ true → some q l ≡ true
-some-only q p [] h = h
-some-only q p (x ∷ l) h = go (p x) h (some-only q p l)
-  where
-    go : (b : Bool) → some q (keepIf b x (only p l)) ≡ true → (some q (only p l) ≡ true → some q l ≡ true) → (q x || some q l) ≡ true
-    go true h ih = ⊎-elim (λ k. or-left (q x) (some q l) k) (λ k. or-right (q x) (some q l) (ih k)) (or-either (q x) (some q (only p l)) h)
-    go false h ih = or-right (q x) (some q l) (ih h)
-
 hem-key : (es : List Edge) (k : Edge) → some (same k) (hemKeys es) ≡ true → key (lastOr k k es) ≡ k
-hem-key es k m = last-key es k (some-only (same k) (λ j. odd (uses j es)) (keys es) m)
+hem-key es k m = last-key es k (some-only (λ j. odd (uses j es)) (same k) (keys es) m)
 
 pub hem-count :
     (es : List Edge) (d : Edge)

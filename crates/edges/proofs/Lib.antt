@@ -4,7 +4,6 @@ pub mod HemUses
 pub mod OnlyHems
 pub mod Reordered
 pub mod Rings
-pub mod HemBounds
 pub mod EachEdge
 pub mod Keys
 pub mod Grouped

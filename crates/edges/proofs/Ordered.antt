@@ -9,7 +9,7 @@ use lib.ListN.{length, getD}
 use lib.Seq.{sets}
 use Rattle.lists.specs.Lists.{each, span}
 use Rattle.lists.proofs.Buckets.{length-span, span-at}
-use Rattle.lists.proofs.Growing.{sets-all}
+use Rattle.lists.proofs.Copies.{sets-whole}
 use Rattle.sorting.specs.Sorting.{sortedBy, All, Sortable}
 use Rattle.sorting.proofs.Laws.{sorted-all, sorted-length}
 use Rattle.edges.specs.Runs.{Placed, inOrder}
@@ -46,7 +46,7 @@ module _ (n : ℕ) (ls hs : List ℕ) (first order : List ℕ) (p : Placed n ls 
       sorted-first =
           by
           ∙ ap (λ (l : List ℕ). sets first 0 (sortedBy n hs l)) numbered
-          ∙ sets-all first (sortedBy n hs (span 0 (length ls)))
+          ∙ sets-whole first (sortedBy n hs (span 0 (length ls)))
           (sorted-length n hs (span 0 (length ls)) (all-span (λ u. getD hs u 0 < n) (length ls) (p .higher-below)) ∙ length-span 0 (length ls) ∙ sym (p .earlier))
 
       first-long : length f ≡ length ls
@@ -70,6 +70,6 @@ module _ (n : ℕ) (ls hs : List ℕ) (first order : List ℕ) (p : Placed n ls 
       unfolding inOrder
       in-order r e =
           e
-          ∙ sets-all o (sortedBy n ls f)
+          ∙ sets-whole o (sortedBy n ls f)
           (sorted-length n ls f (second-sortable .keyed .below) ∙ first-long ∙ sym (ap length numbered ∙ length-span 0 (length ls)))
           ∙ ap (sortedBy n ls) sorted-first

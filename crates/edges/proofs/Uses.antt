@@ -97,13 +97,14 @@ unfolding edgesFrom sides
 edges-end f i h = ap (sides (getD (places f) 0 0)) (drop-of-length-le (places f) {i = i} (rw (length-places f) h))
 
 -- one for each corner
-length-run : (a : ℕ) (r : List ℕ) (z : ℕ) → length (runEdges a r z) ≡ suc (length r)
-length-run a [] z = refl
-length-run a (b ∷ r) z = ap suc (length-run b r z)
+module _ {A : Type 0} where
+  pub length-run : (a : A) (r : List A) (z : A) → length (runEdges a r z) ≡ suc (length r)
+  length-run a [] z = refl
+  length-run a (b ∷ r) z = ap suc (length-run b r z)
 
-length-ring : (ps : List ℕ) → length (ringEdges ps) ≡ length ps
-length-ring [] = refl
-length-ring (a ∷ r) = length-run a r a
+  pub length-ring : (ps : List A) → length (ringEdges ps) ≡ length ps
+  length-ring [] = refl
+  length-ring (a ∷ r) = length-run a r a
 
 pub length-face-edges : (f : List ℕ) → length (faceEdges f) ≡ length f / 3
 unfolding faceEdges places

@@ -1,7 +1,7 @@
 -- What two comparisons with plus and minus a power of two say of a magnitude: rows 7 and 8 of the table, as the code tests them.
 -- Assumes nothing.
 use mathlib.Core.Path.{_≡_, refl, sym, ap, _∙_}
-use mathlib.Core.Bool.{Bool, true, false, not, _&&_, _||_}
+use mathlib.Core.Bool.{Bool, true, false, not, _&&_, _||_, and-true}
 use Prim.Native.Nat.{ℕ, zero, suc, _+_, _*_, _^_, _≤_, _<_}
 use native.Mathlib.Nat.{mul-one, one-mul, mul-pos}
 use native.Mathlib.Omega.{arith}
@@ -10,8 +10,9 @@ use lib.Dec.{leb, ltb, eqb}
 use lib.Pow.{pow-pos}
 use lib.Ieee.{Float, nan, inf, fin, up, down, binary64, ofBits, neg, lt, eq, le}
 use lib.Ieee.Fits.{down-pos}
-use borrow.Author.Tests.{lt-ltb, le-ltb, le-leb, lt-leb, eq-eqb, ne-eqb, leb-true, leb-false, ltb-true, ltb-false, eqb-true, eqb-false}
+use borrow.Author.Tests.{lt-ltb, le-ltb, le-leb, lt-leb, eq-eqb, ne-eqb, leb-true, leb-false, ltb-true, ltb-false}
 use Rattle.lists.proofs.Bools.{by-cases, true-false}
+use Rattle.lists.proofs.Others.{eqb-flip}
 use Rattle.floating.proofs.Literals.{one-is, least-is, most-is, edge-is}
 use Rattle.floating.specs.Limits.{power, unfit, boundless, far}
 
@@ -35,9 +36,6 @@ lt-or-eq a b c e = go (ltb a b) refl (ltb b a) refl
     go true h false k = refl
     go false h true k = let y = ltb-true b a k in ap (λ (u : Bool). u && true) (e ∙ ne-eqb a b (λ i. omega arith))
     go false h false k = let x = ltb-false a b h in let y = ltb-false b a k in ap (λ (u : Bool). u && true) (e ∙ eq-eqb a b (omega arith))
-
-eqb-sym : (a b : ℕ) → eqb a b ≡ eqb b a
-eqb-sym a b = by-cases (eqb b a) (λ h. eq-eqb a b (sym (eqb-true b a h)) ∙ sym h) (λ h. ne-eqb a b (λ i. eqb-false b a h (sym i)) ∙ sym h)
 
 -- ---- a magnitude and 2 ^ k
 
@@ -70,11 +68,7 @@ module _ (k m : ℕ) (e : ℤ) where
   upto = rw (small-is, large-is) (lt-or-eq small large (eqb small large) refl)
 
   upto' : ltb (m * up e * 1) (1 * 2 ^ k * down e) || (eqb (1 * 2 ^ k * down e) (m * up e * 1) && true) ≡ not (ltb large small)
-  upto' = rw (small-is, large-is) (lt-or-eq small large (eqb large small) (eqb-sym large small))
-
-and-true : (a : Bool) → (a && true) ≡ a
-and-true true = refl
-and-true false = refl
+  upto' = rw (small-is, large-is) (lt-or-eq small large (eqb large small) (eqb-flip large small))
 
 -- strictly between the two
 pub inside : (k : ℕ) (s : Bool) (m : ℕ) (e : ℤ) → (lt (neg (power (pos k))) (fin s m e) && lt (fin s m e) (power (pos k))) ≡ ltb (m * up e) (2 ^ k * down e)

@@ -1,16 +1,16 @@
 -- Where a point stands in a flat list: its row is its coordinates; a row of a list that was mapped is the row, mapped. Assumes nothing.
 use mathlib.Core.Path.{_≡_, refl, sym, ap, _∙_, subst}
-use mathlib.Core.Bool.{Bool, true, false, _||_}
-use mathlib.Core.List.{List, [], _∷_, _++_, map}
+use mathlib.Core.Bool.{Bool, false}
+use mathlib.Core.List.{List, [], _∷_, map}
 use Prim.Native.Nat.{ℕ, zero, suc, _+_, _*_, _≤_, _<_}
 use native.Mathlib.Nat.{mul-suc, mul-le-mul-left}
 use native.Mathlib.Omega.{arith}
-use lib.ListN.{length, getD, take, drop, take-append-drop}
+use lib.ListN.{length, getD, take, drop}
 use lib.Seq.{drop-cons}
 use lib.Ieee.{Float, nan, binary64, add}
 use Rattle.lists.specs.Lists.{some}
-use Rattle.lists.proofs.Bools.{or-false-left, or-false-right}
-use Rattle.lists.proofs.Parts.{some-append}
+use Rattle.lists.proofs.Copies.{map-take}
+use Rattle.lists.proofs.Parts.{some-take, some-drop}
 use Rattle.floating.specs.Points.{coordinates, leading, point, pointAt, texelAt, row}
 use Rattle.floating.specs.Near.{square, sumFrom, squared}
 use Rattle.floating.specs.declared.Point.{Point}
@@ -39,11 +39,6 @@ module _ {A : Type 0} where
       rw (next d s 2 (3 * i) (omega arith), next d s 1 (suc (3 * i)) (omega arith), next d s 0 (suc (suc (3 * i))) (omega arith), e, f)
 
 module _ {A B : Type 0} (f : A → B) where
-  take-map : (n : ℕ) (s : List A) → take n (map f s) ≡ map f (take n s)
-  take-map zero s = refl
-  take-map (suc n) [] = refl
-  take-map (suc n) (x ∷ s) = ap (λ (l : List B). f x ∷ l) (take-map n s)
-
   drop-map : (n : ℕ) (s : List A) → drop n (map f s) ≡ map f (drop n s)
   drop-map zero s = refl
   drop-map (suc n) [] = refl
@@ -51,19 +46,13 @@ module _ {A B : Type 0} (f : A → B) where
 
   pub row-map : (w : ℕ) (s : List A) (i : ℕ) → row w (map f s) i ≡ map f (row w s i)
   unfolding row
-  row-map w s i = ap (take w) (drop-map (w * i) s) ∙ take-map w (drop (w * i) s)
+  row-map w s i = ap (take w) (drop-map (w * i) s) ∙ sym (map-take f w (drop (w * i) s))
 
 -- what no element of a list passes, none of a row passes
 module _ {A : Type 0} (p : A → Bool) where
-  pub some-take : (n : ℕ) (s : List A) → some p s ≡ false → some p (take n s) ≡ false
-  some-take n s h = or-false-left (some p (take n s)) (some p (drop n s)) (sym (some-append p (take n s) (drop n s)) ∙ ap (some p) (take-append-drop n s) ∙ h)
-
-  pub some-drop : (n : ℕ) (s : List A) → some p s ≡ false → some p (drop n s) ≡ false
-  some-drop n s h = or-false-right (some p (take n s)) (some p (drop n s)) (sym (some-append p (take n s) (drop n s)) ∙ ap (some p) (take-append-drop n s) ∙ h)
-
   pub some-row : (w : ℕ) (s : List A) (i : ℕ) → some p s ≡ false → some p (row w s i) ≡ false
   unfolding row
-  some-row w s i h = some-take w (drop (w * i) s) (some-drop (w * i) s h)
+  some-row w s i h = some-take p w (drop (w * i) s) (some-drop p (w * i) s h)
 
 -- ---- coordinates
 

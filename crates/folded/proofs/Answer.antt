@@ -1,15 +1,16 @@
 -- The call: what it answers on a refusal and on 0. Assumes nothing.
-use mathlib.Core.Path.{_≡_, refl, sym, _∙_}
+use mathlib.Core.Path.{_≡_, sym, _∙_}
 use mathlib.Core.Bool.{true}
 use mathlib.Core.List.{List, [], _∷_}
-use Prim.Native.Nat.{ℕ, zero, suc, _/_, _≤_, _<_}
+use Prim.Native.Nat.{ℕ, _/_, _≤_, _<_}
 use native.Mathlib.Nat.{zero-add}
 use native.Mathlib.Omega.{arith}
 use lib.ListN.{length}
 use lib.Seq.{sets}
 use borrow.Author.Tests.{lt-ltb, le-ltb}
 use Rattle.mesh.specs.Mesh.{Mesh, faces, rings}
-use Rattle.mesh.specs.Table.{meshNumber, when, short, after}
+use Rattle.mesh.specs.Table.{meshNumber, when, short}
+use Rattle.mesh.proofs.After.{after-refused}
 use Rattle.mesh.proofs.Numbers.{first-is, first-on, row-given}
 use Rattle.mesh.proofs.Accepted.{accepted}
 use Rattle.grouping.specs.Push.{Placed, cornerCount}
@@ -17,19 +18,14 @@ use Rattle.folded.specs.declared.Removed.{Removed}
 use Rattle.folded.specs.Folded.{removed, unfoldedMesh, resultOf, tooShort, removalNumber, Removal}
 use Rattle.folded.specs.Working.{Given, refusedBy}
 
--- what a refusal leaves
-after-refusal : {A : Type 0} (n : ℕ) (new old : A) → (n ≡ 0 → ⊥) → after n new old ≡ old
-after-refusal zero new old h = absurd (h refl)
-after-refusal (suc n) new old h = refl
-
 module _ (m : Mesh) (o l : List ℕ) (answer : Removed) where
   refused-is : (n : ℕ) → (n ≡ 0 → ⊥) → n ≡ removalNumber m (resultOf o l) → answer ≡ refusedBy n → Removal m (resultOf o l) (resultOf o l) answer
   refused-is n h e r = rw r (record {
     number = e;
-    corner-count = sym (after-refusal n (cornerCount (removed (faces m))) 0 h);
-    face-count = sym (after-refusal n (length (removed (faces m))) 0 h);
-    corners = sym (after-refusal n (sets o 0 (unfoldedMesh m .corners)) o h);
-    sizes = sym (after-refusal n (sets l 0 (unfoldedMesh m .sizes)) l h);
+    corner-count = sym (after-refused n (cornerCount (removed (faces m))) 0 h);
+    face-count = sym (after-refused n (length (removed (faces m))) 0 h);
+    corners = sym (after-refused n (sets o 0 (unfoldedMesh m .corners)) o h);
+    sizes = sym (after-refused n (sets l 0 (unfoldedMesh m .sizes)) l h);
   })
 
   -- 1 to 5

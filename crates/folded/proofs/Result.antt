@@ -66,14 +66,10 @@ pub removed-unfolded : (fs : List Ring) → every isUnfolded (removed fs) ≡ tr
 unfolding removed
 removed-unfolded fs = every-pushed isUnfolded (each pieces fs) (every-pieces isUnfolded fs (λ r. pieces-sane r .unfolded))
 
--- every face of it has three corners or more, and no more than n where the given faces have no more
+-- every face of it has three corners or more
 pub removed-faces : (fs : List Ring) → every isFace (removed fs) ≡ true
 unfolding removed
 removed-faces fs = every-pushed isFace (each pieces fs) (every-pieces isFace fs (λ r. pieces-sane r .faces))
-
-pub removed-sizes : (n : ℕ) (fs : List Ring) → every (λ (r : Ring). leb (length r) n) fs ≡ true → every (λ (r : Ring). leb (length r) n) (removed fs) ≡ true
-unfolding removed
-removed-sizes n fs e = every-pushed (λ (r : Ring). leb (length r) n) (each pieces fs) (sizes-pieces n fs e)
 
 -- its corners are corners of the given faces: whatever each of those passes, each of these passes
 pub removed-corners : (p : Corner → Bool) (fs : List Ring) → every (every p) fs ≡ true → every (every p) (removed fs) ≡ true

@@ -1,6 +1,6 @@
 -- Faces that are grouped as `push` does make an accepted mesh where each of them is in order. Assumes nothing.
-use mathlib.Core.Path.{_≡_, refl, sym, ap, _∙_}
-use mathlib.Core.Bool.{Bool, true, false, _&&_, _||_}
+use mathlib.Core.Path.{_≡_, sym, ap, _∙_}
+use mathlib.Core.Bool.{Bool, true, false, _&&_}
 use mathlib.Core.List.{List, [], _∷_, _++_, map}
 use Prim.Native.Nat.{ℕ, _*_, _%_, _≤_, _<_}
 use native.Mathlib.Omega.{arith}
@@ -9,9 +9,11 @@ use lib.Dec.{leb}
 use lib.Ieee.{Float}
 use borrow.Author.Tests.{leb-true}
 use Rattle.lists.specs.Lists.{every, some, only, joined, each}
-use Rattle.lists.proofs.Bools.{and-left, and-right, or-neither, or-false-left, or-false-right, by-cases}
-use Rattle.lists.proofs.Parts.{every-append, some-append, every-at, joined-append}
-use Rattle.mesh.specs.Mesh.{Mesh, Corner, Ring, meshOf, threes}
+use Rattle.lists.proofs.Bools.{and-left, and-right, by-cases}
+use Rattle.lists.proofs.Counting.{clash}
+use Rattle.lists.proofs.Only.{some-only}
+use Rattle.lists.proofs.Parts.{some-append, every-at, each-joined, every-joined, some-joined}
+use Rattle.mesh.specs.Mesh.{Mesh, Ring, meshOf, threes}
 use Rattle.mesh.specs.Table.{meshNumber, astray, astrayAt, ungrouped}
 use Rattle.mesh.proofs.Corners.{isCorner, threes-joined}
 use Rattle.mesh.proofs.Faces.{isRing}
@@ -23,35 +25,19 @@ use Rattle.grouping.proofs.Pushed.{every-pushed, pushed-corners, pushed
 
 -- ---- faces written flat, corner by corner
 
-pub every-joined : (p : Corner → Bool) (fs : List Ring) → every p (joined fs) ≡ every (every p) fs
-every-joined p [] = refl
-every-joined p (r ∷ fs) = every-append p r (joined fs) ∙ ap (λ (t : Bool). every p r && t) (every-joined p fs)
-
-flat-twice : (fs : List Ring) → each joined fs ≡ joined (joined fs)
-flat-twice [] = refl
-flat-twice (r ∷ fs) = ap (λ (l : List ℕ). joined r ++ l) (flat-twice fs) ∙ sym (joined-append r (joined fs))
-
 -- the corners of faces that are written flat are the faces' corners
 pub threes-flat : (fs : List Ring) → every isRing fs ≡ true → threes (each joined fs) ≡ joined fs
-threes-flat fs e = ap threes (flat-twice fs) ∙ threes-joined (joined fs) (every-joined isCorner fs ∙ e)
-
-pub some-joined : (p : Corner → Bool) (fs : List Ring) → some p (joined fs) ≡ some (some p) fs
-some-joined p [] = refl
-some-joined p (r ∷ fs) = some-append p r (joined fs) ∙ ap (λ (t : Bool). some p r || t) (some-joined p fs)
+threes-flat fs e = ap threes (each-joined fs) ∙ threes-joined (joined fs) (every-joined isCorner fs ∙ e)
 
 -- what no face has, none that is left has
-some-only : (q : Ring → Bool) (p : Ring → Bool) (fs : List Ring) → some p fs ≡ false → some p (only q fs) ≡ false
-some-only q p [] e = refl
-some-only q p (r ∷ fs) e =
-    by-cases (q r)
-    (λ t. rw t (or-neither (p r) (some p (only q fs)) (or-false-left (p r) (some p fs) e) (some-only q p fs (or-false-right (p r) (some p fs) e))))
-    (λ t. rw t (some-only q p fs (or-false-right (p r) (some p fs) e)))
+none-left : (q : Ring → Bool) (p : Ring → Bool) (fs : List Ring) → some p fs ≡ false → some p (only q fs) ≡ false
+none-left q p fs e = by-cases (some p (only q fs)) (λ t. clash (some-only q p fs t) e) (λ t. t)
 
 some-pushed : (p : Ring → Bool) (fs : List Ring) → some p fs ≡ false → some p (pushed fs) ≡ false
 unfolding pushed
 some-pushed p fs e =
     some-append p (only isTriangle fs ++ only isQuadrangle fs) (only isLarger fs)
-    ∙ rw (some-append p (only isTriangle fs) (only isQuadrangle fs), some-only isTriangle p fs e, some-only isQuadrangle p fs e, some-only isLarger p fs e)
+    ∙ rw (some-append p (only isTriangle fs) (only isQuadrangle fs), none-left isTriangle p fs e, none-left isQuadrangle p fs e, none-left isLarger p fs e)
 
 -- ---- a face in order has from 3 to 32 corners
 

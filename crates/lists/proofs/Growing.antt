@@ -1,12 +1,12 @@
 -- A list that is being written: what stands there, with what is left written behind it, is the whole. Assumes nothing.
 use mathlib.Core.Path.{_≡_, refl, sym, ap, _∙_}
-use mathlib.Core.List.{List, [], _∷_, _++_, append-nil}
+use mathlib.Core.List.{List, [], _∷_, _++_}
 use Prim.Native.Nat.{ℕ, suc, _+_, _≤_}
 use native.Mathlib.Numerals.{add-one}
 use native.Mathlib.Omega.{arith}
-use lib.ListN.{length, set, length-append, length-set, drop-of-length-le}
+use lib.ListN.{length, set, length-append, length-set}
 use lib.Seq.{sets, length-sets}
-use Rattle.lists.proofs.Writing.{sets-append, sets-front}
+use Rattle.lists.proofs.Writing.{sets-append}
 
 -- l₀ is to have `all` from b on; l is as it stands now, and `left` is still to be written, from `at` on
 pub record Growing {A : Type 0} (l₀ l : List A) (b at : ℕ) (all left : List A) : Type 0 where
@@ -41,10 +41,3 @@ module _ {A : Type 0} where
   -- there is room for what is left
   pub grow-room : (l₀ l : List A) (b at : ℕ) (all left : List A) → b + length all ≤ length l₀ → Growing l₀ l b at all left → at + length left ≤ length l
   grow-room l₀ l b at all left h g = omega (arith, g .place, g .long)
-
-  -- a list as long as what is written to it from 0 on is that
-  pub sets-all : (l vs : List A) → length vs ≡ length l → sets l 0 vs ≡ vs
-  sets-all l vs h =
-      sets-front l vs (omega arith)
-      ∙ ap (λ (t : List A). vs ++ t) (drop-of-length-le l {i = length vs} (omega arith))
-      ∙ append-nil vs

@@ -2,6 +2,8 @@ pub mod Alike
 pub mod Bools
 pub mod Buckets
 pub mod Cases
+pub mod Chains
+pub mod Classes
 pub mod Copies
 pub mod Counting
 pub mod Growing

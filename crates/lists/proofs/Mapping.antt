@@ -1,8 +1,8 @@
 -- `map` beside `each`, `only`, `lastOf` and `span`: a list for each of the elements' values is a list for each of the elements,
 -- and so on; and what `some` and `count` say of a list that a test has cut. Assumes nothing.
-use mathlib.Core.Path.{_≡_, refl, sym, ap, _∙_, fun-ext}
+use mathlib.Core.Path.{_≡_, refl, sym, ap, ap₂, _∙_, fun-ext}
 use mathlib.Core.Bool.{Bool, true, false, _&&_}
-use mathlib.Core.List.{List, [], _∷_, _++_, map}
+use mathlib.Core.List.{List, [], _∷_, _++_, map, map-append}
 use Prim.Native.Nat.{ℕ, suc, _<_}
 use native.Mathlib.Omega.{arith}
 use lib.ListN.{length, getD}
@@ -12,15 +12,11 @@ use Rattle.lists.proofs.Buckets.{length-only, only-only, table-ext}
 use Rattle.lists.proofs.Parts.{each-append}
 
 module _ {A B : Type 0} (f : A → B) where
-  pub map-append : (a b : List A) → map f (a ++ b) ≡ map f a ++ map f b
-  map-append [] b = refl
-  map-append (x ∷ a) b = ap (λ (l : List B). f x ∷ l) (map-append a b)
-
   pub every-map : (p : B → Bool) (l : List A) → every p (map f l) ≡ every (λ a. p (f a)) l
   every-map p [] = refl
   every-map p (x ∷ l) = ap (λ (b : Bool). p (f x) && b) (every-map p l)
 
-  map-keep : (b : Bool) (x : A) (l : List A) → map f (keepIf b x l) ≡ keepIf b (f x) (map f l)
+  pub map-keep : (b : Bool) (x : A) (l : List A) → map f (keepIf b x l) ≡ keepIf b (f x) (map f l)
   map-keep true x l = refl
   map-keep false x l = refl
 
@@ -55,6 +51,12 @@ module _ {A B C : Type 0} where
   pub each-each : (g : B → List C) (f : A → List B) (l : List A) → each g (each f l) ≡ each (λ a. each g (f a)) l
   each-each g f [] = refl
   each-each g f (x ∷ l) = each-append g (f x) (each f l) ∙ ap (λ (t : List C). each g (f x) ++ t) (each-each g f l)
+
+-- two functions that agree on what stands in a list change it alike
+pub map-same : {A B : Type 0} (f g : A → B) (d : A) (l : List A) → ((k : ℕ) → k < length l → f (getD l k d) ≡ g (getD l k d)) → map f l ≡ map g l
+map-same f g d [] h = refl
+map-same f g d (x ∷ l) h =
+    ap₂ _∷_ (h 0 (omega arith)) (map-same f g d l (λ k n. h (suc k) (let e : k < length l = n in omega arith)))
 
 -- what stands at 0, 1, .. is the list
 pub map-span : {A : Type 0} (d : A) (l : List A) → map (λ i. getD l i d) (span 0 (length l)) ≡ l

@@ -71,10 +71,28 @@ once-append s t a b h x =
     (λ p. let z : count (eqb x) s ≡ 0 = count-none (eqb x) s (h x p) in omega arith)
     (λ p. let z : count (eqb x) t ≡ 0 = count-none (eqb x) t p in omega arith)
 
+-- a number stands in one of two lists, and what stands in the second stands there once
+pub once-apart : {A : Type 0} (x : ℕ) (s t : List ℕ) → Once (s ++ t) → In x s → In x t → A
+once-apart x s t o p q =
+    let a : count (eqb x) (s ++ t) ≤ 1 = o x in
+    let b : 0 < count (eqb x) s = count-some (eqb x) s p in
+    let c : 0 < count (eqb x) t = count-some (eqb x) t q in
+    absurd (omega (arith, count-append (eqb x) s t))
+
+pub once-rear : (s t : List ℕ) → Once (s ++ t) → Once t
+once-rear s t o x = let a : count (eqb x) (s ++ t) ≤ 1 = o x in omega (arith, count-append (eqb x) s t)
+
 pub once-one : (y : ℕ) → Once (y ∷ [])
 once-one y x = count-length (eqb x) (y ∷ [])
 
--- a number that is not there comes in
+-- a number that is not there comes in, in front of the list or behind it
+pub once-cons : (y : ℕ) (l : List ℕ) → has y l ≡ false → Once l → Once (y ∷ l)
+once-cons y l n o x =
+    by-cases
+    (eqb x y)
+    (λ e. let z : count (eqb x) l ≡ 0 = count-none (eqb x) l (ap (λ (k : ℕ). has k l) (eqb-true x y e) ∙ n) in rw e (omega arith))
+    (λ e. rw e (o x))
+
 pub once-snoc : (l : List ℕ) (y : ℕ) → Once l → has y l ≡ false → Once (l ++ (y ∷ []))
 once-snoc l y o n = once-append l (y ∷ []) o (once-one y) (λ x p. subst (λ z. has z l ≡ false) (sym (in-one x y p)) n)
 

@@ -1,14 +1,14 @@
 -- Laws of `only`: of two lists, of a first part, of a test that every element passes. Assumes nothing.
 use mathlib.Core.Path.{_≡_, refl, sym, ap, _∙_}
-use mathlib.Core.Bool.{Bool, true, false}
+use mathlib.Core.Bool.{Bool, true, false, _||_}
 use mathlib.Core.List.{List, [], _∷_, _++_}
 use Prim.Native.Nat.{ℕ, suc, _+_, _≤_, _<_}
 use native.Mathlib.Numerals.{add-one}
 use native.Mathlib.Omega.{arith}
 use lib.ListN.{length, getD, take, drop, take-append-drop}
 use lib.Seq.{take-suc}
-use Rattle.lists.specs.Lists.{only, keepIf, every}
-use Rattle.lists.proofs.Bools.{and-left, and-right, and-both, by-cases}
+use Rattle.lists.specs.Lists.{only, keepIf, some, every}
+use Rattle.lists.proofs.Bools.{and-left, and-right, and-both, or-left, or-right, by-cases}
 
 module _ {A : Type 0} (p : A → Bool) where
   keep-append : (b : Bool) (x : A) (s t : List A) → keepIf b x (s ++ t) ≡ keepIf b x s ++ t
@@ -34,6 +34,15 @@ module _ {A : Type 0} (p : A → Bool) where
       go : (b : Bool) → length (only p l) ≤ length l → length (keepIf b x (only p l)) ≤ suc (length l)
       go true h = omega arith
       go false h = omega arith
+
+  -- what one that is left passes, some pass
+  pub some-only : (q : A → Bool) (l : List A) → some q (only p l) ≡ true → some q l ≡ true
+  some-only q [] h = h
+  some-only q (x ∷ l) h = go (p x) h (some-only q l)
+    where
+      go : (b : Bool) → some q (keepIf b x (only p l)) ≡ true → (some q (only p l) ≡ true → some q l ≡ true) → (q x || some q l) ≡ true
+      go true h i = by-cases (q x) (λ e. or-left (q x) (some q l) e) (λ e. or-right (q x) (some q l) (i (rw e at h)))
+      go false h i = or-right (q x) (some q l) (i h)
 
   -- what every element passes, every one that is left passes
   pub every-only : (q : A → Bool) (l : List A) → every q l ≡ true → every q (only p l) ≡ true

@@ -1,12 +1,12 @@
 -- Laws of `sum`, `some`, `every`, `joined` and `each`, over what is done and what is left. Assumes nothing.
 use mathlib.Core.Path.{_≡_, refl, sym, ap, _∙_}
 use mathlib.Core.Bool.{Bool, true, false, _&&_, _||_, or-assoc, and-assoc}
-use mathlib.Core.List.{List, [], _∷_, _++_, append-assoc, map}
+use mathlib.Core.List.{List, [], _∷_, _++_, append-assoc, append-nil, map}
 use Prim.Native.Nat.{ℕ, zero, suc, _+_, _≤_, _<_}
 use native.Mathlib.Nat.{le-of-suc-le-suc, not-suc-le-zero}
 use native.Mathlib.Numerals.{add-one}
 use native.Mathlib.Omega.{arith}
-use lib.ListN.{length, getD, take, drop, length-append}
+use lib.ListN.{length, getD, take, drop, length-append, take-append-drop}
 use lib.Seq.{take-suc, drop-cons, drop-length}
 use Rattle.lists.specs.Lists.{some, every, joined, each, sum}
 use Rattle.lists.proofs.Bools.{and-left, and-right, and-both, or-false-left, or-false-right, or-left, or-right}
@@ -71,6 +71,16 @@ module _ {A : Type 0} (p : A → Bool) where
   every-at d (x ∷ l) zero e h = and-left (p x) (every p l) e
   every-at d (x ∷ l) (suc k) e h = every-at d l k (and-right (p x) (every p l) e) (le-of-suc-le-suc h)
 
+  -- what none passes, none of the first passes, and none of the rest
+  some-halves : (k : ℕ) (l : List A) → some p l ≡ false → (some p (take k l) || some p (drop k l)) ≡ false
+  some-halves k l h = sym (some-append (take k l) (drop k l)) ∙ ap (some p) (take-append-drop k l) ∙ h
+
+  pub some-take : (k : ℕ) (l : List A) → some p l ≡ false → some p (take k l) ≡ false
+  some-take k l h = or-false-left (some p (take k l)) (some p (drop k l)) (some-halves k l h)
+
+  pub some-drop : (k : ℕ) (l : List A) → some p l ≡ false → some p (drop k l) ≡ false
+  some-drop k l h = or-false-right (some p (take k l)) (some p (drop k l)) (some-halves k l h)
+
   -- what every element passes, the first of them pass, and the rest
   pub every-take : (k : ℕ) (l : List A) → every p l ≡ true → every p (take k l) ≡ true
   every-take zero l h = refl
@@ -114,6 +124,24 @@ module _ {A : Type 0} where
   pub joined-append : (a b : List (List A)) → joined (a ++ b) ≡ joined a ++ joined b
   joined-append [] b = refl
   joined-append (x ∷ a) b = ap (λ (l : List A). x ++ l) (joined-append a b) ∙ sym (append-assoc x (joined a) (joined b))
+
+  -- one list more behind
+  pub joined-snoc : (ls : List (List A)) (l : List A) → joined (ls ++ (l ∷ [])) ≡ joined ls ++ l
+  joined-snoc ls l = joined-append ls (l ∷ []) ∙ ap (λ (t : List A). joined ls ++ t) (append-nil l)
+
+  -- lists of lists of lists: the inner ones first, or the outer ones
+  pub each-joined : (ls : List (List (List A))) → each joined ls ≡ joined (joined ls)
+  each-joined [] = refl
+  each-joined (l ∷ ls) = ap (λ (t : List A). joined l ++ t) (each-joined ls) ∙ sym (joined-append l (joined ls))
+
+  -- a test over all is the test over each
+  pub every-joined : (p : A → Bool) (ls : List (List A)) → every p (joined ls) ≡ every (every p) ls
+  every-joined p [] = refl
+  every-joined p (l ∷ ls) = every-append p l (joined ls) ∙ ap (λ (t : Bool). every p l && t) (every-joined p ls)
+
+  pub some-joined : (p : A → Bool) (ls : List (List A)) → some p (joined ls) ≡ some (some p) ls
+  some-joined p [] = refl
+  some-joined p (l ∷ ls) = some-append p l (joined ls) ∙ ap (λ (t : Bool). some p l || t) (some-joined p ls)
 
   -- the length of all is the sum of the lengths
   pub length-joined : (ls : List (List A)) → length (joined ls) ≡ sum (map length ls)

@@ -6,3 +6,4 @@ pub mod Numbers
 pub mod Corners
 pub mod Scaling
 pub mod Whole
+pub mod Joined

@@ -1,6 +1,6 @@
 -- Each point of a group is sent to the representative, one after the other. Assumes nothing.
 use mathlib.Core.Path.{_≡_, refl, sym, ap, _∙_, subst}
-use mathlib.Core.Bool.{Bool, true, false, _||_}
+use mathlib.Core.Bool.{Bool, true, false, _||_, or-false}
 use mathlib.Core.List.{List, [], _∷_, _++_}
 use Prim.Native.Nat.{ℕ, zero, suc, _+_, _≤_, _<_}
 use native.Mathlib.Omega.{arith}
@@ -53,11 +53,7 @@ module _ (w n : ℕ) (s : List Float) (order : List ℕ) (from to : ℕ) (g : Gr
     own-more j l e =
         by-cases (eqb j here)
         (λ t. ap (λ (x : ℕ). getD (set map' here rep) x 0) (eqb-true j here t) ∙ getD-set-same map' here rep 0 inside)
-        (λ t. getD-set-other map' here j rep 0 (eqb-false j here t) ∙ i .own j l (sym (ap (λ (b : Bool). has j (slice from k order) || (b || false)) t ∙ none (has j (slice from k order))) ∙ sym (one-more j) ∙ e))
-      where
-        none : (b : Bool) → (b || false) ≡ b
-        none true = refl
-        none false = refl
+        (λ t. getD-set-other map' here j rep 0 (eqb-false j here t) ∙ i .own j l (sym (ap (λ (b : Bool). has j (slice from k order) || (b || false)) t ∙ or-false (has j (slice from k order))) ∙ sym (one-more j) ∙ e))
 
     others-more : (j : ℕ) → has j (slice from (k + 1) order) ≡ false → getD (set map' here rep) j 0 ≡ getD map j 0
     others-more j e =

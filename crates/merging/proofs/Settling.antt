@@ -1,7 +1,7 @@
 -- The groups of a list, one after the other: where each point is sent, when the points below i are settled. Assumes nothing.
 use mathlib.Core.Path.{_≡_, refl, sym, ap, _∙_, subst}
-use mathlib.Core.Bool.{Bool, true, false, _||_}
-use mathlib.Core.List.{List, [], _∷_, _++_, append-nil}
+use mathlib.Core.Bool.{Bool, true, false, _||_, or-false}
+use mathlib.Core.List.{List, [], _∷_, _++_}
 use Prim.Native.Nat.{ℕ, zero, suc, _+_, _*_, _≤_, _<_, min}
 use native.Mathlib.Omega.{arith}
 use native.Mathlib.Numerals.{add-one}
@@ -12,7 +12,7 @@ use lib.Ieee.{Float}
 use borrow.Author.Tests.{eqb-true, eqb-false, ltb-true, ltb-false}
 use Rattle.lists.specs.Lists.{some, has, joined}
 use Rattle.lists.proofs.Bools.{by-cases, true-false, or-false-left, or-false-right}
-use Rattle.lists.proofs.Parts.{some-append, joined-append}
+use Rattle.lists.proofs.Parts.{some-append, joined-snoc}
 use Rattle.nearby.specs.Walk.{groupFrom, groupsBelow, unlessHas, groups}
 use Rattle.nearby.specs.Engine.{Taken, Listed, Starts, Walked}
 use Rattle.nearby.proofs.Counting.{count-le}
@@ -31,9 +31,6 @@ module _ (r : ℕ → ℕ → Bool) (n k : ℕ) where
   new-group : has k (joined (groupsBelow r n k)) ≡ false → groupsBelow r n (k + 1) ≡ groupsBelow r n k ++ (groupFrom r n (joined (groupsBelow r n k)) k ∷ [])
   unfolding groupsBelow
   new-group e = rw (add-one, e)
-
-joined-snoc : (gs : List (List ℕ)) (g : List ℕ) → joined (gs ++ (g ∷ [])) ≡ joined gs ++ g
-joined-snoc gs g = joined-append gs (g ∷ []) ∙ ap (λ (l : List ℕ). joined gs ++ l) (append-nil g)
 
 -- ---- where a point is sent
 
@@ -148,13 +145,9 @@ module _ {r : ℕ → ℕ → Bool} {w : ℕ} {s : List Float} {n : ℕ} {map₀
         (λ t.
         let z : slice taken end order' ≡ [] = nothing taken end order' (ltb-false taken end t) in
         let e : true ≡ has i (joined gs) =
-        sym (v .lowest i (omega arith)) ∙ flag-more i l ∙ ap (λ (q : List ℕ). has i (joined gs) || has i q) (sym group-is ∙ z) ∙ or-none (has i (joined gs)) in
+        sym (v .lowest i (omega arith)) ∙ flag-more i l ∙ ap (λ (q : List ℕ). has i (joined gs) || has i q) (sym group-is ∙ z) ∙ or-false (has i (joined gs)) in
         true-false (e ∙ sym (has-flag i l) ∙ new))
       where
-        or-none : (b : Bool) → (b || false) ≡ b
-        or-none true = refl
-        or-none false = refl
-
         nothing : (f t : ℕ) (q : List ℕ) → t ≤ f → drop f (take t q) ≡ []
         nothing f t q h = drop-of-length-le (take t q) {i = f} (let e : length (take t q) ≡ min t (length q) = length-take t q in omega arith)
 

@@ -1,8 +1,8 @@
 -- The whole call, on a mesh that earns 0: each part is ready, and what the parts leave is what document 01 says. Assumes nothing.
-use mathlib.Core.Path.{_≡_, refl, sym, ap, _∙_, subst}
+use mathlib.Core.Path.{_≡_, sym, ap, _∙_, subst}
 use mathlib.Core.Bool.{Bool, true, false}
-use mathlib.Core.List.{List, [], _∷_, map}
-use Prim.Native.Nat.{ℕ, zero, suc, _+_, _*_, _/_, _%_, _≤_, _<_}
+use mathlib.Core.List.{List, [], map}
+use Prim.Native.Nat.{ℕ, _+_, _*_, _/_, _%_, _≤_, _<_}
 use native.Mathlib.Nat.{not-suc-le-zero, le-of-suc-le-suc}
 use native.Mathlib.Omega.{arith}
 use lib.Dec.{eqb, lit≤}
@@ -12,9 +12,11 @@ use lib.Ieee.{Float}
 use borrow.Author.Tests.{eqb-false}
 use Rattle.lists.specs.Lists.{joined}
 use Rattle.lists.proofs.Bools.{by-cases}
+use Rattle.lists.proofs.Mapping.{map-same}
 use Rattle.mesh.specs.Mesh.{Mesh, Corner, missing, threes, cornerAt, positionCount, textureCount, normalCount}
 use Rattle.mesh.specs.Table.{after}
 use Rattle.mesh.proofs.Accepted.{Accepted, Found, accepted}
+use Rattle.mesh.proofs.After.{after-refused}
 use Rattle.mesh.proofs.Corners.{length-threes, getD-threes}
 use Rattle.floating.specs.Scaling.{scaledList}
 use Rattle.nearby.specs.Pairs.{comparedPairs}
@@ -23,10 +25,6 @@ use Rattle.merging.specs.Merging.{mergeNumber, mergedTo, unlessMissing, 
 use Rattle.merging.specs.Working.{Mergeable, Settled, Scalable, sentCorner, Indexed}
 use Rattle.merging.specs.declared.Merged.{Merged}
 use Rattle.merging.proofs.Numbers.{Clear, clear}
-
-map-same : {A B : Type 0} (f g : A → B) (d : A) (l : List A) → ((k : ℕ) → k < length l → f (getD l k d) ≡ g (getD l k d)) → map f l ≡ map g l
-map-same f g d [] h = refl
-map-same f g d (x ∷ l) h = rw (h 0 (omega arith), map-same f g d l (λ k e. h (suc k) (let z : k < length l = e in omega arith)))
 
 -- an index by a map, and by what the map says
 sent-same : (f g : ℕ → ℕ) (n i : ℕ) → ((i ≡ missing → ⊥) → i < n) → ((k : ℕ) → k < n → f k ≡ g k) → unlessMissing f i ≡ unlessMissing g i
@@ -45,12 +43,8 @@ refused m t out n e h = record {
   corners = sym (old (sets out 0 (mergedCorners m t)) out);
 }
   where
-    stays : {A : Type 0} (k : ℕ) (x y : A) → (k ≡ 0 → ⊥) → after k x y ≡ y
-    stays zero x y z = absurd (z refl)
-    stays (suc k) x y z = refl
-
     old : {A : Type 0} (x y : A) → after (mergeNumber m t (length out)) x y ≡ y
-    old x y = stays (mergeNumber m t (length out)) x y (λ z. h (e ∙ z))
+    old x y = after-refused (mergeNumber m t (length out)) x y (λ z. h (e ∙ z))
 
 module _ (m : Mesh) (t : Float) (out : List ℕ) (earns : mergeNumber m t (length out) ≡ 0) where
   c : Clear m t (length out)

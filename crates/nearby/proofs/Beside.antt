@@ -1,6 +1,6 @@
 -- The cells of two points, axis by axis, at a width of 2 or 3. Assumes nothing.
-use mathlib.Core.Path.{_≡_, refl, sym, ap, _∙_, subst}
-use mathlib.Core.Bool.{Bool, true, false, _&&_}
+use mathlib.Core.Path.{_≡_, sym, ap, _∙_, subst}
+use mathlib.Core.Bool.{Bool, true, false, _&&_, and-true}
 use mathlib.Core.List.{List, [], _∷_}
 use Prim.Native.Nat.{ℕ, zero, suc, _+_, _*_, _≤_, _<_, _^_}
 use native.Mathlib.Omega.{arith}
@@ -66,8 +66,4 @@ module _ (w n : ℕ) (cells : List ℕ) (g : Points w n cells) (i j : ℕ) (p : 
   both-two d e k = sym (at-two k ∙ rw (d, e))
 
   pub by-third : first ≡ true → second ≡ true → (w ≡ 2 → ⊥) → third ≡ besideAt w cells i j
-  by-third d e k = sym (at-three (three w k (g .least) (g .most)) ∙ rw (d, e) (last third))
-    where
-      last : (b : Bool) → (b && true) ≡ b
-      last true = refl
-      last false = refl
+  by-third d e k = sym (at-three (three w k (g .least) (g .most)) ∙ rw (d, e) (and-true third))

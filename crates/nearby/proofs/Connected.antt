@@ -19,8 +19,8 @@ use Rattle.lists.proofs.Others.{has-every, once-head}
 use Rattle.nearby.specs.Pairs.{nearAt}
 use Rattle.nearby.specs.Walk.{unlessHas, groupFrom, groupsBelow, groups}
 use Rattle.nearby.proofs.Both.{near-both}
-use Rattle.nearby.proofs.Chains.{Reach}
-use Rattle.nearby.proofs.Classes.{together, classes-shut, Ended, Parted, parted-none, parted-same, parted-more, together-reach, reach-together}
+use Rattle.lists.proofs.Chains.{Reach}
+use Rattle.lists.proofs.Classes.{together, Ended, Parted, parted-none, parted-same, parted-more, together-reach, reach-together}
 use Rattle.nearby.proofs.Reaching.{Near, group-first, group-ended}
 
 -- the first of a group is below all others

@@ -9,7 +9,7 @@ use Rattle.lists.specs.Numbers.{countBelow}
 use Rattle.lists.proofs.Numbers.{count-below-step}
 use Rattle.nearby.specs.Pairs.{pairs}
 
-bump-le : (b : Bool) (n : ℕ) → bump b n ≤ suc n
+pub bump-le : (b : Bool) (n : ℕ) → bump b n ≤ suc n
 bump-le true n = omega arith
 bump-le false n = omega arith
 

@@ -1,7 +1,7 @@
 -- The points that are taken, as a list and as flags: one more of both. Assumes nothing.
 use mathlib.Core.Path.{_≡_, refl, sym, ap, _∙_}
 use mathlib.Core.Logic.{_≢_}
-use mathlib.Core.Bool.{Bool, true, false, _||_}
+use mathlib.Core.Bool.{Bool, true, false}
 use mathlib.Core.List.{List, [], _∷_, _++_}
 use Prim.Native.Nat.{ℕ, zero, suc, _+_, _≤_, _<_}
 use native.Mathlib.Omega.{arith}
@@ -11,12 +11,12 @@ use lib.ListN.{length, getD, set, take, length-set, replicate, length-replicate,
 use lib.Seq.{getD-set-same, getD-set-other, take-suc-set}
 use borrow.Author.Tests.{eqb-true, eqb-false, eq-eqb, ltb-true, ltb-false}
 use lib.Dec.{ltb}
-use Rattle.lists.specs.Lists.{bump, some, has}
+use Rattle.lists.specs.Lists.{bump, has}
 use Rattle.lists.specs.Numbers.{countBelow}
 use Rattle.lists.proofs.Bools.{by-cases}
-use Rattle.lists.proofs.Parts.{some-append}
+use Rattle.lists.proofs.Members.{has-snoc}
 use Rattle.nearby.specs.Engine.{Taken}
-use Rattle.nearby.proofs.Counting.{count-le}
+use Rattle.nearby.proofs.Counting.{bump-le, count-le}
 
 -- ---- counting
 
@@ -30,12 +30,8 @@ count-short p (suc n) j h e =
     (λ t.
     let ne : j ≡ n → ⊥ = eqb-false j n t in
     let a : countBelow p n < n = count-short p n j (let z : j < suc n = h in omega arith) e in
-    let b : bump (p n) (countBelow p n) ≤ suc (countBelow p n) = most (p n) (countBelow p n) in
+    let b : bump (p n) (countBelow p n) ≤ suc (countBelow p n) = bump-le (p n) (countBelow p n) in
     omega arith)
-  where
-    most : (b : Bool) (m : ℕ) → bump b m ≤ suc m
-    most true m = omega arith
-    most false m = omega arith
 
 count-same : (p q : ℕ → Bool) (n : ℕ) → ((k : ℕ) → k < n → q k ≡ p k) → countBelow q n ≡ countBelow p n
 unfolding countBelow
@@ -62,17 +58,6 @@ count-more p q (suc n) j h e f g =
 
 -- ---- one point more
 
-has-snoc : (k : ℕ) (xs : List ℕ) (j : ℕ) → has k (xs ++ (j ∷ [])) ≡ (has k xs || (eqb k j || false))
-has-snoc k xs j = some-append (eqb k) xs (j ∷ [])
-
-or-true : (b : Bool) → (b || true) ≡ true
-or-true true = refl
-or-true false = refl
-
-or-false : (b : Bool) → (b || false) ≡ b
-or-false true = refl
-or-false false = refl
-
 module _ (n : ℕ) (order : List ℕ) (seen : List Bool) (c j : ℕ) (g : Taken n order seen c) (small : j < n) (new : getD seen j false ≡ false) where
   abbrev flag : List Bool → ℕ → Bool
   flag l k = getD l k false
@@ -96,10 +81,10 @@ module _ (n : ℕ) (order : List ℕ) (seen : List Bool) (c j : ℕ) (g : Taken 
       (by-cases (eqb k j)
       (λ t.
       rw t
-      (ap (flag (set seen j true)) (eqb-true k j t) ∙ getD-set-same seen j true false in-seen ∙ sym (or-true (has k (take c order)))))
+      (ap (flag (set seen j true)) (eqb-true k j t) ∙ getD-set-same seen j true false in-seen))
       (λ t.
       rw t
-      (getD-set-other seen j k true false (eqb-false k j t) ∙ g .flags k l ∙ sym (or-false (has k (take c order))))))
+      (getD-set-other seen j k true false (eqb-false k j t) ∙ g .flags k l)))
 
   within-more : (k : ℕ) → k < c + 1 → getD (set order c j) k 0 < n
   within-more k l =

@@ -1,6 +1,6 @@
 -- Whether a point is near another and not taken, test by test; and the search for the highest such point. Assumes nothing.
 use mathlib.Core.Path.{_≡_, refl, sym, ap, _∙_}
-use mathlib.Core.Bool.{Bool, true, false, not, _&&_}
+use mathlib.Core.Bool.{Bool, true, false, not, _&&_, and-true}
 use mathlib.Core.List.{List}
 use Prim.Native.Nat.{ℕ, suc, _+_, _-_, _*_, _≤_, _<_}
 use native.Mathlib.Omega.{arith}
@@ -33,11 +33,7 @@ module _ (t : Float) (w : ℕ) (s : List Float) (cells : List ℕ) (seen : List 
 
   pub by-distance : besideAt w cells i j ≡ true → getD seen j false ≡ false → (p q : Point) (d : Float) → leading w p ≡ row w s i → leading w q ≡ row w s j → d ≡ squared (leading w p) (leading w q) → lt d (mul binary64 t t) ≡ fresh t w s cells seen i j
   unfolding fresh
-  by-distance e f p q d a b c = rw (e, f) (ap (λ (x : Float). lt x (mul binary64 t t)) (c ∙ ap (λ (l : List Float). squared l (leading w q)) a ∙ ap (squared (row w s i)) b) ∙ last close)
-    where
-      last : (b : Bool) → b ≡ (b && true)
-      last true = refl
-      last false = refl
+  by-distance e f p q d a b c = rw (e, f) (ap (λ (x : Float). lt x (mul binary64 t t)) (c ∙ ap (λ (l : List Float). squared l (leading w q)) a ∙ ap (squared (row w s i)) b) ∙ sym (and-true close))
 
 -- what being fresh, or not, says of its two parts
 module _ (t : Float) (w : ℕ) (s : List Float) (cells : List ℕ) (seen : List Bool) (i j : ℕ) where

@@ -7,7 +7,5 @@ pub mod Frames
 pub mod Walking
 pub mod Laws
 pub mod Both
-pub mod Chains
-pub mod Classes
 pub mod Reaching
 pub mod Connected

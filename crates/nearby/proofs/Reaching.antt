@@ -19,8 +19,8 @@ use Rattle.lists.proofs.Members.{In, in-cases, in-left, in-right, in-append, in
 use Rattle.nearby.specs.Walk.{descending, Walk, at, walk, often, groupFrom}
 use Rattle.nearby.proofs.Counting.{count-le}
 use Rattle.nearby.proofs.Frames.{turn-old, turn-new, walk-ends}
-use Rattle.nearby.proofs.Chains.{Reach, here, reach-trans, reach-one}
-use Rattle.nearby.proofs.Classes.{Ended}
+use Rattle.lists.proofs.Chains.{Reach, here, reach-trans, reach-one}
+use Rattle.lists.proofs.Classes.{Ended}
 
 -- a and b are two of n points, and near
 abbrev pub Near : (ℕ → ℕ → Bool) → ℕ → ℕ → ℕ → Type 0

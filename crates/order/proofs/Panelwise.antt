@@ -13,7 +13,7 @@ use Rattle.lists.proofs.Alike.{some-alike, some-map}
 use Rattle.mesh.specs.Mesh.{Ring}
 use Rattle.edges.specs.Edges.{ringEdges}
 use Rattle.panels.specs.Panels.{Key, sameKey, keyOf, faceKeys, panels, together}
-use Rattle.panels.proofs.Chains.{Reach, here, step, reach-one}
+use Rattle.lists.proofs.Chains.{Reach, here, step, reach-one}
 use Rattle.panels.proofs.Sharing.{sameKey-refl, keyIn, Share, key-below}
 use Rattle.panels.proofs.Panelled.{together-share, share-together}
 use Rattle.order.specs.Same.{Turned, Matching}

@@ -1,4 +1,3 @@
-pub mod Chains
 pub mod Looking
 pub mod Parting
 pub mod Sharing

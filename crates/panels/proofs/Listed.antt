@@ -1,7 +1,7 @@
 -- The panels of the faces below i, one face more, and all of them. Assumes nothing.
 use mathlib.Core.Path.{_≡_, refl, sym, ap, ap₂, _∙_, subst}
 use mathlib.Core.Bool.{true, false}
-use mathlib.Core.List.{List, [], _∷_, _++_, append-nil, map}
+use mathlib.Core.List.{List, [], _∷_, _++_, map, map-append}
 use Prim.Native.Nat.{ℕ, zero, suc, _+_, _-_, _≤_, _<_}
 use native.Mathlib.Nat.{add-zero, zero-add}
 use native.Mathlib.Numerals.{add-one}
@@ -11,7 +11,7 @@ use lib.Seq.{sets, length-take-le, take-suc-set, drop-set-lt}
 use Rattle.lists.specs.Lists.{has, joined}
 use Rattle.lists.proofs.Bools.{by-cases}
 use Rattle.lists.proofs.Counting.{clash}
-use Rattle.lists.proofs.Parts.{joined-append}
+use Rattle.lists.proofs.Parts.{joined-snoc}
 use Rattle.lists.proofs.Writing.{sets-front}
 use Rattle.panels.specs.Panels.{Join, search′, panelsFrom}
 use Rattle.panels.specs.Joins.{joinsOf}
@@ -94,13 +94,6 @@ module _ (i f : ℕ) (joins : List ℕ) where
       ∙ panels-grow i 0 f (joinsOf joins) [] (ap (λ (k : ℕ). has k (joined (panelsBelow i f joins))) (zero-add i) ∙ h)
       ∙ ap (λ (k : ℕ). panelsBelow i f joins ++ (panelOf k f (joinsOf joins) (panelsBelow i f joins) ∷ [])) (zero-add i)
 
-map-snoc : (ps : List (List ℕ)) (p : List ℕ) → map length (ps ++ (p ∷ [])) ≡ map length ps ++ (length p ∷ [])
-map-snoc [] p = refl
-map-snoc (q ∷ ps) p = ap (λ (l : List ℕ). length q ∷ l) (map-snoc ps p)
-
-joined-snoc : (ps : List (List ℕ)) (p : List ℕ) → joined (ps ++ (p ∷ [])) ≡ joined ps ++ p
-joined-snoc ps p = joined-append ps (p ∷ []) ∙ ap (λ (l : List ℕ). joined ps ++ l) (append-nil p)
-
 module _ (i : ℕ) (joins ends seen stack flat lengths : List ℕ) (n k : ℕ) (r : Panelling i joins ends seen stack flat lengths n k) (h : i < length ends) where
   listed-is : has i (joined (panelsBelow i (length ends) joins)) ≡ has i (take n flat)
   listed-is = ap (has i) (sym (r .faces))
@@ -148,7 +141,7 @@ module _ (i : ℕ) (joins ends seen stack flat lengths : List ℕ) (n k : ℕ) (
           ap (λ (j : ℕ). take j (set lengths k (m - n))) (add-one k)
           ∙ take-suc-set lengths k (m - n) panel-room
           ∙ ap₂ (λ (l : List ℕ) (v : ℕ). l ++ (v ∷ [])) (r .sizes) size
-          ∙ sym (map-snoc (panelsBelow i (length ends) joins) (panelOf i (length ends) (joinsOf joins) (panelsBelow i (length ends) joins)))
+          ∙ sym (map-append length (panelsBelow i (length ends) joins) (panelOf i (length ends) (joinsOf joins) (panelsBelow i (length ends) joins) ∷ []))
           ∙ ap (map length) (sym grown);
       few = let a : k ≤ i = r .few in omega arith;
       room = let a : length (set lengths k (m - n)) ≡ length lengths = lib.ListN.length-set lengths k (m - n) in let b : length ends ≤ length lengths = r .room in omega arith;

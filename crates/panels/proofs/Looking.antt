@@ -10,10 +10,11 @@ use lib.Dec.{eqb}
 use lib.ListN.{length}
 use Rattle.lists.specs.Lists.{has, keepIf}
 use Rattle.lists.proofs.Cases.{or-parts, or-swap}
+use Rattle.lists.proofs.Chains.{Reach, here, reach-trans, reach-one}
+use Rattle.lists.proofs.Classes.{Ended}
 use Rattle.lists.proofs.Counting.{clash, or-either}
 use Rattle.lists.proofs.Members.{In, in-cases, in-head, in-tail, in-left, in-one, in-snoc, in-last, has-keep, Once, once-one, once-snoc, free, free-none, free-snoc}
 use Rattle.panels.specs.Panels.{Join, neighbours, look, search′}
-use Rattle.panels.proofs.Chains.{Reach, here, step, reach-trans, reach-one}
 
 -- ---- faces that a recorded join makes neighbours
 
@@ -132,13 +133,6 @@ pub record Searching (js : List Join) (old : List ℕ) (i : ℕ) (stack seen : L
   pub once : Once seen
   pub closed : (x : ℕ) → In x seen → In x stack ⊎ ((y : ℕ) → Beside js x y → In y old ⊎ In y seen)
 
--- the search that has ended: the faces connected to i, each once, and no other
-pub record Searched (js : List Join) (old : List ℕ) (i : ℕ) (seen : List ℕ) : Type 0 where
-  pub connected : (x : ℕ) → In x seen → Reach (Beside js) i x
-  pub all : (x : ℕ) → Reach (Beside js) i x → In x seen
-  pub fresh : (x : ℕ) → In x seen → has x old ≡ false
-  pub once : Once seen
-
 module _ (js : List Join) (m : ℕ) (bound : (x y : ℕ) → Beside js x y → y < m) (old : List ℕ) (i : ℕ) where
   search-turns :
       (x : ℕ) (stack seen stack′ seen′ : List ℕ)
@@ -190,38 +184,26 @@ module _ (js : List Join) (m : ℕ) (bound : (x y : ℕ) → Beside js x y → y
       (search-turns x stack seen _ _ v r)
       (let w : _ = r .spent in omega arith)
 
-  -- what was listed before is closed under joins, and i is not in it
-  module _ (shut : (x y : ℕ) → In x old → Beside js x y → In y old) (out : has i old ≡ false) where
-    reached : (seen : List ℕ) → Searching js old i [] seen → {a x : ℕ} → In a seen → Reach (Beside js) a x → In x seen
-    reached seen v h (here p) = subst (λ w. In w seen) p h
-    reached seen v {a} h (step {b = b} r t) =
-        reached
-        seen
-        v
-        (⊎-elim
-        (λ p. clash p refl)
-        (λ p. ⊎-elim (λ o. clash (shut b a o (beside-sym js a b r)) (v .fresh a h)) (λ o. o) (p b r))
-        (v .closed a h))
-        t
-
-    pub searched : i < m → Searched js old i (search′ m js old (i ∷ []) (i ∷ []))
-    searched l =
-        let f : free m [] ≡ suc (free m ([] ++ (i ∷ []))) = free-snoc m i [] l refl in
-        let g : free m [] ≡ m = free-none m in
-        let v : Searching js old i [] (search′ m js old (i ∷ []) (i ∷ [])) = search-runs m (i ∷ []) (i ∷ []) begun (omega arith) in
-        record {
-          connected = v .connected;
-          all = λ x t. reached (search′ m js old (i ∷ []) (i ∷ [])) v (v .start) t;
-          fresh = v .fresh;
-          once = v .once;
-        }
-      where
-        begun : Searching js old i (i ∷ []) (i ∷ [])
-        begun = record {
-          start = in-head i [];
-          connected = λ z h. here (sym (in-one z i h));
-          fresh = λ z h. rw (in-one z i h) out;
-          listed = λ z h. h;
-          once = once-one i;
-          closed = λ z h. inl h;
-        }
+  -- it has ended: no panel before has i
+  pub searched : has i old ≡ false → i < m → Ended (Beside js) old i (search′ m js old (i ∷ []) (i ∷ []))
+  searched out l =
+      let f : free m [] ≡ suc (free m ([] ++ (i ∷ []))) = free-snoc m i [] l refl in
+      let g : free m [] ≡ m = free-none m in
+      let v : Searching js old i [] (search′ m js old (i ∷ []) (i ∷ [])) = search-runs m (i ∷ []) (i ∷ []) begun (omega arith) in
+      record {
+        start = v .start;
+        connected = v .connected;
+        fresh = v .fresh;
+        once = v .once;
+        closed = λ x y h a. ⊎-elim (λ p. clash p refl) (λ p. p y a) (v .closed x h);
+      }
+    where
+      begun : Searching js old i (i ∷ []) (i ∷ [])
+      begun = record {
+        start = in-head i [];
+        connected = λ z h. here (sym (in-one z i h));
+        fresh = λ z h. rw (in-one z i h) out;
+        listed = λ z h. h;
+        once = once-one i;
+        closed = λ z h. inl h;
+      }

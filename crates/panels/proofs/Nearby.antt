@@ -1,6 +1,6 @@
 -- The neighbours of a face, as the rules record them, are what its part of the row of entries stands for. Assumes nothing.
 use mathlib.Core.Path.{_≡_, refl, sym, ap, ap₂, _∙_, subst}
-use mathlib.Core.Bool.{Bool, true, false}
+use mathlib.Core.Bool.{Bool}
 use mathlib.Core.List.{List, [], _∷_, map}
 use Prim.Native.Nat.{ℕ, zero, suc, _+_, _*_, _-_, _%_, _≤_, _<_}
 use native.Mathlib.Nat.{add-zero}
@@ -9,10 +9,10 @@ use native.Mathlib.Omega.{arith}
 use lib.Dec.{eqb}
 use lib.ListN.{length, getD, drop}
 use lib.Seq.{slice, getD-drop, drop-drop}
-use borrow.Author.Tests.{eq-eqb, eqb-true}
 use Rattle.lists.specs.Lists.{keepIf, only, each, span}
-use Rattle.lists.proofs.Cases.{iff}
 use Rattle.lists.proofs.Buckets.{length-span, span-at, start, start-grows}
+use Rattle.lists.proofs.Mapping.{map-keep}
+use Rattle.lists.proofs.Others.{eqb-flip}
 use Rattle.sorting.specs.Sorting.{keyIs, sortedBy, All}
 use Rattle.sorting.proofs.Laws.{sorted-all, sorted-part, ends-at}
 use Rattle.panels.specs.Panels.{Join, neighbours}
@@ -35,13 +35,6 @@ length-flat (j ∷ js) = let e : length (each flatJoin js) ≡ 2 * length js = l
 pub flat-even : (js : List Join) → length (flatJoins js) % 2 ≡ 0
 flat-even js = let e : length (flatJoins js) ≡ 2 * length js = length-flat js in omega arith
 
-eqb-turn : (a b : ℕ) → eqb a b ≡ eqb b a
-eqb-turn a b = iff (eqb a b) (eqb b a) (λ t. eq-eqb b a (sym (eqb-true a b t))) (λ t. eq-eqb a b (sym (eqb-true b a t)))
-
-map-keep : (g : ℕ → ℕ) (b : Bool) (x : ℕ) (l : List ℕ) → map g (keepIf b x l) ≡ keepIf b (g x) (map g l)
-map-keep g true x l = refl
-map-keep g false x l = refl
-
 -- the entries of face f from a on, where the joins js stand there
 near-from :
     (f : ℕ) (joins : List ℕ) (a : ℕ) (js : List Join) → a % 2 ≡ 0 → drop a joins ≡ flatJoins js
@@ -52,8 +45,8 @@ near-from f joins a (j ∷ js) w e =
     map-keep (otherEnd joins) (keyIs joins f a) a (keepIf (keyIs joins f (suc a)) (suc a) (only (keyIs joins f) (span (suc (suc a)) (length (each flatJoin js)))))
     ∙ ap (keepIf (keyIs joins f a) (otherEnd joins a)) (map-keep (otherEnd joins) (keyIs joins f (suc a)) (suc a) (only (keyIs joins f) (span (suc (suc a)) (length (each flatJoin js)))))
     ∙ ap (λ (l : List ℕ). keepIf (keyIs joins f a) (otherEnd joins a) (keepIf (keyIs joins f (suc a)) (otherEnd joins (suc a)) l)) (near-from f joins (suc (suc a)) js (omega arith) behind)
-    ∙ ap₂ (λ (b : Bool) (x : ℕ). keepIf b x (keepIf (keyIs joins f (suc a)) (otherEnd joins (suc a)) (neighbours f js))) (ap (λ (x : ℕ). eqb x f) first ∙ eqb-turn (j .0) f) (other-first)
-    ∙ ap₂ (λ (b : Bool) (x : ℕ). keepIf (eqb f (j .0)) (j .1) (keepIf b x (neighbours f js))) (ap (λ (x : ℕ). eqb x f) second ∙ eqb-turn (j .1) f) (other-second)
+    ∙ ap₂ (λ (b : Bool) (x : ℕ). keepIf b x (keepIf (keyIs joins f (suc a)) (otherEnd joins (suc a)) (neighbours f js))) (ap (λ (x : ℕ). eqb x f) first ∙ eqb-flip (j .0) f) (other-first)
+    ∙ ap₂ (λ (b : Bool) (x : ℕ). keepIf (eqb f (j .0)) (j .1) (keepIf b x (neighbours f js))) (ap (λ (x : ℕ). eqb x f) second ∙ eqb-flip (j .1) f) (other-second)
   where
     first : getD joins a 0 ≡ j .0
     first = ap (λ (i : ℕ). getD joins i 0) (sym (add-zero a)) ∙ sym (getD-drop a joins 0 0) ∙ ap (λ (l : List ℕ). getD l 0 0) e

@@ -1,22 +1,29 @@
 -- What is known of the panels of a mesh: two faces stand in one panel exactly where a chain of faces, each sharing an edge key
 -- with the next, leads from the one to the other; and each face stands in exactly one panel, once. Assumes nothing.
-use mathlib.Core.Path.{_≡_}
-use mathlib.Core.Bool.{Bool, true}
-use mathlib.Core.List.{List, []}
+use mathlib.Core.Path.{_≡_, refl, sym, ap, _∙_}
+use mathlib.Core.Bool.{Bool, true, _&&_, _||_}
+use mathlib.Core.List.{List, [], _∷_}
 use Prim.Native.Nat.{ℕ, _≤_, _<_}
 use native.Mathlib.Omega.{arith}
 use lib.Dec.{eqb}
 use lib.ListN.{length}
-use Rattle.lists.specs.Lists.{joined, count}
+use Rattle.lists.specs.Lists.{has, joined, count}
+use Rattle.lists.proofs.Chains.{Reach, reach-one, reach-bind}
+use Rattle.lists.proofs.Classes.{together as inOne, Parted, together-reach, reach-together}
 use Rattle.lists.proofs.Members.{In, once-in, once-length}
 use Rattle.mesh.specs.Mesh.{Ring}
 use Rattle.panels.specs.Panels.{joins, panels, together}
-use Rattle.panels.proofs.Chains.{Reach, reach-one, reach-bind}
-use Rattle.panels.proofs.Parting.{Parted, parted, together-reach, reach-together, panels-few}
+use Rattle.panels.proofs.Parting.{parted, panels-few}
+use Rattle.panels.proofs.Looking.{Beside}
 use Rattle.panels.proofs.Sharing.{Share, beside-share, share-beside, beside-below}
 
+-- to stand in one panel, as the rule says it and as it is said of any lists
+one-panel : (a b : ℕ) (ps : List (List ℕ)) → together a b ps ≡ inOne a b ps
+one-panel a b [] = refl
+one-panel a b (p ∷ ps) = ap (λ (t : Bool). (has a p && has b p) || t) (one-panel a b ps)
+
 module _ (normals : Bool) (fs : List Ring) where
-  panels-parted : Parted (joins normals fs) (length fs) (length fs) (panels normals fs)
+  panels-parted : Parted (Beside (joins normals fs)) (length fs) (length fs) (panels normals fs)
   unfolding panels
   panels-parted = parted (joins normals fs) (length fs) (beside-below normals fs)
 
@@ -24,12 +31,13 @@ module _ (normals : Bool) (fs : List Ring) where
   together-share a b t =
       reach-bind
       (λ x y h. reach-one (beside-share normals fs x y h))
-      (together-reach (joins normals fs) (panels normals fs) (panels-parted .classes) a b t)
+      (together-reach (Beside (joins normals fs)) (panels normals fs) (panels-parted .classes) a b (sym (one-panel a b (panels normals fs)) ∙ t))
 
   pub share-together : (a b : ℕ) → a < length fs → Reach (Share normals fs) a b → together a b (panels normals fs) ≡ true
   share-together a b l t =
-      reach-together
-      (joins normals fs)
+      one-panel a b (panels normals fs)
+      ∙ reach-together
+      (Beside (joins normals fs))
       (panels normals fs)
       (panels-parted .classes)
       a

@@ -18,7 +18,7 @@ use Rattle.lists.proofs.Counting.{clash, or-either}
 use Rattle.lists.proofs.Parts.{some-append}
 use Rattle.mesh.specs.Mesh.{Ring}
 use Rattle.panels.specs.Panels.{Key, sameKey, faceKeys, Use, usesFrom, firstFace, Join, joinOf, joinsFrom, joins}
-use Rattle.panels.proofs.Chains.{Reach, here, reach-trans, reach-one, reach-sym}
+use Rattle.lists.proofs.Chains.{Reach, here, reach-trans, reach-one, reach-sym}
 use Rattle.panels.proofs.Looking.{Beside, has-neighbours, beside-sym}
 
 -- ---- keys compared

@@ -3,36 +3,30 @@
 use mathlib.Core.Path.{_≡_, refl, sym, ap, ap₂, _∙_, subst}
 use mathlib.Core.Logic.{⊎-elim}
 use mathlib.Core.Bool.{Bool, true, false, cond}
-use mathlib.Core.List.{List, [], _∷_, _++_, append-nil, append-assoc, map, map-map}
+use mathlib.Core.List.{List, [], _∷_, _++_, append-nil, append-assoc, map, map-map, map-append}
 use Prim.Native.Nat.{ℕ, zero, suc, _+_, _*_, _/_, _≤_, _<_}
 use native.Mathlib.Nat.{add-zero, zero-add, suc-add, add-suc, not-suc-le-zero, le-of-suc-le-suc}
 use native.Mathlib.Numerals.{add-one}
 use native.Mathlib.Omega.{arith}
-use lib.ListN.{length, getD, take, drop, set, length-append, length-map, List·getD-append}
-use lib.Seq.{sets, length-sets, take-suc, take-length, drop-length, getD-append-add}
+use lib.ListN.{length, getD, take, set, length-append, length-map, List·getD-append}
+use lib.Seq.{sets, length-sets, take-suc, take-length, getD-append-add}
 use borrow.Author.Tests.{lt-ltb, le-ltb, eq-eqb, ne-eqb}
 use Rattle.lists.specs.Lists.{span, sum}
-use Rattle.lists.proofs.Writing.{sets-append, sets-front, Copying, copy-turns, copy-ends}
+use Rattle.lists.proofs.Writing.{sets-append, Copying, copy-turns, copy-ends}
+use Rattle.lists.proofs.Copies.{sets-whole}
 use Rattle.lists.proofs.Buckets.{lt-or-ge, table-at, table-ext}
 use Rattle.mesh.specs.Mesh.{Corner, Ring, threes, rings, cornerAt}
 use Rattle.mesh.specs.Face.{offsetOf, faceOf, Sound}
 use Rattle.mesh.proofs.Corners.{length-threes, getD-threes}
 use Rattle.mesh.proofs.Faces.{face-length, face-fits, offset-step, length-rings, getD-rings}
 use Rattle.edges.specs.Edges.{runEdges, ringEdges}
+use Rattle.edges.proofs.Uses.{length-ring}
 use Rattle.panels.specs.Panels.{Key, keyOf, faceKeys, Use, usesFrom}
 use Rattle.panels.specs.Columns.{normalDigit, chosen, entryOf, column, nextOf, edgeAt, faceUses, FaceRoom}
 
 -- ---- the edges of a ring: from each corner, to the one behind it
 
 module _ {A : Type 0} where
-  run-length : (a : A) (r : List A) (z : A) → length (runEdges a r z) ≡ suc (length r)
-  run-length a [] z = refl
-  run-length a (b ∷ r) z = ap suc (run-length b r z)
-
-  pub ring-length : (f : List A) → length (ringEdges f) ≡ length f
-  ring-length [] = refl
-  ring-length (a ∷ r) = run-length a r a
-
   run-at : (c : A) (a : A) (r : List A) (z : A) (j : ℕ) → j < suc (length r) → getD (runEdges a r z) j (c, c) ≡ (getD (a ∷ r) j c, getD (r ++ (z ∷ [])) j c)
   run-at c a [] z zero h = refl
   run-at c a [] z (suc j) h = absurd (not-suc-le-zero (le-of-suc-le-suc h))
@@ -71,7 +65,7 @@ unfolding edgeAt
 ring-part part =
     let n : length (threes part) ≡ length part / 3 = length-threes part in
     table-ext (edgeAt part) (length part / 3) ([], []) (ringEdges (threes part))
-    (ring-length (threes part) ∙ n)
+    (length-ring (threes part) ∙ n)
     (λ j h.
     ring-at [] (threes part) j (omega arith)
     ∙ ap (λ (m : ℕ). (getD (threes part) j [], getD (threes part) (nextOf m j) [])) n
@@ -88,7 +82,7 @@ module _ (normals : Bool) (which : ℕ) where
       length-map (faceUses normals k f) (entryOf which)
       ∙ length-map (faceKeys normals f) (λ key. (k, key))
       ∙ length-map (ringEdges f) (keyOf normals)
-      ∙ ring-length f
+      ∙ length-ring f
 
   face-column : (k : ℕ) (part : List ℕ) → faceColumn k (threes part) ≡ map (λ j. entryOf which (k, keyOf normals (edgeAt part j))) (span 0 (length part / 3))
   face-column k part =
@@ -130,14 +124,6 @@ uses-snoc normals i (g ∷ fs) f =
     ap (λ (l : List Use). faceUses normals i g ++ l) (uses-snoc normals (suc i) fs f)
     ∙ sym (append-assoc (faceUses normals i g) (usesFrom normals (suc i) fs) (faceUses normals (suc i + length fs) f))
     ∙ ap (λ (k : ℕ). (faceUses normals i g ++ usesFrom normals (suc i) fs) ++ faceUses normals k f) (suc-add i (length fs) ∙ sym (add-suc i (length fs)))
-
-map-append : {A B : Type 0} (f : A → B) (a b : List A) → map f (a ++ b) ≡ map f a ++ map f b
-map-append f [] b = refl
-map-append f (x ∷ a) b = ap (λ (l : List _). f x ∷ l) (map-append f a b)
-
-sets-whole : (l vs : List ℕ) → length vs ≡ length l → sets l 0 vs ≡ vs
-sets-whole l vs e =
-    sets-front l vs (omega arith) ∙ ap (λ (n : ℕ). vs ++ drop n l) e ∙ ap (λ (t : List ℕ). vs ++ t) (drop-length l) ∙ append-nil vs
 
 -- the column of the first k faces is written, and `at` corners are passed
 pub record Filling (normals : Bool) (which : ℕ) (cs s out₀ out : List ℕ) (at k : ℕ) : Type 0 where

@@ -11,17 +11,18 @@ use borrow.Author.Tests.{lt-ltb, ltb-true, eq-eqb, eqb-true, eqb-false}
 use Rattle.lists.specs.Lists.{every, sum}
 use Rattle.lists.proofs.Bools.{by-cases, and-both, and-left, and-right, or-left, or-right}
 use Rattle.lists.proofs.Cases.{iff}
+use Rattle.lists.proofs.Mapping.{every-map, every-all}
 use Rattle.lists.proofs.Parts.{every-append, every-at}
 use Rattle.mesh.specs.Mesh.{Mesh, Corner, Ring, position, normal, missing, threes, rings}
 use Rattle.mesh.proofs.Corners.{length-threes, getD-threes}
 use Rattle.mesh.proofs.Faces.{sizes-back}
 use Rattle.mesh.proofs.Accepted.{Accepted, Found}
 use Rattle.edges.specs.Edges.{runEdges, ringEdges}
+use Rattle.edges.proofs.Uses.{length-ring}
 use Rattle.panels.specs.Panels.{Key, pairKey, keyOf, sameKey, faceKeys, Use, usesFrom}
 use Rattle.panels.specs.Columns.{normalDigit, chosen, entryOf, faceUses}
 use Rattle.panels.specs.Firsts.{sameUse, KeyColumns}
 use Rattle.panels.specs.Rows.{Keyable}
-use Rattle.panels.proofs.Using.{ring-length}
 
 -- a position, and a normal, as an accepted mesh has them
 abbrev pub isNormal : ℕ → Bool
@@ -68,16 +69,12 @@ face-good normals [] h = refl
 face-good normals (a ∷ r) h =
     run-good normals a r a (and-left (goodCorner a) (every goodCorner r) h) (and-right (goodCorner a) (every goodCorner r) h) (and-left (goodCorner a) (every goodCorner r) h)
 
-every-map : {A B : Type 0} (p : B → Bool) (f : A → B) (l : List A) → every p (map f l) ≡ every (λ a. p (f a)) l
-every-map p f [] = refl
-every-map p f (x ∷ l) = ap (λ (b : Bool). p (f x) && b) (every-map p f l)
-
 pub uses-good : (normals : Bool) (i : ℕ) (fs : List Ring) → every (every goodCorner) fs ≡ true → every (λ (u : Use). goodKey (u .1)) (usesFrom normals i fs) ≡ true
 uses-good normals i [] h = refl
 uses-good normals i (f ∷ fs) h =
     every-append (λ (u : Use). goodKey (u .1)) (faceUses normals i f) (usesFrom normals (suc i) fs)
     ∙ and-both (every (λ (u : Use). goodKey (u .1)) (faceUses normals i f)) (every (λ (u : Use). goodKey (u .1)) (usesFrom normals (suc i) fs))
-    (every-map (λ (u : Use). goodKey (u .1)) (λ k. (i, k)) (faceKeys normals f) ∙ face-good normals f (and-left (every goodCorner f) (every (every goodCorner) fs) h))
+    (every-map (λ k. (i, k)) (λ (u : Use). goodKey (u .1)) (faceKeys normals f) ∙ face-good normals f (and-left (every goodCorner f) (every (every goodCorner) fs) h))
     (uses-good normals (suc i) fs (and-right (every goodCorner f) (every (every goodCorner) fs) h))
 
 -- ---- from the flat list to the faces
@@ -101,11 +98,6 @@ rings-every q (n ∷ s) cs h =
     and-both (every q (threes (take (3 * n) cs))) (every (every q) (rings s (drop (3 * n) cs)))
     (and-left (every q (threes (take (3 * n) cs))) (every q (threes (drop (3 * n) cs))) e)
     (rings-every q s (drop (3 * n) cs) (and-right (every q (threes (take (3 * n) cs))) (every q (threes (drop (3 * n) cs))) e))
-
-every-all : {A : Type 0} (p : A → Bool) (d : A) (l : List A) → ((k : ℕ) → k < length l → p (getD l k d) ≡ true) → every p l ≡ true
-every-all p d [] f = refl
-every-all p d (x ∷ l) f =
-    and-both (p x) (every p l) (f 0 (omega arith)) (every-all p d l (λ k h. f (suc k) (omega arith)))
 
 pub faces-good : (cs s : List ℕ) → Keyable cs s → every (every goodCorner) (rings s cs) ≡ true
 faces-good cs s a =
@@ -257,7 +249,7 @@ uses-length : (normals : Bool) (i : ℕ) (fs : List Ring) → length (usesFrom n
 uses-length normals i [] = refl
 uses-length normals i (f ∷ fs) =
     length-append (faceUses normals i f) (usesFrom normals (suc i) fs)
-    ∙ ap₂ _+_ (length-map (faceKeys normals f) (λ k. (i, k)) ∙ length-map (ringEdges f) (keyOf normals) ∙ ring-length f) (uses-length normals (suc i) fs)
+    ∙ ap₂ _+_ (length-map (faceKeys normals f) (λ k. (i, k)) ∙ length-map (ringEdges f) (keyOf normals) ∙ length-ring f) (uses-length normals (suc i) fs)
 
 pub uses-corners : (normals : Bool) (s cs : List ℕ) → 3 * sum s ≡ length cs → length (usesFrom normals 0 (rings s cs)) ≡ length cs / 3
 uses-corners normals s cs h =

@@ -8,13 +8,13 @@ use Prim.Native.Nat.{ℕ, zero, suc, _+_, _*_, _/_, _≤_, _<_}
 use native.Mathlib.Nat.{le-of-eq}
 use native.Mathlib.Omega.{arith}
 use lib.Dec.{ltb}
-use lib.ListN.{length, getD, take, drop, replicate, length-map, length-replicate}
-use lib.Seq.{sets, length-take-le, take-at}
+use lib.ListN.{length, getD, take, replicate, length-map, length-replicate}
+use lib.Seq.{sets, length-take-le}
 use borrow.Author.Tests.{lt-ltb, le-ltb, ltb-true}
 use Rattle.lists.specs.Lists.{every, joined, each, span, sum}
 use Rattle.lists.proofs.Bools.{and-both, and-left, and-right}
 use Rattle.lists.proofs.Parts.{every-append, every-at}
-use Rattle.lists.proofs.Writing.{sets-front}
+use Rattle.lists.proofs.Copies.{sets-whole, take-written}
 use Rattle.lists.proofs.Buckets.{length-front, length-span, span-at}
 use Rattle.mesh.specs.Mesh.{Mesh, Ring, rings, faces}
 use Rattle.mesh.specs.Table.{when, lent, short, meshNumber, after}
@@ -31,7 +31,6 @@ use Rattle.panels.specs.Joins.{flatJoin, flatJoins, joinsBy, Joinable, W
 use Rattle.panels.specs.Walk.{panelsBelow, Partable, Parted}
 use Rattle.panels.specs.Rows.{Keyable, JoinRoom, Divisible}
 use Rattle.panels.proofs.Valid.{goodKey, keyable, uses-good, faces-good, key-columns, uses-corners}
-use Rattle.panels.proofs.Sorted.{sets-whole}
 use Rattle.panels.proofs.Recording.{joins-are}
 use Rattle.panels.proofs.Nearby.{joins-back}
 
@@ -297,9 +296,6 @@ module _ (m : Mesh) (normals : Bool) (flat lengths : List ℕ) where
 
 -- ---- an accepted mesh with room
 
-take-sets : (l vs : List ℕ) (n : ℕ) → length vs ≤ length l → n ≡ 0 + length vs → take n (sets l 0 vs) ≡ vs
-take-sets l vs n h e = ap (take n) (sets-front l vs h) ∙ take-at vs (drop (length vs) l) n (omega arith)
-
 module _ (m : Mesh) (normals : Bool) (a : Accepted m) where
   abbrev fs : List Ring
   fs = rings (m .sizes) (m .corners)
@@ -329,7 +325,7 @@ module _ (m : Mesh) (normals : Bool) (a : Accepted m) where
     row-is : take n row′ ≡ flatJoins (joins normals (rings (m .sizes) (m .corners)))
     row-is =
         ap (take n) (w .written)
-        ∙ take-sets row (flatJoins (joins normals (rings (m .sizes) (m .corners)))) n (let c : length (flatJoins (joins normals (rings (m .sizes) (m .corners)))) ≤ 8192 = row-few in omega arith) (w .behind)
+        ∙ take-written row (flatJoins (joins normals (rings (m .sizes) (m .corners)))) n (omega (arith, w .behind)) (omega (arith, w .behind, row-few))
 
     faces-count : length (rings (m .sizes) (m .corners)) ≡ length (m .sizes)
     faces-count = length-rings (m .sizes) (m .corners)

@@ -1,7 +1,7 @@
 -- Where the verdict is Oriented or Closed the hem edges go out of each position as often as they come in: the edges of all faces do,
 -- and an edge that is no hem edge is used once in each direction. Assumes nothing.
 use mathlib.Core.Path.{_≡_, refl, sym, ap, _∙_}
-use mathlib.Core.Bool.{Bool, true, false, cond, _||_, _&&_}
+use mathlib.Core.Bool.{Bool, true, false, cond, _||_, and-comm}
 use mathlib.Core.List.{List, [], _∷_, _++_, map}
 use Prim.Native.Nat.{ℕ, suc, _+_, _<_}
 use native.Mathlib.Omega.{arith}
@@ -99,15 +99,9 @@ pair-balance es ni nr d =
 flip-runs : (d : Edge) (l : List Edge) → runs d (map flip l) ≡ runs (flip d) l
 flip-runs d l = count-map (same d) flip l ∙ turn l
   where
-    swap-and : (a b : Bool) → (a && b) ≡ (b && a)
-    swap-and true true = refl
-    swap-and true false = refl
-    swap-and false true = refl
-    swap-and false false = refl
-
     turn : (l : List Edge) → count (λ e. same d (flip e)) l ≡ runs (flip d) l
     turn [] = refl
-    turn (e ∷ l) = rw (swap-and (eqb (d .0) (e .1)) (eqb (d .1) (e .0)), turn l)
+    turn (e ∷ l) = rw (and-comm (eqb (d .0) (e .1)) (eqb (d .1) (e .0)), turn l)
 
 -- edges that are balanced leave hem edges that are, where none is used three times, nor twice in one direction
 hems-balanced-of : (es : List Edge) → Balanced es → thrice es ≡ false → alike es ≡ false → Balanced (hems es)

@@ -15,6 +15,7 @@ use Rattle.lists.specs.Lists.{some as has-some}
 use Rattle.lists.proofs.Bools.{by-cases, or-left, or-right}
 use Rattle.lists.proofs.Counting.{bump-plus, bump-up, count-append, count-all, count-length}
 use Rattle.edges.specs.Edges.{runEdges, ringEdges, meshEdges, Edge, same, verdict, Irregular, Regular, hems}
+use Rattle.edges.proofs.Uses.{length-run}
 use Rattle.wires.specs.Hems.{Balanced, ins, outs}
 use Rattle.wires.specs.House.{lesser, leastStart, leastEnd, without, Walk, longer, walk, wiresIn, houseWires}
 use Rattle.wires.proofs.Balance.{at, without-count, hems-balanced}
@@ -167,10 +168,6 @@ walked (suc n) f c h l b o =
 -- ---- all wires
 
 -- as many edges as positions passed, and no wire without one
-run-length : (a : ℕ) (r : List ℕ) (z : ℕ) → length (runEdges a r z) ≡ suc (length r)
-run-length a [] z = refl
-run-length a (b ∷ r) z = ap suc (run-length b r z)
-
 pub record Used (h : List Edge) (ws : List (List ℕ)) : Type 0 where
   pub all : (p : Edge → Bool) → count p (meshEdges ws) ≡ count p h
   pub numbers : length (joined ws) ≡ length h
@@ -182,7 +179,7 @@ used-none h e = record { all = λ p. rw e; numbers = rw e; wires = rw e (omega a
 used-one : (s : ℕ) (h : List Edge) (w : Walk) (ws : List (List ℕ)) → Walked s s h w → Used (w .1) ws → Used h (w .0 ∷ ws)
 used-one s h w ws r u =
     let k : count (λ e. true) (runEdges s (r .rest) s) + count (λ e. true) (w .1) ≡ count (λ e. true) h = r .used (λ e. true) in
-    let i : length (runEdges s (r .rest) s) ≡ suc (length (r .rest)) = run-length s (r .rest) s in
+    let i : length (runEdges s (r .rest) s) ≡ suc (length (r .rest)) = length-run s (r .rest) s in
     let a : _ = count-all (runEdges s (r .rest) s) in
     let b : _ = count-all (w .1) in
     let c : _ = count-all h in
@@ -213,7 +210,7 @@ wires-used (suc n) m h l k b = go (leastStart h) refl (λ g. wires-used n m g)
     go (some s) o ih =
         let r : Walked s s h (walk m s s h) = walked m s s h k (left-home s h b) (start-some h s o) in
         let c : count (λ e. true) (runEdges s (r .rest) s) + count (λ e. true) (walk m s s h .1) ≡ count (λ e. true) h = r .used (λ e. true) in
-        let i : length (runEdges s (r .rest) s) ≡ suc (length (r .rest)) = run-length s (r .rest) s in
+        let i : length (runEdges s (r .rest) s) ≡ suc (length (r .rest)) = length-run s (r .rest) s in
         let a : _ = count-all (runEdges s (r .rest) s) in
         let j : _ = count-all (walk m s s h .1) in
         let j′ : _ = count-all h in

@@ -18,7 +18,7 @@ use Rattle.wires.specs.Hems.{pairs, EdgeLists, Balanced, Portable, House
 use Rattle.edges.specs.Runs.{Edged}
 use Rattle.edges.specs.Answers.{Hemmed}
 use Rattle.edges.specs.declared.Hems.{Hems}
-use Rattle.edges.proofs.HemBounds.{hems-length, hems-every}
+use Rattle.edges.proofs.OfHems.{hems-few, hems-every}
 use Rattle.edges.proofs.Grouped.{inside}
 use Rattle.edges.proofs.Uses.{length-uses, uses-inside}
 use Rattle.wires.specs.Answers.{cornerCount, wired, PortedOf, HouseOf}
@@ -81,7 +81,7 @@ house-uses fs q = house-used (hems (edgesOf fs)) (wired-balanced fs q)
 module _ {cs s : List ℕ} {n : ℕ} (e : Edged cs s n) where
   hem-count : length (hems (edgesOf (rings s cs))) ≤ cornerCount cs
   hem-count =
-      let a : length (hems (edgesOf (rings s cs))) ≤ length (edgesOf (rings s cs)) = hems-length (edgesOf (rings s cs)) in
+      let a : length (hems (edgesOf (rings s cs))) ≤ length (edgesOf (rings s cs)) = hems-few (edgesOf (rings s cs)) in
       let b : length (edgesOf (rings s cs)) ≡ length cs / 3 = length-uses cs s (e .sound) in
       omega arith
 

@@ -1,27 +1,24 @@
 -- Lists of numbers that are the connected sets of a relation: two numbers stand in one list exactly where a chain of steps leads from
 -- the one to the other, and each number stands in exactly one list, once. Assumes nothing.
-use mathlib.Core.Path.{_≡_, refl, sym, ap, _∙_, subst}
+use mathlib.Core.Path.{_≡_, refl, sym, subst}
 use mathlib.Core.Logic.{_⊎_, ⊎-elim}
 use mathlib.Core.Bool.{Bool, true, false, _&&_}
-use mathlib.Core.List.{List, [], _∷_, _++_, append-nil}
-use Prim.Native.Nat.{ℕ, suc, _≤_, _<_}
+use mathlib.Core.List.{List, [], _∷_, _++_}
+use Prim.Native.Nat.{ℕ, suc, _<_}
 use native.Mathlib.Omega.{arith}
 use lib.Dec.{eqb}
 use borrow.Author.Tests.{eqb-true, eqb-false}
 use Rattle.lists.specs.Lists.{some, has, joined}
 use Rattle.lists.proofs.Bools.{by-cases, and-both, or-left, or-right}
 use Rattle.lists.proofs.Cases.{and-parts}
 use Rattle.lists.proofs.Counting.{clash, or-either}
-use Rattle.lists.proofs.Parts.{joined-append}
+use Rattle.lists.proofs.Parts.{joined-snoc}
 use Rattle.lists.proofs.Members.{In, in-left, in-right, in-append, Once, once-append}
-use Rattle.nearby.proofs.Chains.{Reach, here, step, reach-trans, reach-one, reach-sym}
+use Rattle.lists.proofs.Chains.{Reach, here, step, reach-trans, reach-one, reach-sym}
 
 -- a and b stand in one of the lists
 abbrev pub together : ℕ → ℕ → List (List ℕ) → Bool
 together a b ps = some (λ (p : List ℕ). has a p && has b p) ps
-
-pub joined-snoc : (ps : List (List ℕ)) (p : List ℕ) → joined (ps ++ (p ∷ [])) ≡ joined ps ++ p
-joined-snoc ps p = joined-append ps (p ∷ []) ∙ ap (λ l. joined ps ++ l) (append-nil p)
 
 -- what holds below i and at i holds below i + 1
 upto : (P : ℕ → Type 0) (i : ℕ) → ((x : ℕ) → x < i → P x) → P i → (x : ℕ) → x < suc i → P x
