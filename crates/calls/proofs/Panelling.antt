@@ -1,30 +1,25 @@
 -- Two calls of `components` on meshes with the same faces, under one normals setting. Assumes nothing.
 use mathlib.Core.Path.{_≡_, refl, sym, ap, ap₂, _∙_}
 use mathlib.Core.Bool.{Bool}
-use mathlib.Core.List.{List, [], _∷_, map}
+use mathlib.Core.List.{map}
 use Prim.Native.Nat.{ℕ}
 use native.Mathlib.Omega.{arith}
 use lib.ListN.{length, take, length-map}
-use lib.Seq.{take-append-seam, drop-append-seam}
 use Rattle.lists.specs.Lists.{joined}
 use Rattle.mesh.specs.Mesh.{Mesh, faces}
 use Rattle.mesh.specs.Table.{meshNumber}
 use Rattle.panels.specs.Panels.{panels, together}
 use Rattle.panels.specs.Contract.{panelsNumber, panelsOf}
+use Rattle.lines.specs.Working.{parts}
+use Rattle.lines.proofs.Wiring.{parts-back}
 use Rattle.panels.proofs.Panelled.{panels-length, panels-count}
 use Rattle.order.specs.Demand.{Demand3}
-use Rattle.calls.specs.Calls.{cornersOf, PanelCall, parts, panelsWritten}
+use Rattle.calls.specs.Calls.{cornersOf, PanelCall, panelsWritten}
 use Rattle.calls.specs.Order.{SamePanels}
 use Rattle.calls.proofs.Numbers.{roomy-zero}
 use Rattle.calls.proofs.Fronts.{front, as-many}
 use Rattle.calls.proofs.Counts.{faces-few}
 use Rattle.calls.proofs.Seats.{as-many-panels}
-
--- lists, put one behind the other and cut by their lengths, are these lists
-parts-back : (ps : List (List ℕ)) → parts (map length ps) (joined ps) ≡ ps
-parts-back [] = refl
-parts-back (p ∷ ps) =
-    ap₂ _∷_ (take-append-seam p (joined ps)) (ap (parts (map length ps)) (drop-append-seam p (joined ps)) ∙ parts-back ps)
 
 -- one call
 module _ (normals : Bool) (m : Mesh) (z : meshNumber m ≡ 0) (r : PanelCall normals m) where

@@ -2,9 +2,9 @@
 -- lent have the stated room. Assumes nothing.
 use mathlib.Core.Path.{_≡_}
 use mathlib.Core.Bool.{Bool}
-use mathlib.Core.List.{List, [], _∷_}
+use mathlib.Core.List.{List}
 use Prim.Native.Nat.{ℕ, _*_, _/_, _≤_}
-use lib.ListN.{length, take, drop}
+use lib.ListN.{length, take}
 use Rattle.mesh.specs.Mesh.{Mesh}
 use Rattle.edges.specs.Edges.{Edge}
 use Rattle.edges.specs.Answers.{answerOf, judged, HemAnswer}
@@ -16,6 +16,7 @@ use Rattle.wires.specs.Hems.{pairs}
 use Rattle.wires.specs.Answers.{PortedAnswer, HouseAnswer}
 use Rattle.wires.specs.declared.Wires.{Wires}
 use Rattle.panels.specs.Contract.{Answered}
+use Rattle.lines.specs.Working.{parts}
 use Rattle.panels.specs.declared.Answer.{Answer}
 
 -- how many corners a mesh has: the stated room of most lists
@@ -91,11 +92,6 @@ pub record PanelCall (normals : Bool) (m : Mesh) : Type 0 where
   pub flat-room : cornersOf m ≤ length flat
   pub lengths-room : cornersOf m ≤ length lengths
 
--- a flat list cut into parts of these lengths
-abbrev pub parts : List ℕ → List ℕ → List (List ℕ)
-parts [] l = []
-parts (n ∷ ns) l = take n l ∷ parts ns (drop n l)
-
--- the panels that are written
+-- the panels that are written: the flat list cut into parts of these lengths
 abbrev pub panelsWritten : {normals : Bool} {m : Mesh} → PanelCall normals m → List (List ℕ)
 panelsWritten r = parts (take (r .answer .panels) (r .lengths′)) (take (r .answer .faces) (r .flat′))
