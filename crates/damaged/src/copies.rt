@@ -3,7 +3,7 @@ ghost use Prim.Native.Nat.{_<_, _≤_};
 ghost use lib.ListN.{length};
 
 // Every cut, the whole file last.
-pub fn cuts(file: &[u8], counts: &mut [u32]) {
+pub(crate) fn cuts(file: &[u8], counts: &mut [u32]) {
     let mut n: usize = 0;
     while n < file.len() {
         tally(&file[..n], counts);
@@ -13,7 +13,7 @@ pub fn cuts(file: &[u8], counts: &mut [u32]) {
 }
 
 // Every header, record by record.
-pub fn headers(file: &mut [u8], counts: &mut [u32]) {
+pub(crate) fn headers(file: &mut [u8], counts: &mut [u32]) {
     let mut at: usize = 0;
     while at < file.len() {
         header(file, at, counts);
@@ -115,7 +115,7 @@ fn count_up(counts: &mut [u32], number: usize) {
 }
 
 // The numbers that came back, and how often.
-pub fn print_counts(what: &[u8], counts: &[u32]) {
+pub(crate) fn print_counts(what: &[u8], counts: &[u32]) {
     let mut k: usize = 0;
     while k < counts.len() {
         print_count(what, k, counts[k]);
@@ -136,6 +136,6 @@ fn print_count(what: &[u8], number: usize, count: u32) {
     print(b"\n");
 }
 
-pub fn print(text: &[u8]) {
+pub(crate) fn print(text: &[u8]) {
     io::write_all(1, text);
 }

@@ -2,7 +2,7 @@
 use mesh::MISSING;
 
 // Compaction: the number, and the counts of positions, texture points and normals.
-pub fn compaction_rooms() {
+pub(crate) fn compaction_rooms() {
     let mut c = [0; 9];
     let mut p = [0.0; 18];
     let mut t = [0.0; 4];

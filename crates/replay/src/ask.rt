@@ -26,7 +26,7 @@ pub const READING: u32 = 11;
 
 // Asks the call of a record of this kind; `at` is where the case's own words begin, `subject` where the words of its mesh or of its
 // panel file do.
-pub fn ask(list: &[u8], subject: usize, kind: u32, at: usize) -> Outcome {
+pub(crate) fn ask(list: &[u8], subject: usize, kind: u32, at: usize) -> Outcome {
     if kind == READING {
         return files::read_panel(list, subject, at);
     }

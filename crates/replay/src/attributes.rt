@@ -6,7 +6,7 @@ use crate::lent;
 use crate::list;
 
 // Compaction. It lends corners, positions, texture points, normals.
-pub fn compaction(
+pub(crate) fn compaction(
     list: &[u8],
     at: usize,
     positions: &[f64],
@@ -125,7 +125,7 @@ fn hold_compaction(
 }
 
 // Merging. It lends corners.
-pub fn merging(
+pub(crate) fn merging(
     list: &[u8],
     at: usize,
     positions: &[f64],

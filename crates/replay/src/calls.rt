@@ -30,20 +30,20 @@ pub struct Outcome {
 }
 
 // Where a case's lent lists begin, behind so many counts.
-pub fn lists_from(at: usize, counts: usize) -> usize {
+pub(crate) fn lists_from(at: usize, counts: usize) -> usize {
     list::plus(list::plus(at, 3), counts)
 }
 
 // Where a case's words go on after a lent list whose room stands here.
-pub fn after_words(list: &[u8], room: usize) -> usize {
+pub(crate) fn after_words(list: &[u8], room: usize) -> usize {
     list::after_words(list, list::plus(room, 1))
 }
 
-pub fn after_floats(list: &[u8], room: usize) -> usize {
+pub(crate) fn after_floats(list: &[u8], room: usize) -> usize {
     list::after_floats(list, list::plus(room, 1))
 }
 
-pub fn either(a: bool, b: bool) -> bool {
+pub(crate) fn either(a: bool, b: bool) -> bool {
     if a {
         return true;
     }
@@ -51,7 +51,7 @@ pub fn either(a: bool, b: bool) -> bool {
 }
 
 // Whether the number and the first counts are not those of the list.
-pub fn said_differs(list: &[u8], at: usize, counts: usize, said: Said) -> bool {
+pub(crate) fn said_differs(list: &[u8], at: usize, counts: usize, said: Said) -> bool {
     if said.number != list::word(list, list::plus(at, 2)) {
         return true;
     }
@@ -76,7 +76,7 @@ pub fn said_differs(list: &[u8], at: usize, counts: usize, said: Said) -> bool {
 // ---- calls that lend nothing
 
 // The number of a mesh.
-pub fn mesh_number(
+pub(crate) fn mesh_number(
     list: &[u8],
     at: usize,
     positions: &[f64],
@@ -95,7 +95,7 @@ pub fn mesh_number(
 
 // The part of a face: its length, and that it holds what the list of corners has from its start on. The call has no
 // number: 0 stands in the list.
-pub fn face(
+pub(crate) fn face(
     list: &[u8],
     at: usize,
     positions: &[f64],
@@ -146,7 +146,7 @@ fn part_differs(part: &[u32], corners: &[u32], start: usize) -> bool {
 }
 
 // The verdict.
-pub fn shell_condition(
+pub(crate) fn shell_condition(
     list: &[u8],
     at: usize,
     positions: &[f64],
@@ -187,7 +187,7 @@ fn verdict_number(condition: ShellCondition) -> usize {
 }
 
 // A number and two counts.
-pub fn saying(number: u32, first: usize, second: usize) -> Said {
+pub(crate) fn saying(number: u32, first: usize, second: usize) -> Said {
     Said {
         number: number,
         first: first,

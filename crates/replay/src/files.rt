@@ -24,7 +24,7 @@ pub struct Drawn {
 }
 
 // `subject` is where the words of the file begin, `at` where those of the case do: see `calls`.
-pub fn read_panel(list: &[u8], subject: usize, at: usize) -> Outcome {
+pub(crate) fn read_panel(list: &[u8], subject: usize, at: usize) -> Outcome {
     let mut file = [0u8; BYTES];
     let n = length(list, subject);
     copy_file(list, subject, &mut file);

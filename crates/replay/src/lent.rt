@@ -6,13 +6,13 @@ use crate::list;
 
 // How much of a list is lent where a room of n is asked for: all of it where it has no more. (The contract has both facts that
 // lending `&mut list[..r]` asks for.)
-pub fn room(n: usize, list: &[u32]) -> usize
+pub(crate) fn room(n: usize, list: &[u32]) -> usize
     ensures { λ r. ⌜ (r ≤ length (now (list .entry))) × (r ≡ length (take r (now (list .entry)))) ⌝ }
 {
     list::lesser(n, list.len())
 }
 
-pub fn room_of_floats(n: usize, list: &[f64]) -> usize
+pub(crate) fn room_of_floats(n: usize, list: &[f64]) -> usize
     ensures { λ r. ⌜ (r ≤ length (now (list .entry))) × (r ≡ length (take r (now (list .entry)))) ⌝ }
 {
     list::lesser(n, list.len())
@@ -28,7 +28,7 @@ fn pattern_float(i: usize) -> f64 {
 }
 
 // Fills a list with the pattern.
-pub fn fill(out: &mut [u32]) {
+pub(crate) fn fill(out: &mut [u32]) {
     let mut i = 0;
     while i < out.len() {
         out[i] = pattern(i);
@@ -36,7 +36,7 @@ pub fn fill(out: &mut [u32]) {
     }
 }
 
-pub fn fill_floats(out: &mut [f64]) {
+pub(crate) fn fill_floats(out: &mut [f64]) {
     let mut i = 0;
     while i < out.len() {
         out[i] = pattern_float(i);
@@ -45,7 +45,7 @@ pub fn fill_floats(out: &mut [f64]) {
 }
 
 // Whether a lent list is not as the list says at `room`: its room, what stands at its front, and the pattern behind that.
-pub fn words_differ(got: &[u32], list: &[u8], room: usize) -> bool {
+pub(crate) fn words_differ(got: &[u32], list: &[u8], room: usize) -> bool {
     if is_unlike(got.len(), list, room) {
         return true;
     }
@@ -61,7 +61,7 @@ pub fn words_differ(got: &[u32], list: &[u8], room: usize) -> bool {
     false
 }
 
-pub fn floats_differ(got: &[f64], list: &[u8], room: usize) -> bool {
+pub(crate) fn floats_differ(got: &[f64], list: &[u8], room: usize) -> bool {
     if is_unlike(got.len(), list, room) {
         return true;
     }

@@ -8,7 +8,7 @@ ghost use Prim.Native.Nat.{_<_, _≤_};
 const BEYOND: usize = 1000000;
 
 // A byte, in room for more.
-pub fn wide(b: u8) -> u32
+pub(crate) fn wide(b: u8) -> u32
     ensures { λ r. ⌜ r < 256 ⌝ }
 {
     b as u32
@@ -26,7 +26,7 @@ fn double(w: u32) -> u64
 }
 
 // The word with this number.
-pub fn word(list: &[u8], at: usize) -> u32 {
+pub(crate) fn word(list: &[u8], at: usize) -> u32 {
     if at < list.len() / 4 {
         let i = 4 * at;
         return wide(list[i])
@@ -38,17 +38,17 @@ pub fn word(list: &[u8], at: usize) -> u32 {
 }
 
 // The word with this number, as a count or a place.
-pub fn count(list: &[u8], at: usize) -> usize {
+pub(crate) fn count(list: &[u8], at: usize) -> usize {
     index(word(list, at))
 }
 
 // Two words, the lower first.
-pub fn long(list: &[u8], at: usize) -> u64 {
+pub(crate) fn long(list: &[u8], at: usize) -> u64 {
     double(word(list, at)) + 4294967296 * double(word(list, plus(at, 1)))
 }
 
 // A place so many words on.
-pub fn plus(at: usize, n: usize) -> usize {
+pub(crate) fn plus(at: usize, n: usize) -> usize {
     if at < BEYOND {
         if n < BEYOND {
             return at + n;
@@ -73,7 +73,7 @@ fn written(list: &[u8], at: usize) -> usize {
 }
 
 // Whether a list says that it repeats more numbers than it has.
-pub fn is_odd(list: &[u8], at: usize) -> bool {
+pub(crate) fn is_odd(list: &[u8], at: usize) -> bool {
     let repeats = count(list, plus(at, 1));
     if repeats == 0 {
         return false;
@@ -82,27 +82,27 @@ pub fn is_odd(list: &[u8], at: usize) -> bool {
 }
 
 // Where the words go on after a list of u32, and after one of f64.
-pub fn after_words(list: &[u8], at: usize) -> usize {
+pub(crate) fn after_words(list: &[u8], at: usize) -> usize {
     plus(plus(at, 2), written(list, at))
 }
 
-pub fn after_floats(list: &[u8], at: usize) -> usize {
+pub(crate) fn after_floats(list: &[u8], at: usize) -> usize {
     let n = written(list, at);
     plus(plus(plus(at, 2), n), n)
 }
 
 // Number i of a list of u32, and of one of f64.
-pub fn word_in(list: &[u8], at: usize, i: usize) -> u32 {
+pub(crate) fn word_in(list: &[u8], at: usize, i: usize) -> u32 {
     word(list, plus(plus(at, 2), place(i, count(list, plus(at, 1)))))
 }
 
-pub fn float_in(list: &[u8], at: usize, i: usize) -> f64 {
+pub(crate) fn float_in(list: &[u8], at: usize, i: usize) -> f64 {
     let p = place(i, count(list, plus(at, 1)));
     floating::of_bits(long(list, plus(plus(plus(at, 2), p), p)))
 }
 
 // Writes a list of u32 to the front of `out`, as far as there is room.
-pub fn copy_words(list: &[u8], at: usize, out: &mut [u32]) {
+pub(crate) fn copy_words(list: &[u8], at: usize, out: &mut [u32]) {
     let n = lesser(count(list, at), out.len());
     let mut i = 0;
     while i < n {
@@ -112,7 +112,7 @@ pub fn copy_words(list: &[u8], at: usize, out: &mut [u32]) {
 }
 
 // The same of f64.
-pub fn copy_floats(list: &[u8], at: usize, out: &mut [f64]) {
+pub(crate) fn copy_floats(list: &[u8], at: usize, out: &mut [f64]) {
     let n = lesser(count(list, at), out.len());
     let mut i = 0;
     while i < n {
@@ -121,7 +121,7 @@ pub fn copy_floats(list: &[u8], at: usize, out: &mut [f64]) {
     }
 }
 
-pub fn lesser(a: usize, b: usize) -> usize
+pub(crate) fn lesser(a: usize, b: usize) -> usize
     ensures { λ r. ⌜ r ≤ b ⌝ }
 {
     if a < b {

@@ -15,7 +15,7 @@ pub const PORTED: u32 = 8;
 pub const HOUSE: u32 = 9;
 
 // A call by its kind; any other kind than these four is panels. It answers so many counts.
-pub fn two_lists(
+pub(crate) fn two_lists(
     list: &[u8],
     at: usize,
     kind: u32,

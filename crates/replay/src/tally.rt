@@ -9,7 +9,7 @@ const DIFFERED: u32 = 15;
 const NOWHERE: u32 = 16;
 
 // One more case of a call.
-pub fn add(tally: &mut [u32], call: u32, outcome: Outcome) {
+pub(crate) fn add(tally: &mut [u32], call: u32, outcome: Outcome) {
     add_in(tally, 0, outcome);
     add_in(tally, call, outcome);
 }
@@ -67,7 +67,7 @@ fn double(n: u32) -> u64 {
 }
 
 // The lines of all calls, and one for all cases.
-pub fn print(tally: &[u32]) {
+pub(crate) fn print(tally: &[u32]) {
     line(tally, 1, b"mesh_number");
     line(tally, 2, b"face");
     line(tally, 3, b"remove_unused_attrs");
