@@ -14,20 +14,10 @@ use judge::reading::numbers::stated_rooms;
 use judge::{reading, Call, Mesh, Question};
 use record::{File, List};
 
-/// The calls that the list asks.
-const CALLS: [Call; 11] = [
-    Call::MeshNumber,
-    Call::Face,
-    Call::RemoveUnusedAttrs,
-    Call::RemoveDegenerateFaces,
-    Call::PutTogetherSameAttrs,
-    Call::ShellCondition,
-    Call::HemEdges,
-    Call::ExtractBoundaries,
-    Call::HouseWires,
-    Call::Components,
-    Call::ReadPanel,
-];
+/// The calls that the list asks: all but the sheet.
+fn calls() -> impl Iterator<Item = Call> {
+    Call::ALL.into_iter().filter(|call| *call != Call::Sheet)
+}
 
 /// The numbers that a call can answer: the list has each of them.
 fn numbers(call: Call) -> &'static [u32] {
@@ -46,8 +36,8 @@ fn numbers(call: Call) -> &'static [u32] {
 struct Lister {
     list: List,
     cases: usize,
-    by_number: [[usize; 14]; CALLS.len()],
-    by_rust: [usize; CALLS.len()],
+    by_number: [[usize; 14]; Call::ALL.len()],
+    by_rust: [usize; Call::ALL.len()],
 }
 
 impl Lister {
@@ -58,7 +48,7 @@ impl Lister {
             panic!("{}: {difference}", call.name());
         }
         self.list.case(call, question, &answer);
-        let place = CALLS.iter().position(|other| *other == call).unwrap();
+        let place = Call::ALL.iter().position(|other| *other == call).unwrap();
         self.cases += 1;
         self.by_number[place][answer.number as usize] += 1;
         self.by_rust[place] += rust_knows(call, question, &answer) as usize;
@@ -69,7 +59,7 @@ impl Lister {
     fn mesh(&mut self, mesh: &Mesh, tolerance: f64, more: usize) {
         self.list.mesh(mesh);
         let mut question = Question { mesh: mesh.clone(), tolerance, ..Question::default() };
-        for call in CALLS.into_iter().filter(|call| !call.reads_a_file()) {
+        for call in calls().filter(|call| !call.reads_a_file()) {
             question.rooms = stated_rooms(call, mesh).iter().map(|room| room + more).collect();
             match call {
                 Call::Face => {
@@ -93,7 +83,7 @@ impl Lister {
     /// A mesh, put to every call that lends, with the room of each list one short in turn, and with all of them empty.
     fn short_rooms(&mut self, mesh: &Mesh, tolerance: f64) {
         self.list.mesh(mesh);
-        for call in CALLS.into_iter().filter(|call| !call.reads_a_file()) {
+        for call in calls().filter(|call| !call.reads_a_file()) {
             let mut question = Question { mesh: mesh.clone(), tolerance, ..Question::default() };
             self.short_rooms_of(call, &mut question);
         }
@@ -152,8 +142,8 @@ fn list() -> Lister {
 fn main() {
     let name = std::env::args().nth(1).expect("lister FILE");
     let lister = list();
-    for (call, (by_number, by_rust)) in CALLS.iter().zip(lister.by_number.iter().zip(&lister.by_rust)) {
-        let missing = numbers(*call).iter().find(|number| by_number[**number as usize] == 0);
+    for (call, (by_number, by_rust)) in calls().zip(lister.by_number.iter().zip(&lister.by_rust)) {
+        let missing = numbers(call).iter().find(|number| by_number[**number as usize] == 0);
         assert!(missing.is_none(), "{}: no case answers {missing:?}", call.name());
         println!("{}: {} cases, {by_rust} of them the Rust's too", call.name(), by_number.iter().sum::<usize>());
     }
