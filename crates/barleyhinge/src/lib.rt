@@ -220,7 +220,7 @@ pub extern "C" fn bh_extract_boundaries(
 ) -> u32
     ensures { λ r. ⌜ PortedAnswer (meshOf (now (positions .entry)) (now (textures .entry)) (now (normals .entry)) (now (corners .entry)) (now (sizes .entry))) (now (flat .entry)) (now (lengths .entry)) (now (flat .exit)) (now (lengths .exit)) r (now (flatcount .exit)) (now (wirecount .exit)) ⌝ }
 {
-    let wires = wires::extract_boundaries(
+    let ported = wires::extract_boundaries(
         positions,
         textures,
         normals,
@@ -229,9 +229,9 @@ pub extern "C" fn bh_extract_boundaries(
         flat,
         lengths,
     );
-    *flatcount = wires.flat;
-    *wirecount = wires.wires;
-    wires.number
+    *flatcount = ported.flat;
+    *wirecount = ported.wires;
+    ported.number
 }
 
 // House wires, in the same form.
@@ -249,10 +249,10 @@ pub extern "C" fn bh_house_wires(
 ) -> u32
     ensures { λ r. ⌜ HouseAnswer (meshOf (now (positions .entry)) (now (textures .entry)) (now (normals .entry)) (now (corners .entry)) (now (sizes .entry))) (now (flat .entry)) (now (lengths .entry)) (now (flat .exit)) (now (lengths .exit)) r (now (flatcount .exit)) (now (wirecount .exit)) ⌝ }
 {
-    let wires = wires::house_wires(positions, textures, normals, corners, sizes, flat, lengths);
-    *flatcount = wires.flat;
-    *wirecount = wires.wires;
-    wires.number
+    let house = wires::house_wires(positions, textures, normals, corners, sizes, flat, lengths);
+    *flatcount = house.flat;
+    *wirecount = house.wires;
+    house.number
 }
 
 // Panels: the faces of all panels one after the other, and how many each panel has.
