@@ -13,6 +13,7 @@ use Rattle.lists.specs.Lists.{every, some, joined, each, sum}
 use Rattle.lists.proofs.Bools.{and-both, and-left, and-right, by-cases, true-false}
 use Rattle.lists.proofs.Mapping.{every-map, every-all}
 use Rattle.lists.proofs.Parts.{every-joined}
+use Rattle.mesh.specs.Limits.{ringLimit}
 use Rattle.mesh.specs.Mesh.{Mesh, Corner, Ring, threes, rings, faces}
 use Rattle.mesh.specs.Table.{meshNumber, astray, astrayAt}
 use Rattle.mesh.proofs.Corners.{isCorner}
@@ -49,7 +50,7 @@ every-none p [] e = refl
 every-none p (c ∷ l) e = by-cases (p c) (λ t. true-false (sym (let z : (not (p c) && every (λ (x : Corner). not (p x)) l) ≡ true = e in rw t at z))) (λ t. rw t (every-none p l (let z : (not (p c) && every (λ (x : Corner). not (p x)) l) ≡ true = e in rw t at z)))
 
 abbrev few : ℕ → Bool
-few n = leb n 32
+few n = leb n ringLimit
 
 -- three corners or more, and no more than 32
 both-sized : (fs : List Ring) → every isFace fs ≡ true → every (λ (r : Ring). few (length r)) fs ≡ true → every sized fs ≡ true
@@ -79,7 +80,7 @@ module _ (m : Mesh) (ok : meshNumber m ≡ 0) where
   few-each =
       sym (every-map length few (faces m))
       ∙ ap (every few) sizes-are
-      ∙ every-all few 0 (m .sizes) (λ k h. le-leb (getD (m .sizes) k 0) 32 (a .most k h))
+      ∙ every-all few 0 (m .sizes) (λ k h. le-leb (getD (m .sizes) k 0) ringLimit (a .most k h))
 
   pub flat-removed : length (each joined (removed (faces m))) ≡ 3 * cornerCount (removed (faces m))
   flat-removed = length-flat (removed (faces m)) (removed-rings m)
@@ -95,7 +96,7 @@ module _ (m : Mesh) (ok : meshNumber m ≡ 0) where
     whole-normals = a .whole .normals;
     few-corners = omega (arith, count-pieces (faces m), ap sum sizes-are, a .sound .adds, a .limits .corners);
     are-rings = corners-pieces isCorner (faces m) rings-faces;
-    are-sized = both-sized (each pieces (faces m)) (every-pieces isFace (faces m) (λ r. pieces-sane r .faces)) (sizes-pieces 32 (faces m) few-each);
+    are-sized = both-sized (each pieces (faces m)) (every-pieces isFace (faces m) (λ r. pieces-sane r .faces)) (sizes-pieces ringLimit (faces m) few-each);
   }
 
   -- no corner of them strays

@@ -6,6 +6,7 @@ use mathlib.Core.List.{List, map}
 use lib.ListN.{length, getD, take}
 use lib.Dec.{eqb}
 use Rattle.lists.specs.Lists.{every}
+use Rattle.mesh.specs.Limits.{ringLimit}
 use Rattle.mesh.specs.Table.{kind, falls}
 use Rattle.mesh.specs.Face.{Sound}
 use Rattle.folding.specs.Working.{Room}
@@ -13,14 +14,14 @@ use Rattle.folded.specs.declared.Removed.{Removed}
 
 -- the flat corners of a face of n corners
 pub record Corners (face : List ℕ) (n : ℕ) : Type 0 where
-  pub small : n ≤ 32
+  pub small : n ≤ ringLimit
   pub wide : length face ≡ 3 * n
 
 -- corners and sizes that add up, each face of 3 to 32 corners
 pub record Fit (cs s : List ℕ) : Type 0 where
   pub sound : Sound cs s
   pub least : (k : ℕ) → k < length s → 3 ≤ getD s k 0
-  pub most : (k : ℕ) → k < length s → getD s k 0 ≤ 32
+  pub most : (k : ℕ) → k < length s → getD s k 0 ≤ ringLimit
 
 -- the first k sizes are those of triangles
 pub record Triangles (s : List ℕ) (k : ℕ) : Type 0 where

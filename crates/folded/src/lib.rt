@@ -15,6 +15,7 @@ ghost use Rattle.folded.specs.Folded as want;
 ghost use Rattle.folded.specs.Working.{Corners, Fit, Triangles, Face, Ready, Given, Behind, refusedBy};
 use folding::Fold;
 use grouping::Filled;
+use mesh::RING;
 
 // The number returned, and how many corners and faces are left.
 pub struct Removed {
@@ -277,11 +278,11 @@ fn quad_of(face: &[u32]) -> [[u32; 3]; 4]
 }
 
 // The positions of a face's corners.
-fn places_of(face: &[u32], n: usize) -> [u32; 32]
+fn places_of(face: &[u32], n: usize) -> [u32; RING]
     requires { ⌜ Corners (now face) n ⌝ }
     ensures { λ r. ⌜ take n r ≡ map position (threes (now (face .entry))) ⌝ }
 {
-    let mut places = [0u32; 32];
+    let mut places = [0u32; RING];
     let mut k: usize = 0;
     while k < n {
         places[k] = face[3 * k];
@@ -291,11 +292,11 @@ fn places_of(face: &[u32], n: usize) -> [u32; 32]
 }
 
 // A face's corners, as the front of a row.
-fn row_of(face: &[u32], n: usize) -> [[u32; 3]; 32]
+fn row_of(face: &[u32], n: usize) -> [[u32; 3]; RING]
     requires { ⌜ Corners (now face) n ⌝ }
     ensures { λ r. ⌜ take n r ≡ threes (now (face .entry)) ⌝ }
 {
-    let mut row = [[0u32; 3]; 32];
+    let mut row = [[0u32; 3]; RING];
     let mut k: usize = 0;
     while k < n {
         let at = 3 * k;

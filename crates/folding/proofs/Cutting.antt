@@ -10,6 +10,7 @@ use lib.Seq.{length-take-le}
 use Rattle.lists.specs.Lists.{every}
 use Rattle.lists.proofs.Parts.{every-take}
 use Rattle.lists.proofs.Copies.{map-take}
+use Rattle.mesh.specs.Limits.{ringLimit}
 use Rattle.mesh.specs.Mesh.{Ring, position}
 use Rattle.mesh.proofs.Corners.{isCorner}
 use Rattle.grouping.specs.Push.{Placed}
@@ -32,7 +33,7 @@ pair-missing row ps n i j e f h =
     let z : take n ps ≡ map position (take n row) = ap (take n) e ∙ sym (map-take position n row) in
     record { first = f ∙ ap firstOf z; second = λ l. absurd (let k : i < length (take n row) = l in omega arith) }
 
-module _ (row : Ring) (n i j : ℕ) (long : length row ≡ 32) (small : n ≤ 32) (p : FirstPair (take n row) i j) where
+module _ (row : Ring) (n i j : ℕ) (long : length row ≡ ringLimit) (small : n ≤ ringLimit) (p : FirstPair (take n row) i j) where
   front : length (take n row) ≡ n
   front = length-take-le n row (omega arith)
 
@@ -72,7 +73,7 @@ module _ (row : Ring) (n i j : ℕ) (long : length row ≡ 32) (small : n ≤ 32
 pub room-one : (n i j : ℕ) (out lens : List ℕ) (c f : ℕ) → Cut n i j → Room n out lens c f → Room (j - i) out lens c f
 room-one n i j out lens c f k r = record { small = omega arith; corners = omega arith; sizes = omega arith }
 
-pub room-two : (n i j : ℕ) (one : Ring) (out out' lens lens' : List ℕ) (c f c' f' : ℕ) → Cut n i j → Room n out lens c f → length one ≡ 32
+pub room-two : (n i j : ℕ) (one : Ring) (out out' lens lens' : List ℕ) (c f c' f' : ℕ) → Cut n i j → Room n out lens c f → length one ≡ ringLimit
     → Placed (ringPieces (take (j - i) one)) out out' lens lens' c f c' f' → length out' ≡ length out → length lens' ≡ length lens → Room (n - (j - i)) out' lens' c' f'
 room-two n i j one out out' lens lens' c f c' f' k r l h x y =
     let m = take (j - i) one in

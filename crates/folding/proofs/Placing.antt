@@ -9,6 +9,7 @@ use lib.Seq.{sets, length-take-le}
 use borrow.Author.Tests.{leb-true}
 use Rattle.lists.specs.Lists.{every, joined}
 use Rattle.lists.proofs.Bools.{and-left, and-right}
+use Rattle.mesh.specs.Limits.{ringLimit}
 use Rattle.mesh.specs.Mesh.{Ring}
 use Rattle.grouping.specs.Push.{Placed, cornerCount}
 use Rattle.grouping.proofs.Placing.{placed-none}
@@ -44,7 +45,7 @@ took r ps o o' l l' c f c' f' h w =
 
 -- ---- the first n corners of a row, where they are not folded: a face of three or more is written, a smaller one vanishes
 
-module _ (row : Ring) (n : ℕ) (long : length row ≡ 32) (small : n ≤ 32) (e : folded (take n row) ≡ false) (o l : List ℕ) (c f : ℕ) where
+module _ (row : Ring) (n : ℕ) (long : length row ≡ ringLimit) (small : n ≤ ringLimit) (e : folded (take n row) ≡ false) (o l : List ℕ) (c f : ℕ) where
   front : length (take n row) ≡ n
   front = length-take-le n row (omega arith)
 

@@ -19,6 +19,7 @@ use Rattle.lists.proofs.Bools.{and-both}
 use Rattle.lists.proofs.Parts.{joined-append, every-take}
 use Rattle.lists.proofs.Writing.{Copying, copy-ends, sets-append}
 use Rattle.lists.proofs.Copies.{front-turns, sets-whole, take-written, length-part, drop-take}
+use Rattle.mesh.specs.Limits.{ringLimit}
 use Rattle.mesh.specs.Mesh.{Corner, Ring, position}
 use Rattle.mesh.proofs.Corners.{isCorner, length-corners}
 use Rattle.folding.specs.Folding.{between, around}
@@ -93,14 +94,14 @@ write-ends row n l l' b k h c =
     let e : k ≡ n = omega (arith, c .within) in c .written ∙ ap (λ (m : ℕ). sets l b (joined (take m row))) e
 
 -- the two rings of a row that is cut at i and j
-pub one-cut : (row : Ring) (n i j : ℕ) → length row ≡ 32 → Cut n i j
+pub one-cut : (row : Ring) (n i j : ℕ) → length row ≡ ringLimit → Cut n i j
     → take (j - i) (sets row 0 (take (j - i) (drop i row))) ≡ between (take n row) i j
 one-cut row n i j l c =
     let h : i + (j - i) ≤ length row = omega arith in
     take-written row (take (j - i) (drop i row)) (j - i) (length-part row i (j - i) h) (omega arith)
     ∙ sym (ap (take (j - i)) (drop-take row i n) ∙ take-take (j - i) (n - i) (drop i row) (omega arith))
 
-pub two-cut : (row row' : Ring) (n i j : ℕ) → length row ≡ 32 → Cut n i j → row' ≡ sets row 0 (take (n - j) (drop j row))
+pub two-cut : (row row' : Ring) (n i j : ℕ) → length row ≡ ringLimit → Cut n i j → row' ≡ sets row 0 (take (n - j) (drop j row))
     → take (n - (j - i)) (sets row' (n - j) (take i (drop 0 row))) ≡ around (take n row) i j
 two-cut row row' n i j l c e =
     let a = take (n - j) (drop j row) in

@@ -3,13 +3,14 @@ use Prim.Native.Nat.{ℕ, _+_, _*_, _≤_, _<_}
 use mathlib.Core.Path.{_≡_}
 use mathlib.Core.List.{List}
 use lib.ListN.{length}
+use Rattle.mesh.specs.Limits.{ringLimit}
 use Rattle.mesh.specs.Mesh.{Ring}
 use Rattle.folding.specs.Folding.{firstIn, secondIn}
 
 -- there is room for the pieces of a face of n corners behind c corners and f faces: for each of its corners, and for as many sizes
 -- as a third of the corners, rounded down
 pub record Room (n : ℕ) (out lens : List ℕ) (c f : ℕ) : Type 0 where
-  pub small : n ≤ 32
+  pub small : n ≤ ringLimit
   pub corners : 3 * (c + n) ≤ length out
   pub sizes : 3 * f + n < 3 * (length lens + 1)
 
@@ -22,4 +23,4 @@ pub record FirstPair (r : Ring) (i j : ℕ) : Type 0 where
 pub record Cut (n i j : ℕ) : Type 0 where
   pub ordered : i < j
   pub within : j < n
-  pub row : n ≤ 32
+  pub row : n ≤ ringLimit

@@ -8,10 +8,12 @@ ghost use mathlib.Core.List.{map};
 ghost use mathlib.Core.Bool.{false};
 ghost use Rattle.lists.specs.Lists.{joined};
 ghost use Rattle.mesh.specs.Mesh.{position};
+ghost use Rattle.mesh.specs.Limits.{ringLimit};
 ghost use Rattle.grouping.specs.Push.{Placed};
 ghost use Rattle.folding.specs.Working.{Room, Cut, FirstPair};
 ghost use Rattle.folding.specs.Folding.{foldOf, withoutQ1, withoutQ3, mateOf, firstOf, folded, between, around, ringPieces};
 use grouping::Filled;
+use mesh::RING;
 
 // What becomes of a quadrangle q0..q3.
 pub enum Fold {
@@ -113,12 +115,12 @@ pub fn first(places: &[u32]) -> usize
 }
 
 // The positions of a row's corners.
-fn places_of(poly: [[u32; 3]; 32]) -> [u32; 32]
+fn places_of(poly: [[u32; 3]; RING]) -> [u32; RING]
     ensures { λ r. ⌜ r ≡ map position poly ⌝ }
 {
-    let mut places = [0u32; 32];
+    let mut places = [0u32; RING];
     let mut k: usize = 0;
-    while k < 32 {
+    while k < RING {
         places[k] = poly[k][0];
         k += 1;
     }
@@ -126,8 +128,8 @@ fn places_of(poly: [[u32; 3]; 32]) -> [u32; 32]
 }
 
 // The first i, and for it the first j after i, with equal positions; i is n where there is none.
-fn pair_of(poly: [[u32; 3]; 32], n: usize) -> Pair
-    requires { ⌜ n ≤ 32 ⌝ }
+fn pair_of(poly: [[u32; 3]; RING], n: usize) -> Pair
+    requires { ⌜ n ≤ ringLimit ⌝ }
     ensures { λ r. ⌜ FirstPair (take n poly) (r .i) (r .j) ⌝ }
 {
     let places = places_of(poly);
@@ -140,8 +142,14 @@ fn pair_of(poly: [[u32; 3]; 32], n: usize) -> Pair
 }
 
 // Corners a, a + 1, .. of a row, m of them, go to another, from place b on.
-fn copied(poly: [[u32; 3]; 32], a: usize, m: usize, to: [[u32; 3]; 32], b: usize) -> [[u32; 3]; 32]
-    requires { ⌜ (a + m ≤ 32) × (b + m ≤ 32) ⌝ }
+fn copied(
+    poly: [[u32; 3]; RING],
+    a: usize,
+    m: usize,
+    to: [[u32; 3]; RING],
+    b: usize,
+) -> [[u32; 3]; RING]
+    requires { ⌜ (a + m ≤ ringLimit) × (b + m ≤ ringLimit) ⌝ }
     ensures { λ r. ⌜ r ≡ sets to b (take m (drop a poly)) ⌝ }
 {
     let mut row = to;
@@ -154,7 +162,7 @@ fn copied(poly: [[u32; 3]; 32], a: usize, m: usize, to: [[u32; 3]; 32], b: usize
 }
 
 // Corners i to j-1.
-fn ring_one(poly: [[u32; 3]; 32], n: usize, i: usize, j: usize) -> [[u32; 3]; 32]
+fn ring_one(poly: [[u32; 3]; RING], n: usize, i: usize, j: usize) -> [[u32; 3]; RING]
     requires { ⌜ Cut n i j ⌝ }
     ensures { λ r. ⌜ take (j - i) r ≡ between (take n poly) i j ⌝ }
 {
@@ -162,7 +170,7 @@ fn ring_one(poly: [[u32; 3]; 32], n: usize, i: usize, j: usize) -> [[u32; 3]; 32
 }
 
 // Corners j to the last, then 0 to i-1.
-fn ring_two(poly: [[u32; 3]; 32], n: usize, i: usize, j: usize) -> [[u32; 3]; 32]
+fn ring_two(poly: [[u32; 3]; RING], n: usize, i: usize, j: usize) -> [[u32; 3]; RING]
     requires { ⌜ Cut n i j ⌝ }
     ensures { λ r. ⌜ take (n - (j - i)) r ≡ around (take n poly) i j ⌝ }
 {
@@ -181,8 +189,8 @@ pub fn put_corner(corner: [u32; 3], out: &mut [u32], at: usize)
 }
 
 // The first n corners of a row go to the list.
-fn put_row(poly: [[u32; 3]; 32], n: usize, out: &mut [u32], at: usize)
-    requires { ⌜ (n ≤ 32) × (at + 3 * n ≤ length (now out)) ⌝ }
+fn put_row(poly: [[u32; 3]; RING], n: usize, out: &mut [u32], at: usize)
+    requires { ⌜ (n ≤ ringLimit) × (at + 3 * n ≤ length (now out)) ⌝ }
     ensures { λ _. ⌜ now (out .exit) ≡ sets (now (out .entry)) at (joined (take n poly)) ⌝ }
 {
     let mut k: usize = 0;
@@ -193,7 +201,13 @@ fn put_row(poly: [[u32; 3]; 32], n: usize, out: &mut [u32], at: usize)
 }
 
 // A ring that is not folded goes to the lists where it has three corners or more.
-fn put_ring(poly: [[u32; 3]; 32], n: usize, out: &mut [u32], lens: &mut [u32], at: Filled) -> Filled
+fn put_ring(
+    poly: [[u32; 3]; RING],
+    n: usize,
+    out: &mut [u32],
+    lens: &mut [u32],
+    at: Filled,
+) -> Filled
     requires { ⌜ Room n (now out) (now lens) (at .corners) (at .faces) ⌝ }
     requires { ⌜ folded (take n poly) ≡ false ⌝ }
     ensures { λ r. ⌜ Placed (ringPieces (take n poly)) (now (out .entry)) (now (out .exit)) (now (lens .entry)) (now (lens .exit)) (at .corners) (at .faces) (r .corners) (r .faces) ⌝ }
@@ -213,7 +227,7 @@ fn put_ring(poly: [[u32; 3]; 32], n: usize, out: &mut [u32], lens: &mut [u32], a
 
 // The pieces of a larger face go to the lists: each of the two rings is split again by the same rule, the first ring's pieces first.
 pub fn split_into_nondegenerate(
-    poly: [[u32; 3]; 32],
+    poly: [[u32; 3]; RING],
     n: usize,
     out: &mut [u32],
     lens: &mut [u32],

@@ -13,6 +13,7 @@ use Rattle.lists.proofs.Bools.{and-left, and-right, by-cases}
 use Rattle.lists.proofs.Counting.{clash}
 use Rattle.lists.proofs.Only.{some-only}
 use Rattle.lists.proofs.Parts.{some-append, every-at, each-joined, every-joined, some-joined}
+use Rattle.mesh.specs.Limits.{ringLimit}
 use Rattle.mesh.specs.Mesh.{Mesh, Ring, meshOf, threes}
 use Rattle.mesh.specs.Table.{meshNumber, astray, astrayAt, ungrouped}
 use Rattle.mesh.proofs.Corners.{isCorner, threes-joined}
@@ -42,13 +43,13 @@ some-pushed p fs e =
 -- ---- a face in order has from 3 to 32 corners
 
 abbrev pub sized : Ring → Bool
-sized f = leb 3 (length f) && leb (length f) 32
+sized f = leb 3 (length f) && leb (length f) ringLimit
 
 -- there are at most a third as many faces as corners
 pub sized-count : (fs : List Ring) → every sized fs ≡ true → 3 * length fs ≤ cornerCount fs
 sized-count [] e = omega arith
 sized-count (f ∷ fs) e =
-    let a : 3 ≤ length f = leb-true 3 (length f) (and-left (leb 3 (length f)) (leb (length f) 32) (and-left (sized f) (every sized fs) e)) in
+    let a : 3 ≤ length f = leb-true 3 (length f) (and-left (leb 3 (length f)) (leb (length f) ringLimit) (and-left (sized f) (every sized fs) e)) in
     let b : 3 * length fs ≤ cornerCount fs = sized-count fs (and-right (sized f) (every sized fs) e) in
     omega arith
 
@@ -93,7 +94,7 @@ module _ (p t n : List Float) (fs : List Ring) (o : Orderly p t n fs) where
           fit = sizes-back m (λ k h.
               let z : sized (getD (pushed fs) k []) ≡ true = size-of k h in
               let y = getD (pushed fs) k [] in
-              (rw (size-at (pushed fs) k) (leb-true 3 (length y) (and-left (leb 3 (length y)) (leb (length y) 32) z)), rw (size-at (pushed fs) k) (leb-true (length y) 32 (and-right (leb 3 (length y)) (leb (length y) 32) z))));
+              (rw (size-at (pushed fs) k) (leb-true 3 (length y) (and-left (leb 3 (length y)) (leb (length y) ringLimit) z)), rw (size-at (pushed fs) k) (leb-true (length y) ringLimit (and-right (leb 3 (length y)) (leb (length y) ringLimit) z))));
           grouped = pushed-grouped fs;
         };
         found =

@@ -9,6 +9,7 @@ use borrow.Author.Tests.{ltb-false, leb-false, eqb-true, not-false, le-ltb, lt-l
 use Rattle.lists.specs.Lists.{sum}
 use Rattle.lists.proofs.Bools.{or-false-left, or-false-right, or-neither, by-cases}
 use Rattle.lists.proofs.Parts.{some-false-at, some-none}
+use Rattle.mesh.specs.Limits.{ringLimit}
 use Rattle.mesh.specs.Mesh.{Mesh, threes, missing, positionCount, textureCount, normalCount}
 use Rattle.mesh.specs.Table.{overLimits, uneven, misfit, outside, ungrouped, astray, astrayAt, beyondUnlessMissing, kind, falls, meshNumber}
 use Rattle.mesh.specs.Face.{Sound}
@@ -88,16 +89,16 @@ sound m s = record { few = within m (s .within) .sizes; fits = within m (s .with
 pub size-least : (m : Mesh) → misfit m ≡ false → (k : ℕ) → k < length (m .sizes) → 3 ≤ getD (m .sizes) k 0
 unfolding misfit
 size-least m h k l =
-    let n = getD (m .sizes) k 0 in ltb-false n 3 (or-false-left (ltb n 3) (ltb 32 n) (some-false-at outside 0 (m .sizes) k h l))
+    let n = getD (m .sizes) k 0 in ltb-false n 3 (or-false-left (ltb n 3) (ltb ringLimit n) (some-false-at outside 0 (m .sizes) k h l))
 
-pub size-most : (m : Mesh) → misfit m ≡ false → (k : ℕ) → k < length (m .sizes) → getD (m .sizes) k 0 ≤ 32
+pub size-most : (m : Mesh) → misfit m ≡ false → (k : ℕ) → k < length (m .sizes) → getD (m .sizes) k 0 ≤ ringLimit
 unfolding misfit
 size-most m h k l =
-    let n = getD (m .sizes) k 0 in ltb-false 32 n (or-false-right (ltb n 3) (ltb 32 n) (some-false-at outside 0 (m .sizes) k h l))
+    let n = getD (m .sizes) k 0 in ltb-false ringLimit n (or-false-right (ltb n 3) (ltb ringLimit n) (some-false-at outside 0 (m .sizes) k h l))
 
-pub sizes-back : (m : Mesh) → ((k : ℕ) → k < length (m .sizes) → (3 ≤ getD (m .sizes) k 0) × (getD (m .sizes) k 0 ≤ 32)) → misfit m ≡ false
+pub sizes-back : (m : Mesh) → ((k : ℕ) → k < length (m .sizes) → (3 ≤ getD (m .sizes) k 0) × (getD (m .sizes) k 0 ≤ ringLimit)) → misfit m ≡ false
 unfolding misfit
-sizes-back m f = some-none outside 0 (m .sizes) (λ k l. let n = getD (m .sizes) k 0 in or-neither (ltb n 3) (ltb 32 n) (le-ltb n 3 (f k l .0)) (le-ltb 32 n (f k l .1)))
+sizes-back m f = some-none outside 0 (m .sizes) (λ k l. let n = getD (m .sizes) k 0 in or-neither (ltb n 3) (ltb ringLimit n) (le-ltb n 3 (f k l .0)) (le-ltb ringLimit n (f k l .1)))
 
 -- ---- row 5: every index is missing or below its count
 
@@ -156,7 +157,7 @@ pub record Accepted (m : Mesh) : Type 0 where
   pub whole : Even m
   pub sound : Sound (m .corners) (m .sizes)
   pub least : (k : ℕ) → k < length (m .sizes) → 3 ≤ getD (m .sizes) k 0
-  pub most : (k : ℕ) → k < length (m .sizes) → getD (m .sizes) k 0 ≤ 32
+  pub most : (k : ℕ) → k < length (m .sizes) → getD (m .sizes) k 0 ≤ ringLimit
   pub grouped : falls (map kind (m .sizes)) ≡ false
   pub corner : (k : ℕ) → k < length (m .corners) / 3 → Found m k
 

@@ -1,3 +1,4 @@
+pub mod Limits
 pub mod Mesh
 pub mod Table
 pub mod Face

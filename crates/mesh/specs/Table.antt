@@ -6,6 +6,7 @@ use mathlib.Core.List.{List, [], _∷_, map}
 use lib.ListN.{length}
 use lib.Dec.{ltb, leb, eqb}
 use Rattle.lists.specs.Lists.{some, sum}
+use Rattle.mesh.specs.Limits.{ringLimit}
 use Rattle.mesh.specs.Mesh.{Mesh, Corner, position, texture, normal, missing, threes, positionCount, textureCount, normalCount}
 
 -- a row of the table: its number where its rule says so, else 0
@@ -39,7 +40,7 @@ uneven m =
 
 -- 3: a face size lies outside 3 to 32
 abbrev pub outside : ℕ → Bool
-outside n = ltb n 3 || ltb 32 n
+outside n = ltb n 3 || ltb ringLimit n
 
 unfoldable pub misfit : Mesh → Bool
 misfit m = some outside (m .sizes)

@@ -16,6 +16,9 @@ ghost use Rattle.mesh.specs.Face as part;
 // The mark of a missing texture or normal.
 pub const MISSING: u32 = 4294967295;
 
+// The most corners that a face may have.
+pub const RING: usize = 32;
+
 // The number that the five lists earn: the first row of 1 to 5 whose rule says so, or 0.
 pub fn number(
     positions: &[f64],
@@ -177,7 +180,7 @@ fn is_outside(n: u32) -> bool
     if n < 3 {
         return true;
     }
-    32 < n
+    RING < n as usize
 }
 
 // Row 4: sizes aren't grouped: triangles first, then quadrangles, then larger faces.

@@ -7,6 +7,7 @@ use native.Mathlib.Omega.{arith}
 use lib.ListN.{length}
 use lib.Dec.{ltb, eqb}
 use borrow.Author.Tests.{ltb-false, not-false, eqb-true}
+use Rattle.mesh.specs.Limits.{ringLimit}
 use Rattle.mesh.specs.Table.{when, firstOf}
 use Rattle.mesh.proofs.Numbers.{first-head, first-tail, when-not}
 use Rattle.panelfile.specs.declared.Record.{Record}
@@ -33,11 +34,11 @@ unfolding faceFrom
 face-fits s at n h l =
     let b = at + 4 in
     let c = byte s b in
-    let other = when (ltb 32 c) 3 ∷ [] in
+    let other = when (ltb ringLimit c) 3 ∷ [] in
     unless-fits (length s) at (firstOf (when (not (eqb (1 + 12 * c) n)) 12 ∷ other)) (Face (b + 1) c) h
     (λ e.
     let i : 1 + 12 * c ≡ n = eqb-true (1 + 12 * c) n (not-false (eqb (1 + 12 * c) n) (when-not (not (eqb (1 + 12 * c) n)) 11 (first-head (when (not (eqb (1 + 12 * c) n)) 12) other e))) in
-    let j : c ≤ 32 = ltb-false 32 c (when-not (ltb 32 c) 2 (first-head (when (ltb 32 c) 3) [] (first-tail (when (not (eqb (1 + 12 * c) n)) 12) other e))) in
+    let j : c ≤ ringLimit = ltb-false ringLimit c (when-not (ltb ringLimit c) 2 (first-head (when (ltb ringLimit c) 3) [] (first-tail (when (not (eqb (1 + 12 * c) n)) 12) other e))) in
     record { fits = omega arith; placed = (omega arith, j) })
 
 body-fits : (s : List ℕ) (at n k : ℕ) → at ≤ length s → at + 4 + n ≤ length s → lengthFits k n ≡ true → Fitted (length s) at (bodyFrom s (at + 4) n k)

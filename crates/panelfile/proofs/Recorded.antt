@@ -10,6 +10,7 @@ use lib.Dec.{eqb, leb}
 use lib.ListN.{length}
 use borrow.Author.Tests.{eqb-true, eq-eqb, ne-eqb, lt-ltb, le-ltb}
 use Rattle.lists.proofs.Bools.{and-right}
+use Rattle.mesh.specs.Limits.{ringLimit}
 use Rattle.panelfile.specs.declared.Record.{Record}
 use Rattle.panelfile.specs.declared.Record.the-variants.{Position, Texture, Normal, Face, End, Refused}
 use Rattle.panelfile.specs.Records.{byte, half, lengthFits, faceFrom, bodyFrom, recordFrom, numberOf}
@@ -58,13 +59,13 @@ module _ (s : List ℕ) (b n c : ℕ) (e : c ≡ byte s b) where
   unfolding faceFrom
   face-unlike h = rw (← e, ne-eqb (1 + 12 * c) n h)
 
-  pub face-many : 1 + 12 * c ≡ n → 32 < c → Refused 3 ≡ faceFrom s b n
+  pub face-many : 1 + 12 * c ≡ n → ringLimit < c → Refused 3 ≡ faceFrom s b n
   unfolding faceFrom
-  face-many h l = rw (← e, eq-eqb (1 + 12 * c) n h, lt-ltb 32 c l)
+  face-many h l = rw (← e, eq-eqb (1 + 12 * c) n h, lt-ltb ringLimit c l)
 
-  pub face-good : 1 + 12 * c ≡ n → c ≤ 32 → Face (b + 1) c ≡ faceFrom s b n
+  pub face-good : 1 + 12 * c ≡ n → c ≤ ringLimit → Face (b + 1) c ≡ faceFrom s b n
   unfolding faceFrom
-  face-good h l = rw (← e, eq-eqb (1 + 12 * c) n h, le-ltb 32 c l)
+  face-good h l = rw (← e, eq-eqb (1 + 12 * c) n h, le-ltb ringLimit c l)
 
 -- ---- a record, with n and k its length and its kind
 

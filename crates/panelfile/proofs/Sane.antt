@@ -10,6 +10,7 @@ use borrow.Author.Tests.{ltb-false, le-leb}
 use Rattle.lists.specs.Lists.{every}
 use Rattle.lists.proofs.Bools.{by-cases, and-both}
 use Rattle.lists.proofs.Parts.{every-append}
+use Rattle.mesh.specs.Limits.{ringLimit}
 use Rattle.mesh.specs.Mesh.{Ring}
 use Rattle.mesh.proofs.Faces.{isRing}
 use Rattle.grouping.specs.Push.{cornerCount}
@@ -35,8 +36,8 @@ limited-sane : (size : ℕ) (b : Bool) (z new : Reader) → Sane size z → (b �
 limited-sane size true z new h f = record { place = h .place; drawn = h .drawn }
 limited-sane size false z new h f = f refl
 
-face-sized : (s : List ℕ) (n a : ℕ) → 3 ≤ n → n ≤ 32 → sized (ringFrom s n a) ≡ true
-face-sized s n a h l = rw (ring-length s n a) (and-both (leb 3 n) (leb n 32) (le-leb 3 n h) (le-leb n 32 l))
+face-sized : (s : List ℕ) (n a : ℕ) → 3 ≤ n → n ≤ ringLimit → sized (ringFrom s n a) ≡ true
+face-sized s n a h l = rw (ring-length s n a) (and-both (leb 3 n) (leb n ringLimit) (le-leb 3 n h) (le-leb n ringLimit l))
 
 every-more : (p : Ring → Bool) (fs : List Ring) (f : Ring) → every p fs ≡ true → p f ≡ true → every p (fs ++ f ∷ []) ≡ true
 every-more p fs f e h = every-append p fs (f ∷ []) ∙ rw (e, h)

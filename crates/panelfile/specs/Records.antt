@@ -5,6 +5,7 @@ use mathlib.Core.List.{List, [], _∷_}
 use lib.ListN.{length, getD}
 use lib.Dec.{ltb, leb, eqb}
 use lib.Ieee.{Float, ofBits, binary64}
+use Rattle.mesh.specs.Limits.{ringLimit}
 use Rattle.mesh.specs.Table.{when, firstOf}
 use Rattle.floating.specs.declared.Point.{Point}
 use Rattle.floating.specs.declared.Texel.{Texel}
@@ -51,7 +52,7 @@ unless (suc n) r = Refused (suc n)
 -- a face: n unlike m gives 12, n over 32 gives 3; its first corner stands behind the byte n
 unfoldable pub faceFrom : List ℕ → ℕ → ℕ → Record
 faceFrom s b n =
-    unless (firstOf (when (not (eqb (1 + 12 * byte s b) n)) 12 ∷ when (ltb 32 (byte s b)) 3 ∷ [])) (Face (b + 1) (byte s b))
+    unless (firstOf (when (not (eqb (1 + 12 * byte s b) n)) 12 ∷ when (ltb ringLimit (byte s b)) 3 ∷ [])) (Face (b + 1) (byte s b))
 
 -- the body of n bytes at b, by its kind
 unfoldable pub bodyFrom : List ℕ → ℕ → ℕ → ℕ → Record

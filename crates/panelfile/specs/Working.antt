@@ -6,6 +6,7 @@ use mathlib.Core.List.{List, map}
 use lib.ListN.{length, take}
 use lib.Ieee.{Float}
 use Rattle.lists.specs.Lists.{joined, each}
+use Rattle.mesh.specs.Limits.{ringLimit}
 use Rattle.grouping.specs.Push.{cornerCount}
 use Rattle.panelfile.specs.declared.Record.{Record}
 use Rattle.panelfile.specs.declared.Record.the-variants.{Position, Texture, Normal, Face, End, Refused}
@@ -35,7 +36,7 @@ abbrev pub Placed : ℕ → Record → Type 0
 Placed at (Position p) = Unit {0}
 Placed at (Texture t) = Unit {0}
 Placed at (Normal p) = Unit {0}
-Placed at (Face a n) = (at < a) × (n ≤ 32)
+Placed at (Face a n) = (at < a) × (n ≤ ringLimit)
 Placed at End = Unit {0}
 Placed at (Refused n) = n ≡ 0 → ⊥
 

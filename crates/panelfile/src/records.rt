@@ -79,7 +79,7 @@ fn face(s: &[u8], b: usize, n: usize) -> Record
     if 1 + 12 * m != n {
         return Record::Refused(12);
     }
-    if 32 < count {
+    if mesh::RING < m {
         return Record::Refused(3);
     }
     Record::Face(b + 1, count)

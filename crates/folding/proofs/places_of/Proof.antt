@@ -1,6 +1,7 @@
 -- `folding::places_of` meets its contract: the first k positions are read, and k rises to 32. Assumes nothing.
 use Prim.Native.Nat.{_-_}
 use Rattle.lists.proofs.Writing.{copy-begins}
+use Rattle.mesh.specs.Limits.{ringLimit}
 use Rattle.folding.proofs.Rows.{Reading, read-turns, read-ends}
 use borrow.Author.Needs.{needs}
 use native.Mathlib.Omega.{arith}
@@ -11,7 +12,7 @@ abbrev Inv-loop : tie.InvT-loop
 Inv-loop poly places₀ k₀ places k = Reading poly places₀ places k
 
 abbrev μ-loop : tie.MeasureT-loop
-μ-loop poly places₀ k₀ places k = 32 - k
+μ-loop poly places₀ k₀ places k = ringLimit - k
 
 loop-holds : tie.Need-loop-holds Inv-loop μ-loop
 loop-holds c = copy-begins 0 _ _ _
