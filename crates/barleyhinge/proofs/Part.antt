@@ -8,6 +8,7 @@ use lib.ListN.{length, getD, take, drop}
 use lib.Dec.{ltb, eqb}
 use borrow.Author.Tests.{ltb-true, eqb-true, lt-ltb, eq-eqb}
 use Rattle.lists.proofs.Bools.{by-cases, and-left, and-right}
+use Rattle.mesh.specs.Limits.{width}
 use Rattle.mesh.specs.Mesh.{Mesh}
 use Rattle.mesh.specs.Table.{shapeNumber}
 use Rattle.mesh.specs.Face.{offsetOf, faceOf, facePart, listIf}
@@ -43,7 +44,7 @@ pub few : (m : Mesh) (k : ℕ) → There m k → length (m .sizes) ≤ 1365
 few m k t = sound m (shaped m (t .clear)) .few
 
 -- a face's part is three numbers for each of its corners
-part-length : (m : Mesh) (k : ℕ) (p : List ℕ) → p ≡ facePart m k → There m k → length p ≡ 3 * getD (m .sizes) k 0
+part-length : (m : Mesh) (k : ℕ) (p : List ℕ) → p ≡ facePart m k → There m k → length p ≡ width * getD (m .sizes) k 0
 part-length m k p e t =
     ap length (e ∙ sym (a-face m k (t .is-face) (t .clear)))
     ∙ face-length (m .corners) (m .sizes) (sound m (shaped m (t .clear))) k (t .is-face)
@@ -52,7 +53,7 @@ part-length m k p e t =
 part-long : (m : Mesh) (k : ℕ) (p : List ℕ) → p ≡ facePart m k → There m k → length p ≡ 0 → ⊥
 part-long m k p e t h =
     let a : 3 ≤ getD (m .sizes) k 0 = size-least m (shaped m (t .clear) .fit) k (t .is-face) in
-    let b : length p ≡ 3 * getD (m .sizes) k 0 = part-length m k p e t in
+    let b : length p ≡ width * getD (m .sizes) k 0 = part-length m k p e t in
     omega arith
 
 no-numbers : (l : List ℕ) → length l ≡ 0 → [] ≡ l
@@ -67,20 +68,20 @@ empty m k p e h =
       part = ap (λ (n : ℕ). take n (m .corners)) h ∙ no-numbers p h ∙ e;
       begins =
           by-cases (isThere m k) (λ f. absurd (part-long m k p e (there-by m k f) h))
-          (λ f. sym (ap (λ (b : Bool). cond b (3 * offsetOf (m .sizes) k) 0) f));
+          (λ f. sym (ap (λ (b : Bool). cond b (width * offsetOf (m .sizes) k) 0) f));
       long = ap length e;
     }
 
 -- any other behind the faces before it
 pub filled :
     (m : Mesh) (k : ℕ) (p : List ℕ) (at : ℕ) → p ≡ facePart m k → There m k → at ≡ offsetOf (m .sizes) k
-    → PartAnswer m k (3 * at) (length p)
+    → PartAnswer m k (width * at) (length p)
 unfolding startOf faceOf
 filled m k p at e t o =
     record {
       part =
-          ap (λ (n : ℕ). take n (drop (3 * at) (m .corners))) (part-length m k p e t)
-          ∙ ap (λ (i : ℕ). take (3 * getD (m .sizes) k 0) (drop (3 * i) (m .corners))) o
+          ap (λ (n : ℕ). take n (drop (width * at) (m .corners))) (part-length m k p e t)
+          ∙ ap (λ (i : ℕ). take (width * getD (m .sizes) k 0) (drop (width * i) (m .corners))) o
           ∙ a-face m k (t .is-face) (t .clear);
       begins = rw (lt-ltb k (length (m .sizes)) (t .is-face), eq-eqb (shapeNumber m) 0 (t .clear), o);
       long = ap length e;

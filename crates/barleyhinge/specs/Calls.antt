@@ -5,6 +5,7 @@ use mathlib.Core.Path.{_≡_}
 use mathlib.Core.Bool.{cond, _&&_}
 use lib.ListN.{length, take, drop}
 use lib.Dec.{ltb, eqb}
+use Rattle.mesh.specs.Limits.{width}
 use Rattle.mesh.specs.Mesh.{Mesh}
 use Rattle.mesh.specs.Table.{shapeNumber, meshNumber, after}
 use Rattle.mesh.specs.Face.{offsetOf, facePart}
@@ -20,7 +21,7 @@ use Rattle.sheet.specs.declared.Answer.{Answer as Sheet}
 -- where the part of face k starts in the list of corners: behind three numbers for each corner of the faces before it; 0 where
 -- the part is empty
 unfoldable pub startOf : Mesh → ℕ → ℕ
-startOf m k = cond (ltb k (length (m .sizes)) && eqb (shapeNumber m) 0) (3 * offsetOf (m .sizes) k) 0
+startOf m k = cond (ltb k (length (m .sizes)) && eqb (shapeNumber m) 0) (width * offsetOf (m .sizes) k) 0
 
 -- the part of a face, as its start and its length in the list of corners
 pub record PartAnswer (m : Mesh) (k start len : ℕ) : Type 0 where

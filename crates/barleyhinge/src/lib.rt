@@ -53,7 +53,7 @@ pub extern "C" fn bh_face(
     *start = 0;
     *len = n;
     if n != 0 {
-        *start = 3 * mesh::offset(sizes, k);
+        *start = mesh::WIDTH * mesh::offset(sizes, k);
     }
 }
 

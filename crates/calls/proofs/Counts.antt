@@ -5,6 +5,7 @@ use Prim.Native.Nat.{suc, _+_, _*_, _/_, _≤_}
 use native.Mathlib.Omega.{arith}
 use lib.ListN.{length, length-append}
 use Rattle.lists.specs.Lists.{sum}
+use Rattle.mesh.specs.Limits.{width}
 use Rattle.mesh.specs.Mesh.{Mesh, faces}
 use Rattle.mesh.specs.Table.{meshNumber}
 use Rattle.mesh.proofs.Faces.{length-rings, sizes-back}
@@ -40,13 +41,13 @@ sizes-are m e = let a : Accepted m = accepted m e in sizes-back (m .sizes) (m .c
 
 pub corners-count : (m n : Mesh) → meshNumber m ≡ 0 → meshNumber n ≡ 0 → Same (faces m) (faces n) → length (m .corners) ≡ length (n .corners)
 corners-count m n a b s =
-    let p : 3 * sum (m .sizes) ≡ length (m .corners) = accepted m a .whole .adds in
-    let q : 3 * sum (n .sizes) ≡ length (n .corners) = accepted n b .whole .adds in
+    let p : width * sum (m .sizes) ≡ length (m .corners) = accepted m a .whole .adds in
+    let q : width * sum (n .sizes) ≡ length (n .corners) = accepted n b .whole .adds in
     let e : sum (m .sizes) ≡ sum (n .sizes) = sym (ap sum (sizes-are m a)) ∙ same-sizes s ∙ ap sum (sizes-are n b) in
     omega arith
 
 -- no more faces than corners
-pub faces-few : (m : Mesh) → meshNumber m ≡ 0 → length (faces m) ≤ length (m .corners) / 3
+pub faces-few : (m : Mesh) → meshNumber m ≡ 0 → length (faces m) ≤ length (m .corners) / width
 unfolding faces
 faces-few m e =
     let a : Accepted m = accepted m e in

@@ -4,6 +4,7 @@ use mathlib.Core.Path.{_≡_, _∙_}
 use mathlib.Core.List.{[], _∷_}
 use Prim.Native.Nat.{ℕ, _*_, _/_, _≤_}
 use lib.ListN.{length}
+use Rattle.mesh.specs.Limits.{width}
 use Rattle.mesh.specs.Mesh.{Mesh}
 use Rattle.mesh.specs.Table.{meshNumber, when, firstOf, lent, short}
 use Rattle.mesh.proofs.After.{two-roomy}
@@ -25,8 +26,8 @@ pub numbers-agree :
     (m n : Mesh) → meshNumber m ≡ meshNumber n → length (m .corners) ≡ length (n .corners) → unwired m ≡ unwired n → SameNumbers m n
 unfolding hemNumber portedNumber houseNumber panelsNumber
 numbers-agree m n k c u = record {
-  hem-number = λ x y i. firstOf (k i ∷ when (short (lent x (c i / 3) ∷ lent y (c i / 3) ∷ [])) 9 ∷ []);
-  ported-number = λ x y i. firstOf (k i ∷ when (short (lent x (2 * (c i / 3)) ∷ lent y (c i / 3) ∷ [])) 9 ∷ []);
-  house-number = λ x y i. firstOf (k i ∷ when (short (lent x (c i / 3) ∷ lent y (c i / 3) ∷ [])) 9 ∷ when (u i) 10 ∷ []);
-  panels-number = λ x y i. firstOf (k i ∷ when (short (lent x (c i / 3) ∷ lent y (c i / 3) ∷ [])) 9 ∷ []);
+  hem-number = λ x y i. firstOf (k i ∷ when (short (lent x (c i / width) ∷ lent y (c i / width) ∷ [])) 9 ∷ []);
+  ported-number = λ x y i. firstOf (k i ∷ when (short (lent x (2 * (c i / width)) ∷ lent y (c i / width) ∷ [])) 9 ∷ []);
+  house-number = λ x y i. firstOf (k i ∷ when (short (lent x (c i / width) ∷ lent y (c i / width) ∷ [])) 9 ∷ when (u i) 10 ∷ []);
+  panels-number = λ x y i. firstOf (k i ∷ when (short (lent x (c i / width) ∷ lent y (c i / width) ∷ [])) 9 ∷ []);
 }

@@ -5,6 +5,7 @@ use mathlib.Core.Bool.{Bool}
 use mathlib.Core.List.{List}
 use Prim.Native.Nat.{ℕ, _*_, _/_, _≤_}
 use lib.ListN.{length, take}
+use Rattle.mesh.specs.Limits.{width}
 use Rattle.mesh.specs.Mesh.{Mesh}
 use Rattle.edges.specs.Edges.{Edge}
 use Rattle.edges.specs.Answers.{answerOf, judged, HemAnswer}
@@ -21,7 +22,7 @@ use Rattle.panels.specs.declared.Answer.{Answer}
 
 -- how many corners a mesh has: the stated room of most lists
 abbrev pub cornersOf : Mesh → ℕ
-cornersOf m = length (m .corners) / 3
+cornersOf m = length (m .corners) / width
 
 -- ---- `edges::shell_condition`
 

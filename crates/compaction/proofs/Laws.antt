@@ -15,6 +15,7 @@ use Rattle.lists.proofs.Bools.{and-both, or-neither}
 use Rattle.lists.proofs.Mapping.{map-same}
 use Rattle.lists.proofs.Parts.{some-none, each-joined, every-joined}
 use Rattle.lists.proofs.Members.{in-head, in-tail}
+use Rattle.mesh.specs.Limits.{width}
 use Rattle.mesh.specs.Mesh.{Mesh, meshOf, Corner, Ring, position, texture, normal, missing, threes, rings, faces, positionCount, textureCount, normalCount}
 use Rattle.mesh.specs.Table.{astray, astrayAt, misfit, ungrouped, meshNumber}
 use Rattle.mesh.proofs.Corners.{length-threes, getD-threes, isCorner, threes-joined, length-corners}
@@ -158,21 +159,21 @@ module _ (m : Mesh) (z : meshNumber m ≡ 0) where
   pub corners-kept : length (compacted m .corners) ≡ length (m .corners)
   unfolding compacted
   corners-kept =
-      let a : length (joined (map (renumbered m) (threes (m .corners)))) ≡ 3 * length (map (renumbered m) (threes (m .corners))) =
+      let a : length (joined (map (renumbered m) (threes (m .corners)))) ≡ width * length (map (renumbered m) (threes (m .corners))) =
       length-corners (map (renumbered m) (threes (m .corners))) (new-corners m (threes (m .corners))) in
       let b : length (map (renumbered m) (threes (m .corners))) ≡ length (threes (m .corners)) =
       length-map (threes (m .corners)) (renumbered m) in
-      let c : length (threes (m .corners)) ≡ length (m .corners) / 3 = length-threes (m .corners) in
+      let c : length (threes (m .corners)) ≡ length (m .corners) / width = length-threes (m .corners) in
       omega (arith, accepted m z .whole .corners)
 
   -- ---- the result is accepted
 
   position-there : (k : ℕ) → k < length (threes (m .corners)) → eqb (position (getD (threes (m .corners)) k [])) missing ≡ false
   position-there k h =
-      let l : k < length (m .corners) / 3 = rw (length-threes (m .corners)) at h in
-      let e : position (getD (threes (m .corners)) k []) ≡ getD (m .corners) (3 * k) 0 =
+      let l : k < length (m .corners) / width = rw (length-threes (m .corners)) at h in
+      let e : position (getD (threes (m .corners)) k []) ≡ getD (m .corners) (width * k) 0 =
       ap position (getD-threes (m .corners) k l) in
-      let b : getD (m .corners) (3 * k) 0 < positionCount m = accepted m z .corner k l .position in
+      let b : getD (m .corners) (width * k) 0 < positionCount m = accepted m z .corner k l .position in
       ne-eqb (position (getD (threes (m .corners)) k [])) missing (λ g. omega (arith, accepted m z .limits .positions))
 
   -- each index is below its new count, or missing

@@ -11,6 +11,7 @@ use lib.Ieee.{Float}
 use Rattle.lists.specs.Lists.{joined}
 use Rattle.lists.proofs.Parts.{joined-append}
 use Rattle.lists.proofs.Writing.{sets-append}
+use Rattle.mesh.specs.Limits.{width}
 use Rattle.mesh.specs.Mesh.{Corner, Ring, missing, threes, cornerAt}
 use Rattle.mesh.proofs.Corners.{length-threes, getD-threes}
 use Rattle.compaction.specs.declared.Compacted.{Compacted}
@@ -38,7 +39,7 @@ module _
   column-long = ap length (c .grown) ∙ length-sets fresh₀ 0 (entries w attrs (usesTo q cs k))
 
   pub column-before :
-      (out₀ out : List ℕ) → Pointed attrs w cs q → k < length cs / 3 → length attrs ≤ length fresh₀ → length cs ≤ length out₀
+      (out₀ out : List ℕ) → Pointed attrs w cs q → k < length cs / width → length attrs ≤ length fresh₀ → length cs ≤ length out₀
       → length out ≡ length out₀
       → Before attrs w cs k q old2new used fresh out
   column-before out₀ out p h r s e = record {
@@ -59,13 +60,13 @@ module _
   column-few p = omega (arith, c .tables .counted, uses-within p k, p .few)
 
   -- where all are read
-  all-read : length cs / 3 ≤ k → usesTo q cs k ≡ firstUses (column q cs)
+  all-read : length cs / width ≤ k → usesTo q cs k ≡ firstUses (column q cs)
   all-read h = ap firstUses (take-all k (column q cs) (rw (length-column q cs) h))
 
-  column-ends : length cs / 3 ≤ k → fresh ≡ sets fresh₀ 0 (entries w attrs (firstUses (column q cs)))
+  column-ends : length cs / width ≤ k → fresh ≡ sets fresh₀ 0 (entries w attrs (firstUses (column q cs)))
   column-ends h = c .grown ∙ ap (λ (us : List ℕ). sets fresh₀ 0 (entries w attrs us)) (all-read h)
 
-  column-counts : length cs / 3 ≤ k → used ≡ length (firstUses (column q cs))
+  column-counts : length cs / width ≤ k → used ≡ length (firstUses (column q cs))
   column-counts h = c .tables .counted ∙ ap length (all-read h)
 
 -- ---- the new corners
@@ -74,16 +75,16 @@ three-stores : (l : List ℕ) (a x y z : ℕ) → set (set (set l (a + 0) x) (a 
 three-stores l a x y z = simp (add-zero, towards-suc)
 
 module _ (cs : List ℕ) where
-  length-new : (l : Ring) → length (joined (map (newCorner cs) l)) ≡ 3 * length l
+  length-new : (l : Ring) → length (joined (map (newCorner cs) l)) ≡ width * length l
   length-new [] = refl
-  length-new (c ∷ l) = let e : length (joined (map (newCorner cs) l)) ≡ 3 * length l = length-new l in omega arith
+  length-new (c ∷ l) = let e : length (joined (map (newCorner cs) l)) ≡ width * length l = length-new l in omega arith
 
   -- corner k with its new numbers
-  corner-is : (k : ℕ) → k < length cs / 3 → newCorner cs (getD (threes cs) k []) ≡ newCorner cs (cornerAt cs k)
+  corner-is : (k : ℕ) → k < length cs / width → newCorner cs (getD (threes cs) k []) ≡ newCorner cs (cornerAt cs k)
   corner-is k h = ap (newCorner cs) (getD-threes cs k h)
 
   more-corners :
-      (k : ℕ) → k < length cs / 3
+      (k : ℕ) → k < length cs / width
       → joined (map (newCorner cs) (take (k + 1) (threes cs))) ≡ joined (map (newCorner cs) (take k (threes cs))) ++ newCorner cs
       (cornerAt cs k)
   more-corners k h =
@@ -97,23 +98,23 @@ module _ (cs : List ℕ) where
 
   -- three stores behind the corners that are written
   corners-turn :
-      (o : List ℕ) (k : ℕ) → k < length cs / 3 → (c0 c1 c2 c3 : List ℕ)
+      (o : List ℕ) (k : ℕ) → k < length cs / width → (c0 c1 c2 c3 : List ℕ)
       → c0 ≡ sets o 0 (joined (map (newCorner cs) (take k (threes cs))))
-      → c1 ≡ set c0 (3 * k + 0) (renumber (firstUses (column 0 cs)) (getD cs (3 * k + 0) 0))
-      → c2 ≡ set c1 (3 * k + 1) (renumber (firstUses (column 1 cs)) (getD cs (3 * k + 1) 0))
-      → c3 ≡ set c2 (3 * k + 2) (renumber (firstUses (column 2 cs)) (getD cs (3 * k + 2) 0))
+      → c1 ≡ set c0 (width * k + 0) (renumber (firstUses (column 0 cs)) (getD cs (width * k + 0) 0))
+      → c2 ≡ set c1 (width * k + 1) (renumber (firstUses (column 1 cs)) (getD cs (width * k + 1) 0))
+      → c3 ≡ set c2 (width * k + 2) (renumber (firstUses (column 2 cs)) (getD cs (width * k + 2) 0))
       → c3 ≡ sets o 0 (joined (map (newCorner cs) (take (k + 1) (threes cs))))
   corners-turn o k h c0 c1 c2 c3 e0 e1 e2 e3 =
       let done = joined (map (newCorner cs) (take k (threes cs))) in
-      let long : 0 + length done ≡ 3 * k =
-      let a : length done ≡ 3 * length (take k (threes cs)) = length-new (take k (threes cs)) in
+      let long : 0 + length done ≡ width * k =
+      let a : length done ≡ width * length (take k (threes cs)) = length-new (take k (threes cs)) in
       let b : length (take k (threes cs)) ≡ k = length-take-le k (threes cs) (rw (length-threes cs) (omega arith)) in
       omega arith in
-      e3 ∙ rw (e2, e1) (three-stores c0 (3 * k) _ _ _)
-      ∙ ap (λ (i : ℕ). sets c0 (3 * k)
-      (renumber (firstUses (column 0 cs)) (getD cs i 0) ∷ renumber (firstUses (column 1 cs)) (getD cs (3 * k + 1) 0) ∷ renumber
-      (firstUses (column 2 cs)) (getD cs (3 * k + 2) 0) ∷ [])) (add-zero (3 * k))
-      ∙ ap (λ (l : List ℕ). sets l (3 * k) (newCorner cs (cornerAt cs k))) e0
+      e3 ∙ rw (e2, e1) (three-stores c0 (width * k) _ _ _)
+      ∙ ap (λ (i : ℕ). sets c0 (width * k)
+      (renumber (firstUses (column 0 cs)) (getD cs i 0) ∷ renumber (firstUses (column 1 cs)) (getD cs (width * k + 1) 0) ∷ renumber
+      (firstUses (column 2 cs)) (getD cs (width * k + 2) 0) ∷ [])) (add-zero (width * k))
+      ∙ ap (λ (l : List ℕ). sets l (width * k) (newCorner cs (cornerAt cs k))) e0
       ∙ ap (λ (n : ℕ). sets (sets o 0 done) n (newCorner cs (cornerAt cs k))) (sym long)
       ∙ sym (sets-append o 0 done (newCorner cs (cornerAt cs k)))
       ∙ ap (sets o 0) (sym (more-corners k h))
@@ -122,7 +123,7 @@ module _ (cs : List ℕ) where
 
 pub record Going
     (p t n : List Float) (cs : List ℕ) (before at : Result) (pmap tmap nmap : List ℕ) (pused tused nused k : ℕ) : Type 0 where
-  pub within : k ≤ length cs / 3
+  pub within : k ≤ length cs / width
   pub positions : Column p 3 cs 0 k (before .positions) (at .positions) pmap pused
   pub textures : Column t 2 cs 1 k (before .textures) (at .textures) tmap tused
   pub normals : Column n 3 cs 2 k (before .normals) (at .normals) nmap nused
@@ -146,7 +147,7 @@ module _
   going-long = ap length (g .corners) ∙ length-sets (before .corners) 0 (joined (map (newCorner cs) (take k (threes cs))))
 
   pub going-turns :
-      (behind : Result) (c1 c2 pmap′ tmap′ nmap′ : List ℕ) (pused′ tused′ nused′ : ℕ) → k < length cs / 3
+      (behind : Result) (c1 c2 pmap′ tmap′ nmap′ : List ℕ) (pused′ tused′ nused′ : ℕ) → k < length cs / width
       → Taken p 3 cs k 0 pmap′ pused′ (at .positions) (behind .positions) (at .corners) c1
       → Taken t 2 cs k 1 tmap′ tused′ (at .textures) (behind .textures) c1 c2
       → Taken n 3 cs k 2 nmap′ nused′ (at .normals) (behind .normals) c2 (behind .corners)
@@ -162,7 +163,7 @@ module _
   }
 
   pub going-ends :
-      (answer : Compacted) → length cs / 3 ≤ k → answer .number ≡ 0 → answer .positions ≡ pused → answer .textures ≡ tused
+      (answer : Compacted) → length cs / width ≤ k → answer .number ≡ 0 → answer .positions ≡ pused → answer .textures ≡ tused
       → answer .normals ≡ nused → Done p t n cs before at answer
   going-ends answer h a b c d = record {
     number = a;

@@ -17,6 +17,7 @@ use Rattle.lists.proofs.Parts.{some-take, some-false-at}
 use Rattle.lists.proofs.Writing.{sets-append}
 use Rattle.lists.proofs.Members.{has-snoc}
 use Rattle.lists.proofs.Others.{eqb-self}
+use Rattle.mesh.specs.Limits.{width}
 use Rattle.mesh.specs.Mesh.{Corner, missing, threes, cornerAt}
 use Rattle.mesh.specs.Table.{beyondUnlessMissing}
 use Rattle.mesh.proofs.Corners.{length-threes, getD-threes}
@@ -28,7 +29,7 @@ use Rattle.compaction.proofs.Entries.{entry-within, length-entries, ent
 
 -- ---- the column, index by index
 
-pub length-column : (q : ℕ) (cs : List ℕ) → length (column q cs) ≡ length cs / 3
+pub length-column : (q : ℕ) (cs : List ℕ) → length (column q cs) ≡ length cs / width
 length-column q cs = length-map (threes cs) (λ (c : Corner). getD c q 0) ∙ length-threes cs
 
 at-corner : (q : ℕ) (cs : List ℕ) (k : ℕ) → q < 3 → getD (cornerAt cs k) q 0 ≡ indexAt cs k q
@@ -37,7 +38,7 @@ at-corner (suc zero) cs k h = refl
 at-corner (suc (suc zero)) cs k h = refl
 at-corner (suc (suc (suc q))) cs k h = absurd (omega arith)
 
-pub getD-column : (q : ℕ) (cs : List ℕ) (k : ℕ) → q < 3 → k < length cs / 3 → getD (column q cs) k 0 ≡ indexAt cs k q
+pub getD-column : (q : ℕ) (cs : List ℕ) (k : ℕ) → q < 3 → k < length cs / width → getD (column q cs) k 0 ≡ indexAt cs k q
 getD-column q cs k h l =
     List·getD-map (λ (c : Corner). getD c q 0) (threes cs) k []
     ∙ ap (λ (c : Corner). getD c q 0) (getD-threes cs k l)
@@ -45,7 +46,7 @@ getD-column q cs k h l =
 
 -- one index more is read
 pub column-more :
-    (q : ℕ) (cs : List ℕ) (k : ℕ) → q < 3 → k < length cs / 3
+    (q : ℕ) (cs : List ℕ) (k : ℕ) → q < 3 → k < length cs / width
     → take (k + 1) (column q cs) ≡ take k (column q cs) ++ (indexAt cs k q ∷ [])
 column-more q cs k h l =
     let n : k < length (column q cs) = rw (length-column q cs) l in
@@ -78,7 +79,7 @@ module _ {attrs : List Float} {w : ℕ} {cs : List ℕ} {q : ℕ} (p : Pointed a
       length-entries attrs w (p .count) (usesTo q cs n) (p .whole) (uses-below (p .count) (take n (column q cs)) (early n))
 
   -- an index that is not missing is below the count
-  index-below : (k : ℕ) → k < length cs / 3 → eqb (indexAt cs k q) missing ≡ false → indexAt cs k q < p .count
+  index-below : (k : ℕ) → k < length cs / width → eqb (indexAt cs k q) missing ≡ false → indexAt cs k q < p .count
   index-below k h m =
       let i = indexAt cs k q in
       let l : k < length (column q cs) = rw (length-column q cs) h in
@@ -92,7 +93,7 @@ module _ {attrs : List Float} {w : ℕ} {cs : List ℕ} {q : ℕ} (p : Pointed a
 module _
     {attrs : List Float} {w : ℕ} {cs : List ℕ} {k q : ℕ} {old2new : List ℕ} {used : ℕ} {fresh : List Float} {out : List ℕ}
     (b : Before attrs w cs k q old2new used fresh out) where
-  there : k < length cs / 3
+  there : k < length cs / width
   there = omega (arith, b .corner)
 
   uses-are : usesTo q cs (k + 1) ≡ firstUses (take k (column q cs) ++ (indexAt cs k q ∷ []))
@@ -101,16 +102,16 @@ module _
   -- nothing changes but the corner
   unchanged :
       (n : ℕ) → usesTo q cs (k + 1) ≡ usesTo q cs k → n ≡ renumber (firstUses (column q cs)) (indexAt cs k q)
-      → Taken attrs w cs k q old2new used fresh fresh out (set out (3 * k + q) n)
+      → Taken attrs w cs k q old2new used fresh fresh out (set out (width * k + q) n)
   unchanged n u e = record {
     tables = rw u (b .tables);
     grown = λ l f. f ∙ ap (λ (us : List ℕ). sets l 0 (entries w attrs us)) (sym u);
-    numbered = ap (set out (3 * k + q)) e;
+    numbered = ap (set out (width * k + q)) e;
   }
 
   -- a missing index stays missing
   pub turn-missing :
-      indexAt cs k q ≡ missing → Taken attrs w cs k q old2new used fresh fresh out (set out (3 * k + q) (indexAt cs k q))
+      indexAt cs k q ≡ missing → Taken attrs w cs k q old2new used fresh fresh out (set out (width * k + q) (indexAt cs k q))
   unfolding renumber
   turn-missing e =
       let m : eqb (indexAt cs k q) missing ≡ true = eq-eqb (indexAt cs k q) missing e in
@@ -132,7 +133,7 @@ module _
     -- one that was used before has the number that the map says
     pub turn-old :
         (getD old2new (indexAt cs k q) 0 ≡ missing → ⊥)
-        → Taken attrs w cs k q old2new used fresh fresh out (set out (3 * k + q) (getD old2new (indexAt cs k q) 0))
+        → Taken attrs w cs k q old2new used fresh fresh out (set out (width * k + q) (getD old2new (indexAt cs k q) 0))
     unfolding renumber
     turn-old f =
         by-cases (has (indexAt cs k q) (usesTo q cs k))
@@ -196,7 +197,7 @@ module _
       pub turn-new :
           Taken attrs w cs k q (set old2new (indexAt cs k q) used) (used + 1)
           fresh (sets fresh (used * w) (entryAt w attrs (indexAt cs k q)))
-          out (set out (3 * k + q) used)
+          out (set out (width * k + q) used)
       unfolding renumber
       turn-new =
           let us = usesTo q cs k in
@@ -214,7 +215,7 @@ module _
                 ∙ ap (λ (t : List ℕ). sets l 0 (entries w attrs t)) (sym grows);
             numbered =
                 let o : has i (usesTo q cs (k + 1)) ≡ true = ap (has i) grows ∙ has-snoc i i us ∙ rw (eqb-self i) in
-                ap (set out (3 * k + q))
+                ap (set out (width * k + q))
                 (b .tables .counted ∙ sym (place-new us i is-new) ∙ ap (λ (t : List ℕ). place t i) (sym grows)
                 ∙ sym (number-early (column q cs) (k + 1) i o) ∙ rw present);
           }

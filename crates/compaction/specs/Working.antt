@@ -7,6 +7,7 @@ use lib.ListN.{length, getD, take, set}
 use lib.Seq.{sets}
 use lib.Ieee.{Float}
 use Rattle.lists.specs.Lists.{some, has, joined}
+use Rattle.mesh.specs.Limits.{width}
 use Rattle.mesh.specs.Mesh.{Corner, missing, threes}
 use Rattle.mesh.specs.Table.{beyondUnlessMissing}
 use Rattle.compaction.specs.Compaction.{firstUses, place, renumber, entries, Result}
@@ -18,7 +19,7 @@ column q cs = map (λ (c : Corner). getD c q 0) (threes cs)
 
 -- the index that corner k has in column q
 abbrev pub indexAt : List ℕ → ℕ → ℕ → ℕ
-indexAt cs k q = getD cs (3 * k + q) 0
+indexAt cs k q = getD cs (width * k + q) 0
 
 -- what the first k corners use in column q
 abbrev pub usesTo : ℕ → List ℕ → ℕ → List ℕ
@@ -51,7 +52,7 @@ pub record Before
     (attrs : List Float) (w : ℕ) (cs : List ℕ) (k q : ℕ) (old2new : List ℕ) (used : ℕ) (fresh : List Float)
     (out : List ℕ) : Type 0 where
   pub pointed : Pointed attrs w cs q
-  pub corner : 3 * k + 3 ≤ length cs
+  pub corner : width * k + width ≤ length cs
   pub tables : Tables (usesTo q cs k) old2new used
   pub room : length attrs ≤ length fresh
   pub corners-room : length cs ≤ length out
@@ -64,7 +65,7 @@ pub record Taken
   pub grown :
       (l : List Float) → fresh ≡ sets l 0 (entries w attrs (usesTo q cs k))
       → fresh′ ≡ sets l 0 (entries w attrs (usesTo q cs (k + 1)))
-  pub numbered : out′ ≡ set out (3 * k + q) (renumber (firstUses (column q cs)) (indexAt cs k q))
+  pub numbered : out′ ≡ set out (width * k + q) (renumber (firstUses (column q cs)) (indexAt cs k q))
 
 -- a corner with its three numbers renumbered, each by its column
 abbrev pub newCorner : List ℕ → Corner → Corner

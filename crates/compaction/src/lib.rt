@@ -90,7 +90,7 @@ fn compact(
     requires { ⌜ Ready (now positions) (now textures) (now normals) (now corners) (want.resultOf (now cs) (now ps) (now ts) (now ns)) ⌝ }
     ensures { λ r. ⌜ Done (now (positions .entry)) (now (textures .entry)) (now (normals .entry)) (now (corners .entry)) (want.resultOf (now (cs .entry)) (now (ps .entry)) (now (ts .entry)) (now (ns .entry))) (want.resultOf (now (cs .exit)) (now (ps .exit)) (now (ts .exit)) (now (ns .exit))) r ⌝ }
 {
-    let count = corners.len() / 3;
+    let count = corners.len() / mesh::WIDTH;
     let mut pmap = [MISSING; 2048];
     let mut tmap = [MISSING; 2048];
     let mut nmap = [MISSING; 2048];
@@ -128,7 +128,7 @@ fn take_in(
     requires { ⌜ Before (now attrs) w (now corners) k q (now old2new) used (now fresh) (now out) ⌝ }
     ensures { λ r. ⌜ Taken (now (attrs .entry)) w (now (corners .entry)) k q (now (old2new .exit)) r (now (fresh .entry)) (now (fresh .exit)) (now (out .entry)) (now (out .exit)) ⌝ }
 {
-    let at = 3 * k + q;
+    let at = mesh::WIDTH * k + q;
     let i = corners[at];
     if i == MISSING {
         out[at] = i;

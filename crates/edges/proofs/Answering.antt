@@ -9,6 +9,7 @@ use native.Mathlib.Omega.{arith}
 use lib.ListN.{length}
 use lib.Seq.{sets}
 use borrow.Author.Tests.{lt-ltb, le-ltb}
+use Rattle.mesh.specs.Limits.{width}
 use Rattle.mesh.specs.Mesh.{Mesh, faces, rings, positionCount}
 use Rattle.mesh.specs.Table.{meshNumber, when, lent, short, after}
 use Rattle.mesh.proofs.Numbers.{first-is, first-on, row-given}
@@ -55,16 +56,16 @@ module _ (m : Mesh) where
 
 -- whether one of the two lists is too short
 abbrev tight : Mesh → ℕ → ℕ → Bool
-tight m a b = short (lent a (length (m .corners) / 3) ∷ lent b (length (m .corners) / 3) ∷ [])
+tight m a b = short (lent a (length (m .corners) / width) ∷ lent b (length (m .corners) / width) ∷ [])
 
 -- an accepted mesh and room for its hem edges
 hem-zero :
-    (m : Mesh) (starts ends : List ℕ) → meshNumber m ≡ 0 → length (m .corners) / 3 ≤ length starts → length (m .corners) / 3 ≤ length ends
+    (m : Mesh) (starts ends : List ℕ) → meshNumber m ≡ 0 → length (m .corners) / width ≤ length starts → length (m .corners) / width ≤ length ends
     → hemNumber m (length starts) (length ends) ≡ 0
 unfolding hemNumber short
 hem-zero m starts ends z g k =
     first-on (meshNumber m) (when (tight m (length starts) (length ends)) 9 ∷ []) z
-    ∙ rw (le-ltb (length starts) (length (m .corners) / 3) g, le-ltb (length ends) (length (m .corners) / 3) k)
+    ∙ rw (le-ltb (length starts) (length (m .corners) / width) g, le-ltb (length ends) (length (m .corners) / width) k)
 
 module _ (m : Mesh) (starts ends : List ℕ) where
   -- a number that is not 0: nothing is written
@@ -85,17 +86,17 @@ module _ (m : Mesh) (starts ends : List ℕ) where
     hem-mesh h = e ∙ sym (first-is (meshNumber m) (when (tight m (length starts) (length ends)) 9 ∷ []) (λ q. h (e ∙ q)))
 
     -- a list is too short
-    pub hem-starts-short : n ≡ 0 → length starts < length (m .corners) / 3 → 9 ≡ hemNumber m (length starts) (length ends)
+    pub hem-starts-short : n ≡ 0 → length starts < length (m .corners) / width → 9 ≡ hemNumber m (length starts) (length ends)
     unfolding hemNumber short
-    hem-starts-short z l = sym (first-on (meshNumber m) (when (tight m (length starts) (length ends)) 9 ∷ []) (sym e ∙ z) ∙ row-given (tight m (length starts) (length ends)) 8 [] (rw (lt-ltb (length starts) (length (m .corners) / 3) l)))
+    hem-starts-short z l = sym (first-on (meshNumber m) (when (tight m (length starts) (length ends)) 9 ∷ []) (sym e ∙ z) ∙ row-given (tight m (length starts) (length ends)) 8 [] (rw (lt-ltb (length starts) (length (m .corners) / width) l)))
 
-    pub hem-ends-short : n ≡ 0 → length (m .corners) / 3 ≤ length starts → length ends < length (m .corners) / 3 → 9 ≡ hemNumber m (length starts) (length ends)
+    pub hem-ends-short : n ≡ 0 → length (m .corners) / width ≤ length starts → length ends < length (m .corners) / width → 9 ≡ hemNumber m (length starts) (length ends)
     unfolding hemNumber short
-    hem-ends-short z g l = sym (first-on (meshNumber m) (when (tight m (length starts) (length ends)) 9 ∷ []) (sym e ∙ z) ∙ row-given (tight m (length starts) (length ends)) 8 [] (rw (le-ltb (length starts) (length (m .corners) / 3) g, lt-ltb (length ends) (length (m .corners) / 3) l)))
+    hem-ends-short z g l = sym (first-on (meshNumber m) (when (tight m (length starts) (length ends)) 9 ∷ []) (sym e ∙ z) ∙ row-given (tight m (length starts) (length ends)) 8 [] (rw (le-ltb (length starts) (length (m .corners) / width) g, lt-ltb (length ends) (length (m .corners) / width) l)))
 
     -- neither
     pub hem-done :
-        n ≡ 0 → length (m .corners) / 3 ≤ length starts → length (m .corners) / 3 ≤ length ends → (starts′ ends′ : List ℕ) (r : Hems)
+        n ≡ 0 → length (m .corners) / width ≤ length starts → length (m .corners) / width ≤ length ends → (starts′ ends′ : List ℕ) (r : Hems)
         → Hemmed (edgesOf (rings (m .sizes) (m .corners))) starts ends starts′ ends′ r → HemAnswer m starts ends starts′ ends′ (record { number = 0; count = r .count })
     unfolding faces
     hem-done z g k starts′ ends′ r h = record {

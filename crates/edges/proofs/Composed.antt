@@ -17,6 +17,7 @@ use Rattle.lists.proofs.Copies.{sets-whole}
 use Rattle.lists.proofs.Buckets.{length-span}
 use Rattle.sorting.specs.Sorting.{sortedBy, All}
 use Rattle.sorting.proofs.Laws.{sorted-all, sorted-length}
+use Rattle.mesh.specs.Limits.{width}
 use Rattle.mesh.specs.Mesh.{rings}
 use Rattle.edges.specs.Edges.{Edge, key, keys, edgesOf, Irregular, Regular, Oriented, Closed, verdict, thrice, alike, once, hems}
 use Rattle.edges.specs.Answers.{verdictOf, start, end, Hemmed}
@@ -147,13 +148,13 @@ module _ (cs s : List ℕ) (n : ℕ) (e : Edged cs s n) where
   es = edgesOf (rings s cs)
 
   fits : length es ≤ 4096
-  fits = let a : length es ≡ length cs / 3 = length-uses cs s (e .sound) in omega (arith, e .sound .fits)
+  fits = let a : length es ≡ length cs / width = length-uses cs s (e .sound) in omega (arith, e .sound .fits)
 
   -- one column, written whole
-  whole : (f : Edge → ℕ) (l l′ : List ℕ) → length l ≡ length cs / 3 → l′ ≡ sets l 0 (map f es) → l′ ≡ map f es
+  whole : (f : Edge → ℕ) (l l′ : List ℕ) → length l ≡ length cs / width → l′ ≡ sets l 0 (map f es) → l′ ≡ map f es
   whole f l l′ h w = w ∙ sets-whole l (map f es) (length-map es f ∙ length-uses cs s (e .sound) ∙ sym h)
 
-  module _ (l h d first order l′ h′ d′ : List ℕ) (r : Rooms (length cs / 3) l h d first order) (w : Written es 0 l h d l′ h′ d′) where
+  module _ (l h d first order l′ h′ d′ : List ℕ) (r : Rooms (length cs / width) l h d first order) (w : Written es 0 l h d l′ h′ d′) where
     columns : Columns es l′ h′ d′
     columns = record {
       lower = whole lowerOf l l′ (r .lower) (w .lower);
@@ -163,7 +164,7 @@ module _ (cs s : List ℕ) (n : ℕ) (e : Edged cs s n) where
 
     pub uses-placed : Placed n l′ h′ first order
     uses-placed =
-        let a : length l′ ≡ length cs / 3 = ap length (columns .lower) ∙ length-map es lowerOf ∙ length-uses cs s (e .sound) in
+        let a : length l′ ≡ length cs / width = ap length (columns .lower) ∙ length-map es lowerOf ∙ length-uses cs s (e .sound) in
         placed n es (e .few) fits (uses-inside cs s n e) l′ h′ d′ first order columns (r .earlier ∙ sym a) (r .later ∙ sym a)
 
     pub uses-gathered : (order′ : List ℕ) → order′ ≡ inOrder n l′ h′ → Gathered n es l′ h′ d′ order′
@@ -173,7 +174,7 @@ module _ (cs s : List ℕ) (n : ℕ) (e : Edged cs s n) where
     pub uses-ready : Ready l h d order
     uses-ready = ready n es (e .few) fits (uses-inside cs s n e) l h d order g
 
-    pub uses-room : length order ≡ length cs / 3
+    pub uses-room : length order ≡ length cs / width
     uses-room = order-room n es (e .few) fits (uses-inside cs s n e) l h d order g ∙ length-uses cs s (e .sound)
 
     pub uses-verdict : (t : Tally) → t ≡ tallied l h d (tallyOf 0 0 false false false) order → named t ≡ verdict es

@@ -7,6 +7,7 @@ use native.Mathlib.Omega.{arith}
 use lib.ListN.{length, getD, drop}
 use Rattle.lists.specs.Lists.{sum}
 use Rattle.lists.proofs.Parts.{sum-at}
+use Rattle.mesh.specs.Limits.{width}
 use Rattle.mesh.specs.Mesh.{rings}
 use Rattle.mesh.specs.Face.{Sound, offsetOf, faceOf}
 use Rattle.mesh.proofs.Faces.{face-length, offset-step}
@@ -26,7 +27,7 @@ still-columned n l₀ h₀ d₀ l h d b at all left c f = record {
 -- ---- over the corners of a face
 
 pub record Cornering (face l₀ h₀ d₀ l h d : List ℕ) (at i : ℕ) : Type 0 where
-  pub within : i ≤ length face / 3
+  pub within : i ≤ length face / width
   pub filling : Filling l₀ h₀ d₀ l h d at (at + i) (faceEdges face) (edgesFrom face i)
 
 module _ (face l₀ h₀ d₀ : List ℕ) (at : ℕ) where
@@ -39,13 +40,13 @@ module _ (face l₀ h₀ d₀ : List ℕ) (at : ℕ) where
   }
 
   pub corner-turns :
-      (l h d l′ h′ d′ : List ℕ) (i j : ℕ) → i < length face / 3 → j ≡ nextOf i (length face / 3)
-      → Written ((getD face (3 * i) 0, getD face (3 * j) 0) ∷ []) (at + i) l h d l′ h′ d′
+      (l h d l′ h′ d′ : List ℕ) (i j : ℕ) → i < length face / width → j ≡ nextOf i (length face / width)
+      → Written ((getD face (width * i) 0, getD face (width * j) 0) ∷ []) (at + i) l h d l′ h′ d′
       → Cornering face l₀ h₀ d₀ l h d at i → Cornering face l₀ h₀ d₀ l′ h′ d′ at (i + 1)
   corner-turns l h d l′ h′ d′ i j lt e w c =
-      let one : List Edge = (getD face (3 * i) 0, getD face (3 * j) 0) ∷ [] in
+      let one : List Edge = (getD face (width * i) 0, getD face (width * j) 0) ∷ [] in
       let s : edgesFrom face i ≡ one ++ edgesFrom face (i + 1) =
-      edges-step face i lt ∙ ap (λ (n : ℕ). (getD face (3 * i) 0, getD face (3 * n) 0) ∷ edgesFrom face (i + 1)) (sym e) in
+      edges-step face i lt ∙ ap (λ (n : ℕ). (getD face (width * i) 0, getD face (width * n) 0) ∷ edgesFrom face (i + 1)) (sym e) in
       record {
         within = omega arith;
         filling =
@@ -54,7 +55,7 @@ module _ (face l₀ h₀ d₀ : List ℕ) (at : ℕ) where
             (fill-left l₀ h₀ d₀ l h d at (at + i) (faceEdges face) (edgesFrom face i) (one ++ edgesFrom face (i + 1)) s (c .filling)));
       }
 
-  pub corner-ends : (l h d : List ℕ) (i : ℕ) → length face / 3 ≤ i → Cornering face l₀ h₀ d₀ l h d at i → Written (faceEdges face) at l₀ h₀ d₀ l h d
+  pub corner-ends : (l h d : List ℕ) (i : ℕ) → length face / width ≤ i → Cornering face l₀ h₀ d₀ l h d at i → Written (faceEdges face) at l₀ h₀ d₀ l h d
   corner-ends l h d i ge c = fill-ends l₀ h₀ d₀ l h d at (at + i) (faceEdges face) (edgesFrom face i) (edges-end face i ge) (c .filling)
 
 -- ---- over the faces
@@ -62,7 +63,7 @@ module _ (face l₀ h₀ d₀ : List ℕ) (at : ℕ) where
 pub record Facing (cs s l₀ h₀ d₀ l h d : List ℕ) (at k : ℕ) : Type 0 where
   pub within : k ≤ length s
   pub offset : at ≡ offsetOf s k
-  pub filling : Filling l₀ h₀ d₀ l h d 0 at (edgesOf (rings s cs)) (edgesOf (rings (drop k s) (drop (3 * offsetOf s k) cs)))
+  pub filling : Filling l₀ h₀ d₀ l h d 0 at (edgesOf (rings s cs)) (edgesOf (rings (drop k s) (drop (width * offsetOf s k) cs)))
 
 module _ (cs s l₀ h₀ d₀ : List ℕ) where
   pub face-begins : Facing cs s l₀ h₀ d₀ l₀ h₀ d₀ 0 0
@@ -74,10 +75,10 @@ module _ (cs s l₀ h₀ d₀ : List ℕ) where
   face-turns l h d l′ h′ d′ at k n face sound lt size is v f =
       let w : Written (faceEdges (faceOf cs s k)) at l h d l′ h′ d′ = subst (λ (t : List ℕ). Written (faceEdges t) at l h d l′ h′ d′) is v in
       let new : List Edge = faceEdges (faceOf cs s k) in
-      let left : List Edge = edgesOf (rings (drop (k + 1) s) (drop (3 * offsetOf s (k + 1)) cs)) in
+      let left : List Edge = edgesOf (rings (drop (k + 1) s) (drop (width * offsetOf s (k + 1)) cs)) in
       let long : length (faceEdges (faceOf cs s k)) ≡ getD s k 0 =
-      let a : length (faceEdges (faceOf cs s k)) ≡ length (faceOf cs s k) / 3 = length-face-edges (faceOf cs s k) in
-      let b : length (faceOf cs s k) ≡ 3 * getD s k 0 = face-length cs s sound k lt in
+      let a : length (faceEdges (faceOf cs s k)) ≡ length (faceOf cs s k) / width = length-face-edges (faceOf cs s k) in
+      let b : length (faceOf cs s k) ≡ width * getD s k 0 = face-length cs s sound k lt in
       omega arith in
       record {
         within = omega arith;
@@ -85,25 +86,25 @@ module _ (cs s l₀ h₀ d₀ : List ℕ) where
         filling =
             subst (λ (m : ℕ). Filling l₀ h₀ d₀ l′ h′ d′ 0 m (edgesOf (rings s cs)) left) (ap (λ (m : ℕ). at + m) (long ∙ sym size))
             (fill-part l₀ h₀ d₀ l h d 0 at (edgesOf (rings s cs)) l′ h′ d′ new left w
-            (fill-left l₀ h₀ d₀ l h d 0 at (edgesOf (rings s cs)) (edgesOf (rings (drop k s) (drop (3 * offsetOf s k) cs))) (new ++ left) (uses-step s cs k lt) (f .filling)));
+            (fill-left l₀ h₀ d₀ l h d 0 at (edgesOf (rings s cs)) (edgesOf (rings (drop k s) (drop (width * offsetOf s k) cs))) (new ++ left) (uses-step s cs k lt) (f .filling)));
       }
 
   pub face-ends : (l h d : List ℕ) (at k : ℕ) → length s ≤ k → Facing cs s l₀ h₀ d₀ l h d at k → Written (edgesOf (rings s cs)) 0 l₀ h₀ d₀ l h d
   face-ends l h d at k ge f =
-      fill-ends l₀ h₀ d₀ l h d 0 at (edgesOf (rings s cs)) (edgesOf (rings (drop k s) (drop (3 * offsetOf s k) cs))) (uses-end s cs k ge) (f .filling)
+      fill-ends l₀ h₀ d₀ l h d 0 at (edgesOf (rings s cs)) (edgesOf (rings (drop k s) (drop (width * offsetOf s k) cs))) (uses-end s cs k ge) (f .filling)
 
   -- face k ends within the corners, and there is room for its uses
-  pub face-within : (l h d : List ℕ) (at k : ℕ) → Sound cs s → k < length s → Facing cs s l₀ h₀ d₀ l h d at k → at + getD s k 0 ≤ length cs / 3
+  pub face-within : (l h d : List ℕ) (at k : ℕ) → Sound cs s → k < length s → Facing cs s l₀ h₀ d₀ l h d at k → at + getD s k 0 ≤ length cs / width
   face-within l h d at k sound lt f =
       let b : offsetOf s k + getD s k 0 ≤ sum s = sum-at s k lt in
-      let e : 3 * sum s ≡ length cs = sound .adds in
+      let e : width * sum s ≡ length cs = sound .adds in
       omega (arith, f .offset)
 
   pub face-room :
-      (l h d : List ℕ) (at k : ℕ) (face : List ℕ) → Sound cs s → k < length s → face ≡ faceOf cs s k → Columned (length cs / 3) l₀ h₀ d₀
-      → Facing cs s l₀ h₀ d₀ l h d at k → Columned (at + length face / 3) l h d
+      (l h d : List ℕ) (at k : ℕ) (face : List ℕ) → Sound cs s → k < length s → face ≡ faceOf cs s k → Columned (length cs / width) l₀ h₀ d₀
+      → Facing cs s l₀ h₀ d₀ l h d at k → Columned (at + length face / width) l h d
   face-room l h d at k face sound lt is c f =
-      let a : length face ≡ 3 * getD s k 0 = ap length is ∙ face-length cs s sound k lt in
-      let b : at + getD s k 0 ≤ length cs / 3 = face-within l h d at k sound lt f in
-      let r : Columned (length cs / 3) l h d = still-columned (length cs / 3) l₀ h₀ d₀ l h d 0 at (edgesOf (rings s cs)) (edgesOf (rings (drop k s) (drop (3 * offsetOf s k) cs))) c (f .filling) in
+      let a : length face ≡ width * getD s k 0 = ap length is ∙ face-length cs s sound k lt in
+      let b : at + getD s k 0 ≤ length cs / width = face-within l h d at k sound lt f in
+      let r : Columned (length cs / width) l h d = still-columned (length cs / width) l₀ h₀ d₀ l h d 0 at (edgesOf (rings s cs)) (edgesOf (rings (drop k s) (drop (width * offsetOf s k) cs))) c (f .filling) in
       record { lower = omega (arith, r .lower); higher = omega (arith, r .higher); down = omega (arith, r .down) }

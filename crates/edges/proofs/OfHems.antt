@@ -15,6 +15,7 @@ use Rattle.lists.proofs.Bools.{by-cases, and-both, and-left, and-right, or-left
 use Rattle.lists.proofs.Buckets.{length-only}
 use Rattle.lists.proofs.Counting.{clash, or-either, count-length, count-none}
 use Rattle.lists.proofs.Parts.{every-at}
+use Rattle.mesh.specs.Limits.{width}
 use Rattle.mesh.specs.Mesh.{Mesh, rings, faces, positionCount}
 use Rattle.mesh.specs.Table.{meshNumber}
 use Rattle.edges.specs.Edges.{Edge, same, key, before, insert, keys, uses, odd, lastOr, hemKeys, hems, edgesOf}
@@ -115,9 +116,9 @@ module _ (cs s : List ℕ) (n : ℕ) (e : Edged cs s n) where
   hemsIn = hems (edgesOf (rings s cs))
 
   -- no more hem edges than corners
-  pub hems-within : length hemsIn ≤ length cs / 3
+  pub hems-within : length hemsIn ≤ length cs / width
   hems-within =
-      let a : length (edgesOf (rings s cs)) ≡ length cs / 3 = length-uses cs s (e .sound) in
+      let a : length (edgesOf (rings s cs)) ≡ length cs / width = length-uses cs s (e .sound) in
       let b : length hemsIn ≤ length (edgesOf (rings s cs)) = hems-few (edgesOf (rings s cs)) in
       omega arith
 
@@ -143,6 +144,6 @@ pub mesh-hems-inside : (m : Mesh) → meshNumber m ≡ 0 → every (inside (posi
 unfolding faces
 mesh-hems-inside m h = hems-inside (m .corners) (m .sizes) (positionCount m) (edged m h)
 
-pub mesh-hems-within : (m : Mesh) → meshNumber m ≡ 0 → length (hems (meshEdgesOf m)) ≤ length (m .corners) / 3
+pub mesh-hems-within : (m : Mesh) → meshNumber m ≡ 0 → length (hems (meshEdgesOf m)) ≤ length (m .corners) / width
 unfolding faces
 mesh-hems-within m h = hems-within (m .corners) (m .sizes) (positionCount m) (edged m h)

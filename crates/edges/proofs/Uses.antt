@@ -3,20 +3,21 @@
 use mathlib.Core.Path.{_≡_, refl, sym, ap, ap₂, _∙_}
 use mathlib.Core.Bool.{Bool, true, false, cond, _&&_}
 use mathlib.Core.List.{List, [], _∷_, _++_, map}
-use Prim.Native.Nat.{ℕ, suc, _+_, _*_, _/_, _%_, _-_, _≤_, _<_}
+use Prim.Native.Nat.{ℕ, suc, _+_, _*_, _/_, _-_, _≤_, _<_}
 use native.Mathlib.Numerals.{add-one}
 use native.Mathlib.Omega.{arith}
-use lib.ListN.{length, getD, take, drop, length-append, length-map, length-drop, List·getD-map, drop-of-length-le, take-append-drop}
-use lib.Seq.{drop-cons, length-take-le}
+use lib.ListN.{length, getD, take, drop, length-append, length-map, length-drop, List·getD-map, drop-of-length-le}
+use lib.Seq.{drop-cons}
 use lib.Dec.{ltb}
 use borrow.Author.Tests.{ltb-true, ltb-false, lt-ltb}
 use Rattle.lists.specs.Lists.{every, sum}
 use Rattle.lists.proofs.Bools.{by-cases, and-both, and-left, and-right}
 use Rattle.lists.proofs.Parts.{every-append}
 use Rattle.lists.proofs.Mapping.{every-map, every-all}
+use Rattle.mesh.specs.Limits.{width}
 use Rattle.mesh.specs.Mesh.{Corner, Ring, position, threes, rings}
 use Rattle.mesh.specs.Face.{Sound, offsetOf, faceOf}
-use Rattle.mesh.proofs.Corners.{length-threes, getD-threes}
+use Rattle.mesh.proofs.Corners.{length-threes, getD-threes, threes-split}
 use Rattle.mesh.proofs.Faces.{rings-step, sizes-back}
 use Rattle.edges.specs.Edges.{Edge, runEdges, ringEdges, edgesOf}
 use Rattle.edges.specs.Runs.{faceEdges, nextOf, Edged}
@@ -59,11 +60,11 @@ next-is ps i =
 places : List ℕ → List ℕ
 places f = map position (threes f)
 
-length-places : (f : List ℕ) → length (places f) ≡ length f / 3
+length-places : (f : List ℕ) → length (places f) ≡ length f / width
 unfolding places
 length-places f = length-map (threes f) position ∙ length-threes f
 
-place-at : (f : List ℕ) (i : ℕ) → i < length f / 3 → getD (places f) i 0 ≡ getD f (3 * i) 0
+place-at : (f : List ℕ) (i : ℕ) → i < length f / width → getD (places f) i 0 ≡ getD f (width * i) 0
 unfolding places
 place-at f i h = List·getD-map position (threes f) i [] ∙ ap position (getD-threes f i h)
 
@@ -83,16 +84,16 @@ next-below i n h = go (ltb (i + 1) n) refl
     go true e = ltb-true (i + 1) n e
     go false e = omega arith
 
-pub edges-step : (f : List ℕ) (i : ℕ) → i < length f / 3 → edgesFrom f i ≡ (getD f (3 * i) 0, getD f (3 * nextOf i (length f / 3)) 0) ∷ edgesFrom f (i + 1)
+pub edges-step : (f : List ℕ) (i : ℕ) → i < length f / width → edgesFrom f i ≡ (getD f (width * i) 0, getD f (width * nextOf i (length f / width)) 0) ∷ edgesFrom f (i + 1)
 unfolding edgesFrom
 edges-step f i h =
     let l : i < length (places f) = rw (length-places f) h in
     side-at (places f) (getD (places f) 0 0) i l
     ∙ ap₂ (λ (a b : ℕ). (a, b) ∷ edgesFrom f (i + 1))
     (place-at f i h)
-    (next-is (places f) i ∙ ap (λ (n : ℕ). getD (places f) (nextOf i n) 0) (length-places f) ∙ place-at f (nextOf i (length f / 3)) (next-below i (length f / 3) h))
+    (next-is (places f) i ∙ ap (λ (n : ℕ). getD (places f) (nextOf i n) 0) (length-places f) ∙ place-at f (nextOf i (length f / width)) (next-below i (length f / width) h))
 
-pub edges-end : (f : List ℕ) (i : ℕ) → length f / 3 ≤ i → edgesFrom f i ≡ []
+pub edges-end : (f : List ℕ) (i : ℕ) → length f / width ≤ i → edgesFrom f i ≡ []
 unfolding edgesFrom sides
 edges-end f i h = ap (sides (getD (places f) 0 0)) (drop-of-length-le (places f) {i = i} (rw (length-places f) h))
 
@@ -106,7 +107,7 @@ module _ {A : Type 0} where
   length-ring [] = refl
   length-ring (a ∷ r) = length-run a r a
 
-pub length-face-edges : (f : List ℕ) → length (faceEdges f) ≡ length f / 3
+pub length-face-edges : (f : List ℕ) → length (faceEdges f) ≡ length f / width
 unfolding faceEdges places
 length-face-edges f = length-ring (map position (threes f)) ∙ length-places f
 
@@ -114,12 +115,12 @@ length-face-edges f = length-ring (map position (threes f)) ∙ length-places f
 
 pub uses-step :
     (s cs : List ℕ) (k : ℕ) → k < length s
-    → edgesOf (rings (drop k s) (drop (3 * offsetOf s k) cs)) ≡ faceEdges (faceOf cs s k) ++ edgesOf (rings (drop (k + 1) s) (drop (3 * offsetOf s (k + 1)) cs))
+    → edgesOf (rings (drop k s) (drop (width * offsetOf s k) cs)) ≡ faceEdges (faceOf cs s k) ++ edgesOf (rings (drop (k + 1) s) (drop (width * offsetOf s (k + 1)) cs))
 unfolding faceEdges
 uses-step s cs k h = ap edgesOf (rings-step s cs k h)
 
-pub uses-end : (s cs : List ℕ) (k : ℕ) → length s ≤ k → edgesOf (rings (drop k s) (drop (3 * offsetOf s k) cs)) ≡ []
-uses-end s cs k h = ap (λ (t : List ℕ). edgesOf (rings t (drop (3 * offsetOf s k) cs))) (drop-of-length-le s h)
+pub uses-end : (s cs : List ℕ) (k : ℕ) → length s ≤ k → edgesOf (rings (drop k s) (drop (width * offsetOf s k) cs)) ≡ []
+uses-end s cs k h = ap (λ (t : List ℕ). edgesOf (rings t (drop (width * offsetOf s k) cs))) (drop-of-length-le s h)
 
 length-edges : (fs : List Ring) → length (edgesOf fs) ≡ sum (map length fs)
 length-edges [] = refl
@@ -131,9 +132,9 @@ length-edges (f ∷ fs) =
     omega arith
 
 -- as many uses as corners
-pub length-uses : (cs s : List ℕ) → Sound cs s → length (edgesOf (rings s cs)) ≡ length cs / 3
+pub length-uses : (cs s : List ℕ) → Sound cs s → length (edgesOf (rings s cs)) ≡ length cs / width
 length-uses cs s h =
-    let a : 3 * sum s ≡ length cs = h .adds in
+    let a : width * sum s ≡ length cs = h .adds in
     let b : length (edgesOf (rings s cs)) ≡ sum s = length-edges (rings s cs) ∙ ap sum (sizes-back s cs (omega arith)) in
     omega arith
 
@@ -158,32 +159,23 @@ module _ (n : ℕ) where
   abbrev placed : Corner → Bool
   placed c = below (position c)
 
-  threes-append : (a b : List ℕ) → length a % 3 ≡ 0 → threes (a ++ b) ≡ threes a ++ threes b
-  threes-append [] b h = refl
-  threes-append (p ∷ []) b h = absurd (let z : _≡_ {A = ℕ} 1 0 = h in omega arith)
-  threes-append (p ∷ t ∷ []) b h = absurd (let z : _≡_ {A = ℕ} 2 0 = h in omega arith)
-  threes-append (p ∷ t ∷ m ∷ a) b h =
-      ap (λ (r : Ring). (p ∷ t ∷ m ∷ []) ∷ r) (threes-append a b (let z : suc (suc (suc (length a))) % 3 ≡ 0 = h in omega arith))
-
-  edges-inside : (s cs : List ℕ) → 3 * sum s ≤ length cs → every placed (threes cs) ≡ true → every (inside n) (edgesOf (rings s cs)) ≡ true
+  edges-inside : (s cs : List ℕ) → width * sum s ≤ length cs → every placed (threes cs) ≡ true → every (inside n) (edgesOf (rings s cs)) ≡ true
   edges-inside [] cs h p = refl
   edges-inside (k ∷ s) cs h p =
-      let f : List ℕ = take (3 * k) cs in
-      let r : List ℕ = drop (3 * k) cs in
-      let l : length (take (3 * k) cs) ≡ 3 * k = length-take-le (3 * k) cs (omega arith) in
-      let m : length (take (3 * k) cs) % 3 ≡ 0 = omega arith in
-      let e : threes cs ≡ threes f ++ threes r = ap threes (sym (take-append-drop (3 * k) cs)) ∙ threes-append f r m in
+      let f : List ℕ = take (width * k) cs in
+      let r : List ℕ = drop (width * k) cs in
+      let e : threes cs ≡ threes f ++ threes r = threes-split k cs (omega arith) in
       let q : (every placed (threes f) && every placed (threes r)) ≡ true = sym (every-append placed (threes f) (threes r)) ∙ ap (every placed) (sym e) ∙ p in
       every-append (inside n) (ringEdges (map position (threes f))) (edgesOf (rings s r))
       ∙ and-both (every (inside n) (ringEdges (map position (threes f)))) (every (inside n) (edgesOf (rings s r)))
       (ring-inside (map position (threes f)) (every-map position below (threes f) ∙ and-left (every placed (threes f)) (every placed (threes r)) q))
-      (edges-inside s r (let z : length (drop (3 * k) cs) ≡ length cs - 3 * k = length-drop (3 * k) cs in omega arith) (and-right (every placed (threes f)) (every placed (threes r)) q))
+      (edges-inside s r (let z : length (drop (width * k) cs) ≡ length cs - width * k = length-drop (width * k) cs in omega arith) (and-right (every placed (threes f)) (every placed (threes r)) q))
 
 -- both ends of every use lie below the number of positions
 pub uses-inside : (cs s : List ℕ) (n : ℕ) → Edged cs s n → every (inside n) (edgesOf (rings s cs)) ≡ true
 uses-inside cs s n h =
-    edges-inside n s cs (let z : 3 * sum s ≡ length cs = h .sound .adds in omega arith)
+    edges-inside n s cs (let z : width * sum s ≡ length cs = h .sound .adds in omega arith)
     (every-all (placed n) [] (threes cs)
     (λ k l.
-    let j : k < length cs / 3 = rw (length-threes cs) at l in
-    ap (placed n) (getD-threes cs k j) ∙ lt-ltb (getD cs (3 * k) 0) n (h .below k j)))
+    let j : k < length cs / width = rw (length-threes cs) at l in
+    ap (placed n) (getD-threes cs k j) ∙ lt-ltb (getD cs (width * k) 0) n (h .below k j)))

@@ -6,6 +6,7 @@ use mathlib.Core.List.{List, [], _∷_, map}
 use Prim.Native.Nat.{ℕ, _/_}
 use lib.ListN.{length}
 use lib.Seq.{sets}
+use Rattle.mesh.specs.Limits.{width}
 use Rattle.mesh.specs.Mesh.{Mesh, faces}
 use Rattle.mesh.specs.Table.{meshNumber, when, firstOf, lent, short, after}
 use Rattle.edges.specs.Edges.{Edge, edgesOf, Verdict, verdict, hems}
@@ -49,7 +50,7 @@ end e = e .1
 -- the number of `hem_edges`: 0 to 5, and 9 where a list is shorter than one number per corner
 unfoldable pub hemNumber : Mesh → ℕ → ℕ → ℕ
 hemNumber m starts ends =
-    firstOf (meshNumber m ∷ when (short (lent starts (length (m .corners) / 3) ∷ lent ends (length (m .corners) / 3) ∷ [])) 9 ∷ [])
+    firstOf (meshNumber m ∷ when (short (lent starts (length (m .corners) / width) ∷ lent ends (length (m .corners) / width) ∷ [])) 9 ∷ [])
 
 -- what `hem_edges` answers and leaves
 pub record HemAnswer (m : Mesh) (starts ends starts′ ends′ : List ℕ) (r : HemEdges) : Type 0 where

@@ -9,6 +9,7 @@ use lib.ListN.{length, getD}
 use lib.Seq.{sets}
 use lib.Dec.{leb, ltb, eqb}
 use Rattle.lists.specs.Lists.{keepIf, span}
+use Rattle.mesh.specs.Limits.{width}
 use Rattle.mesh.specs.Mesh.{position, threes}
 use Rattle.mesh.specs.Face.{Sound}
 use Rattle.sorting.specs.Sorting.{sortedBy}
@@ -61,7 +62,7 @@ nextOf i n = cond (ltb (i + 1) n) (i + 1) 0
 pub record Edged (cs s : List ℕ) (n : ℕ) : Type 0 where
   pub sound : Sound cs s
   pub few : n ≤ 2048
-  pub below : (k : ℕ) → k < length cs / 3 → getD cs (3 * k) 0 < n
+  pub below : (k : ℕ) → k < length cs / width → getD cs (width * k) 0 < n
 
 -- the uses sorted by higher, then by lower position
 unfoldable pub inOrder : ℕ → List ℕ → List ℕ → List ℕ

@@ -13,6 +13,7 @@ ghost use Prim.Native.Nat.{ℕ, _+_, _*_, _/_, _<_, _≤_};
 ghost use lib.ListN.{length, getD, drop};
 ghost use lib.Dec.{leb, eqb};
 ghost use Rattle.lists.specs.Lists.{span};
+ghost use Rattle.mesh.specs.Limits.{width};
 ghost use Rattle.mesh.specs.Mesh.{meshOf, rings};
 ghost use Rattle.mesh.specs.Face.{Sound};
 ghost use Rattle.edges.specs.Edges.{same, edgesOf, verdict};
@@ -99,7 +100,7 @@ pub fn hem_edges(
             count: 0,
         };
     }
-    let room = corners.len() / 3;
+    let room = corners.len() / mesh::WIDTH;
     if starts.len() < room {
         return HemEdges {
             number: 9,
@@ -129,7 +130,7 @@ pub fn verdict_of(corners: &[u32], sizes: &[u32], positions: usize) -> ShellCond
     let mut downs = [0u32; 4096];
     let mut first = [0u32; 4096];
     let mut order = [0u32; 4096];
-    let n = corners.len() / 3;
+    let n = corners.len() / mesh::WIDTH;
     judge(
         corners,
         sizes,
@@ -150,7 +151,7 @@ pub fn hems_of(
     starts: &mut [u32],
     ends: &mut [u32],
 ) -> Hems
-    requires { ⌜ run.Edged (now corners) (now sizes) positions × (length (now corners) / 3 ≤ length (now starts)) × (length (now corners) / 3 ≤ length (now ends)) ⌝ }
+    requires { ⌜ run.Edged (now corners) (now sizes) positions × (length (now corners) / width ≤ length (now starts)) × (length (now corners) / width ≤ length (now ends)) ⌝ }
     ensures { λ r. ⌜ Hemmed (edgesOf (rings (now (sizes .entry)) (now (corners .entry)))) (now (starts .entry)) (now (ends .entry)) (now (starts .exit)) (now (ends .exit)) r ⌝ }
 {
     let mut lowers = [0u32; 4096];
@@ -158,7 +159,7 @@ pub fn hems_of(
     let mut downs = [0u32; 4096];
     let mut first = [0u32; 4096];
     let mut order = [0u32; 4096];
-    let n = corners.len() / 3;
+    let n = corners.len() / mesh::WIDTH;
     hem(
         corners,
         sizes,
@@ -184,7 +185,7 @@ fn judge(
     first: &mut [u32],
     order: &mut [u32],
 ) -> ShellCondition
-    requires { ⌜ run.Edged (now corners) (now sizes) positions × run.Rooms (length (now corners) / 3) (now lowers) (now highers) (now downs) (now first) (now order) ⌝ }
+    requires { ⌜ run.Edged (now corners) (now sizes) positions × run.Rooms (length (now corners) / width) (now lowers) (now highers) (now downs) (now first) (now order) ⌝ }
     ensures { λ r. ⌜ (verdictOf r ≡ verdict (edgesOf (rings (now (sizes .entry)) (now (corners .entry))))) × run.Gathered positions (edgesOf (rings (now (sizes .entry)) (now (corners .entry)))) (now (lowers .exit)) (now (highers .exit)) (now (downs .exit)) (now (order .exit)) ⌝ }
 {
     put_uses(corners, sizes, lowers, highers, downs);
@@ -205,7 +206,7 @@ fn hem(
     starts: &mut [u32],
     ends: &mut [u32],
 ) -> Hems
-    requires { ⌜ run.Edged (now corners) (now sizes) positions × run.Rooms (length (now corners) / 3) (now lowers) (now highers) (now downs) (now first) (now order) × (length (now corners) / 3 ≤ length (now starts)) × (length (now corners) / 3 ≤ length (now ends)) ⌝ }
+    requires { ⌜ run.Edged (now corners) (now sizes) positions × run.Rooms (length (now corners) / width) (now lowers) (now highers) (now downs) (now first) (now order) × (length (now corners) / width ≤ length (now starts)) × (length (now corners) / width ≤ length (now ends)) ⌝ }
     ensures { λ r. ⌜ Hemmed (edgesOf (rings (now (sizes .entry)) (now (corners .entry)))) (now (starts .entry)) (now (ends .entry)) (now (starts .exit)) (now (ends .exit)) r ⌝ }
 {
     let verdict = judge(
@@ -235,7 +236,7 @@ fn put_uses(
     highers: &mut [u32],
     downs: &mut [u32],
 )
-    requires { ⌜ Sound (now corners) (now sizes) × run.Columned (length (now corners) / 3) (now lowers) (now highers) (now downs) ⌝ }
+    requires { ⌜ Sound (now corners) (now sizes) × run.Columned (length (now corners) / width) (now lowers) (now highers) (now downs) ⌝ }
     ensures { λ _. ⌜ run.Written (edgesOf (rings (now (sizes .entry)) (now (corners .entry)))) 0 (now (lowers .entry)) (now (highers .entry)) (now (downs .entry)) (now (lowers .exit)) (now (highers .exit)) (now (downs .exit)) ⌝ }
 {
     let mut at: usize = 0;
@@ -250,14 +251,14 @@ fn put_uses(
 
 // The uses of a face's edges: from each corner to the next, and from the last to the first.
 fn put_face(face: &[u32], lowers: &mut [u32], highers: &mut [u32], downs: &mut [u32], at: usize)
-    requires { ⌜ run.Columned (at + length (now face) / 3) (now lowers) (now highers) (now downs) ⌝ }
+    requires { ⌜ run.Columned (at + length (now face) / width) (now lowers) (now highers) (now downs) ⌝ }
     ensures { λ _. ⌜ run.Written (run.faceEdges (now (face .entry))) at (now (lowers .entry)) (now (highers .entry)) (now (downs .entry)) (now (lowers .exit)) (now (highers .exit)) (now (downs .exit)) ⌝ }
 {
-    let n = face.len() / 3;
+    let n = face.len() / mesh::WIDTH;
     let mut i: usize = 0;
     while i < n {
-        let a = 3 * i;
-        let b = 3 * next_of(i, n);
+        let a = mesh::WIDTH * i;
+        let b = mesh::WIDTH * next_of(i, n);
         put_use(face[a], face[b], lowers, highers, downs, at + i);
         i += 1;
     }

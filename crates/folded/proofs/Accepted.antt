@@ -13,7 +13,7 @@ use Rattle.lists.specs.Lists.{every, some, joined, each, sum}
 use Rattle.lists.proofs.Bools.{and-both, and-left, and-right, by-cases, true-false}
 use Rattle.lists.proofs.Mapping.{every-map, every-all}
 use Rattle.lists.proofs.Parts.{every-joined}
-use Rattle.mesh.specs.Limits.{ringLimit}
+use Rattle.mesh.specs.Limits.{width, ringLimit}
 use Rattle.mesh.specs.Mesh.{Mesh, Corner, Ring, threes, rings, faces}
 use Rattle.mesh.specs.Table.{meshNumber, astray, astrayAt}
 use Rattle.mesh.proofs.Corners.{isCorner}
@@ -82,7 +82,7 @@ module _ (m : Mesh) (ok : meshNumber m ≡ 0) where
       ∙ ap (every few) sizes-are
       ∙ every-all few 0 (m .sizes) (λ k h. le-leb (getD (m .sizes) k 0) ringLimit (a .most k h))
 
-  pub flat-removed : length (each joined (removed (faces m))) ≡ 3 * cornerCount (removed (faces m))
+  pub flat-removed : length (each joined (removed (faces m))) ≡ width * cornerCount (removed (faces m))
   flat-removed = length-flat (removed (faces m)) (removed-rings m)
 
   -- the pieces are in order

@@ -8,6 +8,7 @@ use native.Mathlib.Omega.{arith}
 use lib.ListN.{length}
 use lib.Seq.{sets}
 use borrow.Author.Tests.{lt-ltb, le-ltb}
+use Rattle.mesh.specs.Limits.{width}
 use Rattle.mesh.specs.Mesh.{Mesh, faces, rings}
 use Rattle.mesh.specs.Table.{meshNumber, when, short}
 use Rattle.mesh.proofs.After.{after-refused}
@@ -45,12 +46,12 @@ module _ (m : Mesh) (o l : List ℕ) (answer : Removed) where
     unfolding tooShort short
     refused-corners a r = refused-room (rw (lt-ltb _ _ a)) r
 
-    pub refused-sizes : length (m .corners) ≤ length o → length l < length (m .corners) / 3 / 3 → answer ≡ refusedBy 9 → Removal m (resultOf o l) (resultOf o l) answer
+    pub refused-sizes : length (m .corners) ≤ length o → length l < length (m .corners) / width / 3 → answer ≡ refusedBy 9 → Removal m (resultOf o l) (resultOf o l) answer
     unfolding tooShort short
     refused-sizes a b r = refused-room (rw (le-ltb _ _ a, lt-ltb _ _ b)) r
 
 -- an accepted mesh, and room
-module _ (m : Mesh) (o l : List ℕ) (z : meshNumber m ≡ 0) (a : length (m .corners) ≤ length o) (b : length (m .corners) / 3 / 3 ≤ length l) where
+module _ (m : Mesh) (o l : List ℕ) (z : meshNumber m ≡ 0) (a : length (m .corners) ≤ length o) (b : length (m .corners) / width / 3 ≤ length l) where
   pub given : Given (m .corners) (m .sizes) o l
   given =
       let h = accepted m z in

@@ -10,6 +10,7 @@ use lib.Seq.{take-suc, take-all}
 use Rattle.lists.specs.Lists.{every, each, sum}
 use Rattle.lists.proofs.Bools.{and-both, and-left, and-right}
 use Rattle.lists.proofs.Parts.{each-append, every-append, every-take, sum-at}
+use Rattle.mesh.specs.Limits.{width}
 use Rattle.mesh.specs.Mesh.{Ring, threes, rings}
 use Rattle.mesh.specs.Face.{faceOf, offsetOf}
 use Rattle.mesh.proofs.Corners.{isCorner}
@@ -60,7 +61,7 @@ pub removing-room : (cs s face o o' l l' : List ℕ) (c f from k : ℕ) → k < 
     → Removing cs s o o' l l' c f from k → Face face (getD s k 0) o' l' c f
 removing-room cs s face o o' l l' c f from k h e y r =
     let a : offsetOf s k + getD s k 0 ≤ sum s = sum-at s k h in
-    let b : 3 * sum s ≡ length cs = y .fit .sound .adds in
+    let b : width * sum s ≡ length cs = y .fit .sound .adds in
     record {
       least = y .fit .least k h;
       wide = ap length e ∙ face-length cs s (y .fit .sound) k h;

@@ -8,6 +8,7 @@ use native.Mathlib.Omega.{arith}
 use lib.ListN.{length, take, length-map}
 use Rattle.lists.specs.Lists.{every, joined, each, sum}
 use Rattle.lists.proofs.Copies.{take-written}
+use Rattle.mesh.specs.Limits.{width}
 use Rattle.mesh.specs.Mesh.{Ring, rings}
 use Rattle.mesh.specs.Face.{Sound}
 use Rattle.mesh.proofs.Faces.{isRing, rings-are, rings-back, sizes-back}
@@ -38,19 +39,19 @@ module _ (cs s o l p p' q q' : List ℕ) (c f : ℕ) (y : Ready cs s o l) (x : l
   whole : every isRing ps ≡ true
   whole = pieces-rings (rings s cs) (rings-are s cs)
 
-  flat : length (each joined ps) ≡ 3 * c
+  flat : length (each joined ps) ≡ width * c
   flat = omega (arith, length-flat ps whole, w .more)
 
-  pub few-corners : 3 * c ≤ length cs
+  pub few-corners : width * c ≤ length cs
   few-corners =
       omega (arith, w .more, count-pieces (rings s cs), ap sum (sizes-back s cs (le-of-eq (y .fit .sound .adds))), y .fit .sound .adds)
 
-  pub few-faces : 9 * f ≤ length cs
+  pub few-faces : width * 3 * f ≤ length cs
   few-faces =
       omega (arith, few-corners, w .most, w .more, faces-count ps (every-pieces isFace (rings s cs) (λ r. pieces-sane r .faces)))
 
-  front : take (3 * c) p' ≡ each joined ps
-  front = ap (take (3 * c)) (w .corners) ∙ take-written p (each joined ps) (3 * c) flat (omega (arith, few-corners, y .fit .sound .fits))
+  front : take (width * c) p' ≡ each joined ps
+  front = ap (take (width * c)) (w .corners) ∙ take-written p (each joined ps) (width * c) flat (omega (arith, few-corners, y .fit .sound .fits))
 
   count : length (map length ps) ≡ f
   count = omega (arith, length-map ps length, w .most)
@@ -58,20 +59,20 @@ module _ (cs s o l p p' q q' : List ℕ) (c f : ℕ) (y : Ready cs s o l) (x : l
   sizes-front : take f q' ≡ map length ps
   sizes-front = ap (take f) (w .sizes) ∙ take-written q (map length ps) f count (omega (arith, few-faces, y .fit .sound .fits))
 
-  pub pieces-sound : Sound (take (3 * c) p') (take f q')
+  pub pieces-sound : Sound (take (width * c) p') (take f q')
   pieces-sound = record {
     few = rw sizes-front (omega (arith, count, few-faces, y .fit .sound .fits));
     fits = rw front (omega (arith, flat, few-corners, y .fit .sound .fits));
     adds = rw (front, sizes-front) (sym (length-flat ps whole));
   }
 
-  pub pieces-corners : length (take (3 * c) p') ≤ length o
+  pub pieces-corners : length (take (width * c) p') ≤ length o
   pieces-corners = rw front (omega (arith, flat, few-corners, y .corners))
 
   pub pieces-sizes : length (take f q') ≤ length l
   pieces-sizes = rw sizes-front (omega (arith, count, few-faces, y .sizes))
 
   -- grouped, they are the faces that are left
-  pub pieces-grouped : removed (rings s cs) ≡ pushed (rings (take f q') (take (3 * c) p'))
+  pub pieces-grouped : removed (rings s cs) ≡ pushed (rings (take f q') (take (width * c) p'))
   unfolding removed
   pieces-grouped = ap pushed (sym (ap₂ rings sizes-front front ∙ rings-back ps whole))

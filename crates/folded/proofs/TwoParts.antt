@@ -16,6 +16,7 @@ use Rattle.lists.specs.Lists.{every, joined, each, sum}
 use Rattle.lists.proofs.Bools.{and-both, and-left, and-right}
 use Rattle.lists.proofs.Parts.{every-append, each-append, sum-append}
 use Rattle.lists.proofs.Copies.{drop-take, sets-tail}
+use Rattle.mesh.specs.Limits.{width}
 use Rattle.mesh.specs.Mesh.{Ring, threes, rings}
 use Rattle.mesh.proofs.Corners.{length-threes}
 use Rattle.mesh.proofs.Faces.{rings-are, sizes-back}
@@ -55,15 +56,15 @@ all-three (n ∷ l) e =
 
 -- ---- the faces of two parts of the lists, one behind the other
 
-rings-append : (a b cs : List ℕ) → rings (a ++ b) cs ≡ rings a (take (3 * sum a) cs) ++ rings b (drop (3 * sum a) cs)
+rings-append : (a b cs : List ℕ) → rings (a ++ b) cs ≡ rings a (take (width * sum a) cs) ++ rings b (drop (width * sum a) cs)
 rings-append [] b cs = refl
 rings-append (n ∷ a) b cs =
-    let m : 3 * (n + sum a) ≡ 3 * n + 3 * sum a = omega arith in
-    let x : take (3 * n) (take (3 * (n + sum a)) cs) ≡ take (3 * n) cs = take-take (3 * n) (3 * (n + sum a)) cs (omega arith) in
-    let w : 3 * (n + sum a) - 3 * n ≡ 3 * sum a = omega arith in
-    let y : drop (3 * n) (take (3 * (n + sum a)) cs) ≡ take (3 * sum a) (drop (3 * n) cs) = drop-take cs (3 * n) (3 * (n + sum a)) ∙ ap (λ (k : ℕ). take k (drop (3 * n) cs)) w in
-    let z : drop (3 * sum a) (drop (3 * n) cs) ≡ drop (3 * (n + sum a)) cs = drop-drop (3 * sum a) (3 * n) cs ∙ ap (λ (k : ℕ). drop k cs) (sym m) in
-    ap (λ (l : List Ring). threes (take (3 * n) cs) ∷ l) (rings-append a b (drop (3 * n) cs))
+    let m : width * (n + sum a) ≡ width * n + width * sum a = omega arith in
+    let x : take (width * n) (take (width * (n + sum a)) cs) ≡ take (width * n) cs = take-take (width * n) (width * (n + sum a)) cs (omega arith) in
+    let w : width * (n + sum a) - width * n ≡ width * sum a = omega arith in
+    let y : drop (width * n) (take (width * (n + sum a)) cs) ≡ take (width * sum a) (drop (width * n) cs) = drop-take cs (width * n) (width * (n + sum a)) ∙ ap (λ (k : ℕ). take k (drop (width * n) cs)) w in
+    let z : drop (width * sum a) (drop (width * n) cs) ≡ drop (width * (n + sum a)) cs = drop-drop (width * sum a) (width * n) cs ∙ ap (λ (k : ℕ). drop k cs) (sym m) in
+    ap (λ (l : List Ring). threes (take (width * n) cs) ∷ l) (rings-append a b (drop (width * n) cs))
     ∙ rw (x, y, z)
 
 module _ (cs s : List ℕ) (k : ℕ) (y : Fit cs s) (t : Triangles s k) where
@@ -76,13 +77,13 @@ module _ (cs s : List ℕ) (k : ℕ) (y : Fit cs s) (t : Triangles s k) where
   parts : sum (take k s) + sum (drop k s) ≡ sum s
   parts = sym (sum-append (take k s) (drop k s)) ∙ ap sum (take-append-drop k s)
 
-  pub within-corners : 9 * k ≤ length cs
+  pub within-corners : width * 3 * k ≤ length cs
   within-corners = omega (arith, total, parts, y .sound .adds)
 
-  front-long : length (take (9 * k) cs) ≡ 9 * k
-  front-long = length-take-le (9 * k) cs within-corners
+  front-long : length (take (width * 3 * k) cs) ≡ width * 3 * k
+  front-long = length-take-le (width * 3 * k) cs within-corners
 
-  pub fit-front : Fit (take (9 * k) cs) (take k s)
+  pub fit-front : Fit (take (width * 3 * k) cs) (take k s)
   fit-front = record {
     sound = record {
       few = omega (arith, count, t .within, y .sound .few);
@@ -93,10 +94,10 @@ module _ (cs s : List ℕ) (k : ℕ) (y : Fit cs s) (t : Triangles s k) where
     most = λ i h. let g : i < k = rw count at h in rw (getD-take k s i 0 g) (y .most i (omega (arith, t .within)));
   }
 
-  pub fit-behind : Fit (drop (9 * k) cs) (drop k s)
+  pub fit-behind : Fit (drop (width * 3 * k) cs) (drop k s)
   fit-behind =
       let a : length (drop k s) ≡ length s - k = length-drop k s in
-      let b : length (drop (9 * k) cs) ≡ length cs - 9 * k = length-drop (9 * k) cs in
+      let b : length (drop (width * 3 * k) cs) ≡ length cs - width * 3 * k = length-drop (width * 3 * k) cs in
       record {
         sound = record {
           few = omega (arith, y .sound .few);
@@ -108,72 +109,72 @@ module _ (cs s : List ℕ) (k : ℕ) (y : Fit cs s) (t : Triangles s k) where
       }
 
   -- all faces
-  faces-split : rings s cs ≡ rings (take k s) (take (9 * k) cs) ++ rings (drop k s) (drop (9 * k) cs)
+  faces-split : rings s cs ≡ rings (take k s) (take (width * 3 * k) cs) ++ rings (drop k s) (drop (width * 3 * k) cs)
   faces-split =
-      let n : 3 * sum (take k s) ≡ 9 * k = omega (arith, total) in
+      let n : width * sum (take k s) ≡ width * 3 * k = omega (arith, total) in
       ap (λ (l : List ℕ). rings l cs) (sym (take-append-drop k s))
       ∙ rings-append (take k s) (drop k s) cs
       ∙ ap (λ (j : ℕ). rings (take k s) (take j cs) ++ rings (drop k s) (drop j cs)) n
 
 -- the pieces of triangles are triangles
-triangle-rings : (s cs : List ℕ) → every (eqb 3) s ≡ true → 3 * sum s ≤ length cs → every isTriangle (each pieces (rings s cs)) ≡ true
+triangle-rings : (s cs : List ℕ) → every (eqb 3) s ≡ true → width * sum s ≤ length cs → every isTriangle (each pieces (rings s cs)) ≡ true
 triangle-rings [] cs e h = refl
 triangle-rings (n ∷ s) cs e h =
     let a : 3 ≡ n = eqb-true 3 n (and-left (eqb 3 n) (every (eqb 3) s) e) in
-    let r = threes (take (3 * n) cs) in
-    let l : length (take (3 * n) cs) ≡ 3 * n = length-take-le (3 * n) cs (omega arith) in
-    let c : length r ≡ 3 = length-threes (take (3 * n) cs) ∙ (omega arith) in
-    every-append isTriangle (pieces r) (each pieces (rings s (drop (3 * n) cs)))
-    ∙ and-both (every isTriangle (pieces r)) (every isTriangle (each pieces (rings s (drop (3 * n) cs))))
+    let r = threes (take (width * n) cs) in
+    let l : length (take (width * n) cs) ≡ width * n = length-take-le (width * n) cs (omega arith) in
+    let c : length r ≡ 3 = length-threes (take (width * n) cs) ∙ (omega arith) in
+    every-append isTriangle (pieces r) (each pieces (rings s (drop (width * n) cs)))
+    ∙ and-both (every isTriangle (pieces r)) (every isTriangle (each pieces (rings s (drop (width * n) cs))))
     (triangle-triangles r c)
-    (triangle-rings s (drop (3 * n) cs) (and-right (eqb 3 n) (every (eqb 3) s) e) (rw (length-drop (3 * n) cs) (omega arith)))
+    (triangle-rings s (drop (width * n) cs) (and-right (eqb 3 n) (every (eqb 3) s) e) (rw (length-drop (width * n) cs) (omega arith)))
 
 module _ (cs s : List ℕ) (k : ℕ) (y : Fit cs s) (t : Triangles s k) where
-  pub removed-split : removed (rings s cs) ≡ each pieces (rings (take k s) (take (9 * k) cs)) ++ removed (rings (drop k s) (drop (9 * k) cs))
+  pub removed-split : removed (rings s cs) ≡ each pieces (rings (take k s) (take (width * 3 * k) cs)) ++ removed (rings (drop k s) (drop (width * 3 * k) cs))
   unfolding removed
   removed-split =
-      let a = rings (take k s) (take (9 * k) cs) in
-      let b = rings (drop k s) (drop (9 * k) cs) in
+      let a = rings (take k s) (take (width * 3 * k) cs) in
+      let b = rings (drop k s) (drop (width * 3 * k) cs) in
       ap (λ (fs : List Ring). pushed (each pieces fs)) (faces-split cs s k y t)
       ∙ ap pushed (each-append pieces a b)
-      ∙ pushed-behind (each pieces a) (each pieces b) (triangle-rings (take k s) (take (9 * k) cs) (t .first) (le-of-eq (fit-front cs s k y t .sound .adds)))
+      ∙ pushed-behind (each pieces a) (each pieces b) (triangle-rings (take k s) (take (width * 3 * k) cs) (t .first) (le-of-eq (fit-front cs s k y t .sound .adds)))
 
 -- ---- the two parts are written one behind the other
 
 -- room for the triangles, and behind their pieces for what is left of the others
-pub ready-front : (cs s o l : List ℕ) (k : ℕ) → Ready cs s o l → Triangles s k → Ready (take (9 * k) cs) (take k s) o l
+pub ready-front : (cs s o l : List ℕ) (k : ℕ) → Ready cs s o l → Triangles s k → Ready (take (width * 3 * k) cs) (take k s) o l
 ready-front cs s o l k y t =
-    let n : length (take (9 * k) cs) ≡ 9 * k = front-long cs s k (y .fit) t in
+    let n : length (take (width * 3 * k) cs) ≡ width * 3 * k = front-long cs s k (y .fit) t in
     let w = within-corners cs s k (y .fit) t in
     record { fit = fit-front cs s k (y .fit) t; corners = omega (arith, y .corners); sizes = omega (arith, y .sizes) }
 
 pub ready-behind : (cs s o o' l l' : List ℕ) (k c f : ℕ) → Ready cs s o l → Triangles s k
-    → Placed (each pieces (rings (take k s) (take (9 * k) cs))) o o' l l' 0 0 c f → length o' ≡ length o → length l' ≡ length l
-    → Behind (drop (9 * k) cs) (drop k s) o' l' c f
+    → Placed (each pieces (rings (take k s) (take (width * 3 * k) cs))) o o' l l' 0 0 c f → length o' ≡ length o → length l' ≡ length l
+    → Behind (drop (width * 3 * k) cs) (drop k s) o' l' c f
 ready-behind cs s o o' l l' k c f y t p x z =
-    let a = rings (take k s) (take (9 * k) cs) in
+    let a = rings (take k s) (take (width * 3 * k) cs) in
     let w = within-corners cs s k (y .fit) t in
-    let d : length (drop (9 * k) cs) ≡ length cs - 9 * k = length-drop (9 * k) cs in
-    let e : cornerCount a ≡ 3 * k = ap sum (sizes-back (take k s) (take (9 * k) cs) (le-of-eq (fit-front cs s k (y .fit) t .sound .adds))) ∙ total cs s k (y .fit) t in
+    let d : length (drop (width * 3 * k) cs) ≡ length cs - width * 3 * k = length-drop (width * 3 * k) cs in
+    let e : cornerCount a ≡ 3 * k = ap sum (sizes-back (take k s) (take (width * 3 * k) cs) (le-of-eq (fit-front cs s k (y .fit) t .sound .adds))) ∙ total cs s k (y .fit) t in
     let g = count-pieces a in
     let h : 3 * length (each pieces a) ≤ cornerCount (each pieces a) = faces-count (each pieces a) (every-pieces isFace a (λ r. pieces-sane r .faces)) in
     record { fit = fit-behind cs s k (y .fit) t; corners = omega (arith, p .more, y .corners); sizes = omega (arith, p .more, p .most, y .sizes) }
 
 -- no more is left than was given
-pub left-corners : (cs s o o' l l' : List ℕ) (c f : ℕ) → Fit cs s → Placed (removed (rings s cs)) o o' l l' 0 0 c f → 3 * c ≤ length cs
+pub left-corners : (cs s o o' l l' : List ℕ) (c f : ℕ) → Fit cs s → Placed (removed (rings s cs)) o o' l l' 0 0 c f → width * c ≤ length cs
 left-corners cs s o o' l l' c f y p =
     omega (arith, p .more, removed-count (rings s cs), ap sum (sizes-back s cs (le-of-eq (y .sound .adds))), y .sound .adds)
 
-pub left-faces : (cs s o o' l l' : List ℕ) (c f : ℕ) → Fit cs s → Placed (removed (rings s cs)) o o' l l' 0 0 c f → 9 * f ≤ length cs
+pub left-faces : (cs s o o' l l' : List ℕ) (c f : ℕ) → Fit cs s → Placed (removed (rings s cs)) o o' l l' 0 0 c f → width * 3 * f ≤ length cs
 left-faces cs s o o' l l' c f y p =
     omega (arith, p .more, p .most, left-corners cs s o o' l l' c f y p, removed-length (rings s cs))
 
 -- what is written to all that stands behind is written behind
 pub placed-tail : (fs : List Ring) (o o' l l' : List ℕ) (c f c' f' : ℕ)
-    → Placed fs (take (length o - 3 * c) (drop (3 * c) o)) o' (take (length l - f) (drop f l)) l' 0 0 c' f'
-    → Placed fs o (take (3 * c) o ++ (o' ++ drop (length o - 3 * c) (drop (3 * c) o))) l (take f l ++ (l' ++ drop (length l - f) (drop f l))) c f (c + c') (f + f')
+    → Placed fs (take (length o - width * c) (drop (width * c) o)) o' (take (length l - f) (drop f l)) l' 0 0 c' f'
+    → Placed fs o (take (width * c) o ++ (o' ++ drop (length o - width * c) (drop (width * c) o))) l (take f l ++ (l' ++ drop (length l - f) (drop f l))) c f (c + c') (f + f')
 placed-tail fs o o' l l' c f c' f' p = record {
-  corners = tail-written o o' (3 * c) (each joined fs) (p .corners);
+  corners = tail-written o o' (width * c) (each joined fs) (p .corners);
   sizes = tail-written l l' f (map length fs) (p .sizes);
   more = omega (arith, p .more);
   most = omega (arith, p .most);
@@ -188,11 +189,11 @@ placed-tail fs o o' l l' c f c' f' p = record {
 
 -- the triangles' pieces, and the others behind them
 pub placed-parts : (cs s o o1 o2 l l1 l2 : List ℕ) (k c f c' f' : ℕ) → Fit cs s → Triangles s k
-    → Placed (each pieces (rings (take k s) (take (9 * k) cs))) o o1 l l1 0 0 c f
-    → Placed (removed (rings (drop k s) (drop (9 * k) cs))) o1 o2 l1 l2 c f c' f' → Placed (removed (rings s cs)) o o2 l l2 0 0 c' f'
+    → Placed (each pieces (rings (take k s) (take (width * 3 * k) cs))) o o1 l l1 0 0 c f
+    → Placed (removed (rings (drop k s) (drop (width * 3 * k) cs))) o1 o2 l1 l2 c f c' f' → Placed (removed (rings s cs)) o o2 l l2 0 0 c' f'
 placed-parts cs s o o1 o2 l l1 l2 k c f c' f' y t p q =
     placed-as (removed-split cs s k y t)
-    (placed-both _ _ o o1 o2 l l1 l2 0 0 c f c' f' (pieces-rings (rings (take k s) (take (9 * k) cs)) (rings-are (take k s) (take (9 * k) cs))) p q)
+    (placed-both _ _ o o1 o2 l l1 l2 0 0 c f c' f' (pieces-rings (rings (take k s) (take (width * 3 * k) cs)) (rings-are (take k s) (take (width * 3 * k) cs))) p q)
 
 removed-none : removed [] ≡ []
 unfolding removed pushed
@@ -200,11 +201,11 @@ removed-none = refl
 
 -- only triangles
 pub placed-triangles : (cs s o o' l l' : List ℕ) (k c f : ℕ) → Fit cs s → Triangles s k → k ≡ length s
-    → Placed (each pieces (rings (take k s) (take (9 * k) cs))) o o' l l' 0 0 c f → Placed (removed (rings s cs)) o o' l l' 0 0 c f
+    → Placed (each pieces (rings (take k s) (take (width * 3 * k) cs))) o o' l l' 0 0 c f → Placed (removed (rings s cs)) o o' l l' 0 0 c f
 placed-triangles cs s o o' l l' k c f y t e p =
     placed-as
     (removed-split cs s k y t
-    ∙ ap (λ (l : List ℕ). each pieces (rings (take k s) (take (9 * k) cs)) ++ removed (rings l (drop (9 * k) cs))) (ap (λ (n : ℕ). drop n s) e ∙ drop-length s)
-    ∙ ap (λ (l : List Ring). each pieces (rings (take k s) (take (9 * k) cs)) ++ l) removed-none
-    ∙ append-nil (each pieces (rings (take k s) (take (9 * k) cs))))
+    ∙ ap (λ (l : List ℕ). each pieces (rings (take k s) (take (width * 3 * k) cs)) ++ removed (rings l (drop (width * 3 * k) cs))) (ap (λ (n : ℕ). drop n s) e ∙ drop-length s)
+    ∙ ap (λ (l : List Ring). each pieces (rings (take k s) (take (width * 3 * k) cs)) ++ l) removed-none
+    ∙ append-nil (each pieces (rings (take k s) (take (width * 3 * k) cs))))
     p

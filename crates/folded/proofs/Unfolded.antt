@@ -12,6 +12,7 @@ use borrow.Author.Tests.{le-leb, leb-true, ltb-true, ltb-false}
 use Rattle.lists.specs.Lists.{every, some, each, sum}
 use Rattle.lists.proofs.Bools.{by-cases, and-both, and-left, and-right, or-false-left, or-false-right}
 use Rattle.lists.proofs.Parts.{Searching, search-begins, search-turns, search-finds, search-ends}
+use Rattle.mesh.specs.Limits.{width}
 use Rattle.mesh.specs.Mesh.{Ring, position, threes, rings}
 use Rattle.mesh.specs.Table.{kind, falls}
 use Rattle.mesh.specs.Face.{faceOf, offsetOf, Sound}
@@ -89,7 +90,7 @@ removed-same cs s o l g h =
     ∙ pushed-same (rings s cs) e (ap (λ (t : List ℕ). falls (map kind t)) b ∙ g .grouped)
 
 -- all faces are written as they stand
-pub kept-all : (cs s o o' l l' : List ℕ) → Sound cs s → o' ≡ sets o 0 cs → l' ≡ sets l 0 s → Placed (rings s cs) o o' l l' 0 0 (length cs / 3) (length s)
+pub kept-all : (cs s o o' l l' : List ℕ) → Sound cs s → o' ≡ sets o 0 cs → l' ≡ sets l 0 s → Placed (rings s cs) o o' l l' 0 0 (length cs / width) (length s)
 kept-all cs s o o' l l' y e f =
     let b : map length (rings s cs) ≡ s = sizes-back s cs (le-of-eq (y .adds)) in
     record {
@@ -100,7 +101,7 @@ kept-all cs s o o' l l' y e f =
     }
 
 -- no more faces than a third of the corners
-pub faces-few : (cs s : List ℕ) → Fit cs s → 9 * length s ≤ length cs
+pub faces-few : (cs s : List ℕ) → Fit cs s → width * 3 * length s ≤ length cs
 faces-few cs s y = omega (arith, least-sum s (y .least), y .sound .adds)
   where
     least-sum : (l : List ℕ) → ((k : ℕ) → k < length l → 3 ≤ getD l k 0) → 3 * length l ≤ sum l

@@ -7,6 +7,7 @@ use mathlib.Core.List.{List, [], _∷_, map}
 use lib.ListN.{length}
 use lib.Seq.{sets}
 use Rattle.lists.specs.Lists.{joined, each}
+use Rattle.mesh.specs.Limits.{width}
 use Rattle.mesh.specs.Mesh.{Mesh, meshOf, Ring, faces}
 use Rattle.mesh.specs.Table.{meshNumber, firstOf, when, lent, short, after}
 use Rattle.grouping.specs.Push.{pushed, cornerCount}
@@ -34,7 +35,7 @@ resultOf c s = record { corners = c; sizes = s }
 unfoldable pub tooShort : Mesh → Result → Bool
 tooShort m r =
     short
-    (lent (length (r .corners)) (length (m .corners)) ∷ lent (length (r .sizes)) (length (m .corners) / 3 / 3) ∷ [])
+    (lent (length (r .corners)) (length (m .corners)) ∷ lent (length (r .sizes)) (length (m .corners) / width / 3) ∷ [])
 
 -- the number returned: 1 to 5 of the mesh, else 9, else 0
 unfoldable pub removalNumber : Mesh → Result → ℕ

@@ -6,7 +6,7 @@ use mathlib.Core.List.{List, map}
 use lib.ListN.{length, getD, take}
 use lib.Dec.{eqb}
 use Rattle.lists.specs.Lists.{every}
-use Rattle.mesh.specs.Limits.{ringLimit}
+use Rattle.mesh.specs.Limits.{width, ringLimit}
 use Rattle.mesh.specs.Table.{kind, falls}
 use Rattle.mesh.specs.Face.{Sound}
 use Rattle.folding.specs.Working.{Room}
@@ -15,7 +15,7 @@ use Rattle.folded.specs.declared.Removed.{Removed}
 -- the flat corners of a face of n corners
 pub record Corners (face : List ℕ) (n : ℕ) : Type 0 where
   pub small : n ≤ ringLimit
-  pub wide : length face ≡ 3 * n
+  pub wide : length face ≡ width * n
 
 -- corners and sizes that add up, each face of 3 to 32 corners
 pub record Fit (cs s : List ℕ) : Type 0 where
@@ -31,20 +31,20 @@ pub record Triangles (s : List ℕ) (k : ℕ) : Type 0 where
 -- a face of n corners, three or more, and room for its pieces behind c corners and f faces
 pub record Face (face : List ℕ) (n : ℕ) (out lens : List ℕ) (c f : ℕ) : Type 0 where
   pub least : 3 ≤ n
-  pub wide : length face ≡ 3 * n
+  pub wide : length face ≡ width * n
   pub room : Room n out lens c f
 
 -- such corners and sizes, and room for the pieces of all the faces
 pub record Ready (cs s out lens : List ℕ) : Type 0 where
   pub fit : Fit cs s
   pub corners : length cs ≤ length out
-  pub sizes : length cs < 9 * (length lens + 1)
+  pub sizes : length cs < width * 3 * (length lens + 1)
 
 -- the same behind c corners and f faces
 pub record Behind (cs s out lens : List ℕ) (c f : ℕ) : Type 0 where
   pub fit : Fit cs s
-  pub corners : 3 * c + length cs ≤ length out
-  pub sizes : 9 * f + length cs < 9 * (length lens + 1)
+  pub corners : width * c + length cs ≤ length out
+  pub sizes : width * 3 * f + length cs < width * 3 * (length lens + 1)
 
 -- the corners and sizes of an accepted mesh, whose faces are grouped, and room
 pub record Given (cs s out lens : List ℕ) : Type 0 where

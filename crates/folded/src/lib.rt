@@ -8,6 +8,7 @@ ghost use mathlib.Core.List.{[], _∷_, map};
 ghost use Prim.Native.Nat.{_+_, _*_, _<_, _≤_};
 ghost use lib.ListN.{length, take};
 ghost use Rattle.lists.specs.Lists.{some, each};
+ghost use Rattle.mesh.specs.Limits.{width};
 ghost use Rattle.mesh.specs.Mesh.{meshOf, position, threes, rings};
 ghost use Rattle.grouping.specs.Push.{Placed};
 ghost use Rattle.folding.specs.Folding.{folded, trianglePieces, quadranglePieces, ringPieces, pieces};
@@ -16,6 +17,16 @@ ghost use Rattle.folded.specs.Working.{Corners, Fit, Triangles, Face, Re
 use folding::Fold;
 use grouping::Filled;
 use mesh::RING;
+use mesh::WIDTH;
+
+// Where the second, third and fourth corner of a face begin, and how many numbers a triangle has.
+const SECOND: usize = WIDTH;
+
+const THIRD: usize = 2 * WIDTH;
+
+const FOURTH: usize = 3 * WIDTH;
+
+const TRIANGLE: usize = 3 * WIDTH;
 
 // The number returned, and how many corners and faces are left.
 pub struct Removed {
@@ -45,7 +56,7 @@ pub fn remove_degenerate_faces(
     if newcorners.len() < corners.len() {
         return refused(9);
     }
-    if newsizes.len() < corners.len() / 3 / 3 {
+    if newsizes.len() < corners.len() / WIDTH / 3 {
         return refused(9);
     }
     let left = remove(corners, sizes, newcorners, newsizes);
@@ -105,7 +116,7 @@ fn keep_all(corners: &[u32], sizes: &[u32], newcorners: &mut [u32], newsizes: &m
     lists::put(corners, newcorners, 0);
     lists::put(sizes, newsizes, 0);
     Filled {
-        corners: corners.len() / 3,
+        corners: corners.len() / WIDTH,
         faces: sizes.len(),
     }
 }
@@ -121,7 +132,7 @@ fn remove_folded(
     ensures { λ r. ⌜ Placed (want.removed (rings (now (sizes .entry)) (now (corners .entry)))) (now (newcorners .entry)) (now (newcorners .exit)) (now (newsizes .entry)) (now (newsizes .exit)) 0 0 (r .corners) (r .faces) ⌝ }
 {
     let k = triangles(sizes);
-    let a = 9 * k;
+    let a = TRIANGLE * k;
     let at = all_pieces(&corners[..a], &sizes[..k], newcorners, newsizes);
     if k == sizes.len() {
         return at;
@@ -142,7 +153,7 @@ fn remove_behind(
 {
     let c = at.corners;
     let f = at.faces;
-    let b = 3 * c;
+    let b = WIDTH * c;
     let left = remove_larger(corners, sizes, &mut newcorners[b..], &mut newsizes[f..]);
     Filled {
         corners: c + left.corners,
@@ -177,7 +188,7 @@ fn remove_larger(
     let mut pieces = [0u32; 12288];
     let mut lens = [0u32; 1365];
     let at = all_pieces(corners, sizes, &mut pieces, &mut lens);
-    let c = 3 * at.corners;
+    let c = WIDTH * at.corners;
     let f = at.faces;
     grouping::push_all(&pieces[..c], &lens[..f], newcorners, newsizes)
 }
@@ -198,12 +209,12 @@ fn is_folded(face: &[u32], n: usize) -> bool
 
 // Whether a triangle is folded.
 fn degenerate_triangle(face: &[u32]) -> bool
-    requires { ⌜ length (now face) ≡ 9 ⌝ }
+    requires { ⌜ length (now face) ≡ width * 3 ⌝ }
     ensures { λ r. ⌜ r ≡ folded (threes (now (face .entry))) ⌝ }
 {
     let a = face[0];
-    let b = face[3];
-    let c = face[6];
+    let b = face[SECOND];
+    let c = face[THIRD];
     if a == b {
         return true;
     }
@@ -218,13 +229,13 @@ fn degenerate_triangle(face: &[u32]) -> bool
 
 // Whether a quadrangle is folded.
 fn folded_quadrangle(face: &[u32]) -> bool
-    requires { ⌜ length (now face) ≡ 12 ⌝ }
+    requires { ⌜ length (now face) ≡ width * 4 ⌝ }
     ensures { λ r. ⌜ r ≡ folded (threes (now (face .entry))) ⌝ }
 {
     let a = face[0];
-    let b = face[3];
-    let c = face[6];
-    let d = face[9];
+    let b = face[SECOND];
+    let c = face[THIRD];
+    let d = face[FOURTH];
     if a == b {
         return true;
     }
@@ -253,8 +264,8 @@ fn folded_ring(face: &[u32], n: usize) -> bool
 }
 
 // A triangle's corners, by value.
-fn tri_of(face: &[u32]) -> [[u32; 3]; 3]
-    requires { ⌜ length (now face) ≡ 9 ⌝ }
+fn tri_of(face: &[u32]) -> [[u32; WIDTH]; 3]
+    requires { ⌜ length (now face) ≡ width * 3 ⌝ }
     ensures { λ r. ⌜ r ≡ threes (now (face .entry)) ⌝ }
 {
     [
@@ -265,8 +276,8 @@ fn tri_of(face: &[u32]) -> [[u32; 3]; 3]
 }
 
 // A quadrangle's corners, by value.
-fn quad_of(face: &[u32]) -> [[u32; 3]; 4]
-    requires { ⌜ length (now face) ≡ 12 ⌝ }
+fn quad_of(face: &[u32]) -> [[u32; WIDTH]; 4]
+    requires { ⌜ length (now face) ≡ width * 4 ⌝ }
     ensures { λ r. ⌜ r ≡ threes (now (face .entry)) ⌝ }
 {
     [
@@ -285,21 +296,21 @@ fn places_of(face: &[u32], n: usize) -> [u32; RING]
     let mut places = [0u32; RING];
     let mut k: usize = 0;
     while k < n {
-        places[k] = face[3 * k];
+        places[k] = face[WIDTH * k];
         k += 1;
     }
     places
 }
 
 // A face's corners, as the front of a row.
-fn row_of(face: &[u32], n: usize) -> [[u32; 3]; RING]
+fn row_of(face: &[u32], n: usize) -> [[u32; WIDTH]; RING]
     requires { ⌜ Corners (now face) n ⌝ }
     ensures { λ r. ⌜ take n r ≡ threes (now (face .entry)) ⌝ }
 {
-    let mut row = [[0u32; 3]; RING];
+    let mut row = [[0u32; WIDTH]; RING];
     let mut k: usize = 0;
     while k < n {
-        let at = 3 * k;
+        let at = WIDTH * k;
         row[k] = [face[at], face[at + 1], face[at + 2]];
         k += 1;
     }
@@ -307,15 +318,15 @@ fn row_of(face: &[u32], n: usize) -> [[u32; 3]; RING]
 }
 
 // A triangle, behind what is written.
-fn put_triangle(tri: [[u32; 3]; 3], out: &mut [u32], lens: &mut [u32], at: Filled) -> Filled
-    requires { ⌜ (3 * (at .corners + 3) ≤ length (now out)) × (at .faces < length (now lens)) ⌝ }
+fn put_triangle(tri: [[u32; WIDTH]; 3], out: &mut [u32], lens: &mut [u32], at: Filled) -> Filled
+    requires { ⌜ (width * (at .corners + 3) ≤ length (now out)) × (at .faces < length (now lens)) ⌝ }
     ensures { λ r. ⌜ Placed (tri ∷ []) (now (out .entry)) (now (out .exit)) (now (lens .entry)) (now (lens .exit)) (at .corners) (at .faces) (r .corners) (r .faces) ⌝ }
 {
     let c = at.corners;
     let f = at.faces;
-    folding::put_corner(tri[0], out, 3 * c);
-    folding::put_corner(tri[1], out, 3 * c + 3);
-    folding::put_corner(tri[2], out, 3 * c + 6);
+    folding::put_corner(tri[0], out, WIDTH * c);
+    folding::put_corner(tri[1], out, WIDTH * c + SECOND);
+    folding::put_corner(tri[2], out, WIDTH * c + THIRD);
     lens[f] = 3;
     Filled {
         corners: c + 3,
@@ -324,16 +335,16 @@ fn put_triangle(tri: [[u32; 3]; 3], out: &mut [u32], lens: &mut [u32], at: Fille
 }
 
 // A quadrangle, behind what is written.
-fn put_quadrangle(quad: [[u32; 3]; 4], out: &mut [u32], lens: &mut [u32], at: Filled) -> Filled
-    requires { ⌜ (3 * (at .corners + 4) ≤ length (now out)) × (at .faces < length (now lens)) ⌝ }
+fn put_quadrangle(quad: [[u32; WIDTH]; 4], out: &mut [u32], lens: &mut [u32], at: Filled) -> Filled
+    requires { ⌜ (width * (at .corners + 4) ≤ length (now out)) × (at .faces < length (now lens)) ⌝ }
     ensures { λ r. ⌜ Placed (quad ∷ []) (now (out .entry)) (now (out .exit)) (now (lens .entry)) (now (lens .exit)) (at .corners) (at .faces) (r .corners) (r .faces) ⌝ }
 {
     let c = at.corners;
     let f = at.faces;
-    folding::put_corner(quad[0], out, 3 * c);
-    folding::put_corner(quad[1], out, 3 * c + 3);
-    folding::put_corner(quad[2], out, 3 * c + 6);
-    folding::put_corner(quad[3], out, 3 * c + 9);
+    folding::put_corner(quad[0], out, WIDTH * c);
+    folding::put_corner(quad[1], out, WIDTH * c + SECOND);
+    folding::put_corner(quad[2], out, WIDTH * c + THIRD);
+    folding::put_corner(quad[3], out, WIDTH * c + FOURTH);
     lens[f] = 4;
     Filled {
         corners: c + 4,

@@ -9,7 +9,7 @@ use lib.Seq.{sets, length-take-le}
 use borrow.Author.Tests.{leb-true}
 use Rattle.lists.specs.Lists.{every, joined}
 use Rattle.lists.proofs.Bools.{and-left, and-right}
-use Rattle.mesh.specs.Limits.{ringLimit}
+use Rattle.mesh.specs.Limits.{width, ringLimit}
 use Rattle.mesh.specs.Mesh.{Ring}
 use Rattle.grouping.specs.Push.{Placed, cornerCount}
 use Rattle.grouping.proofs.Placing.{placed-none}
@@ -17,9 +17,9 @@ use Rattle.folding.specs.Folding.{folded, ringPieces}
 use Rattle.folding.proofs.Pieces.{isFace, Sane, ring-stays, ring-vanishes}
 
 -- one face, whatever wrote its corners
-pub placed-ring : (r : Ring) (o o' l : List ℕ) (c f : ℕ) → o' ≡ sets o (3 * c) (joined r) → Placed (r ∷ []) o o' l (set l f (length r)) c f (c + length r) (f + 1)
+pub placed-ring : (r : Ring) (o o' l : List ℕ) (c f : ℕ) → o' ≡ sets o (width * c) (joined r) → Placed (r ∷ []) o o' l (set l f (length r)) c f (c + length r) (f + 1)
 placed-ring r o o' l c f e = record {
-  corners = e ∙ ap (sets o (3 * c)) (sym (append-nil (joined r)));
+  corners = e ∙ ap (sets o (width * c)) (sym (append-nil (joined r)));
   sizes = refl;
   more = omega arith;
   most = refl;
@@ -52,6 +52,6 @@ module _ (row : Ring) (n : ℕ) (long : length row ≡ ringLimit) (small : n ≤
   pub ring-none : n < 3 → Placed (ringPieces (take n row)) o o l l c f c f
   ring-none h = rw (ring-vanishes (take n row) e (omega (arith, front))) (placed-none o l c f)
 
-  pub ring-put : (o' : List ℕ) → 3 ≤ n → o' ≡ sets o (3 * c) (joined (take n row)) → Placed (ringPieces (take n row)) o o' l (set l f n) c f (c + n) (f + 1)
+  pub ring-put : (o' : List ℕ) → 3 ≤ n → o' ≡ sets o (width * c) (joined (take n row)) → Placed (ringPieces (take n row)) o o' l (set l f n) c f (c + n) (f + 1)
   ring-put o' h w =
       rw (ring-stays (take n row) e (omega (arith, front))) (rw front at (placed-ring (take n row) o o' l c f w))

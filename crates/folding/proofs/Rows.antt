@@ -19,32 +19,32 @@ use Rattle.lists.proofs.Bools.{and-both}
 use Rattle.lists.proofs.Parts.{joined-append, every-take}
 use Rattle.lists.proofs.Writing.{Copying, copy-ends, sets-append}
 use Rattle.lists.proofs.Copies.{front-turns, sets-whole, take-written, length-part, drop-take}
-use Rattle.mesh.specs.Limits.{ringLimit}
+use Rattle.mesh.specs.Limits.{width, ringLimit}
 use Rattle.mesh.specs.Mesh.{Corner, Ring, position}
 use Rattle.mesh.proofs.Corners.{isCorner, length-corners}
 use Rattle.folding.specs.Folding.{between, around}
 use Rattle.folding.specs.Working.{Cut}
 
 -- the corners of a row that is owned are three numbers each
-pub row-threes : (xs : Ring) (us : List Val) → shadow (each (List ℕ) (Array (UInt w32) 3 .own) xs us) → every isCorner xs ≡ true
+pub row-threes : (xs : Ring) (us : List Val) → shadow (each (List ℕ) (Array (UInt w32) width .own) xs us) → every isCorner xs ≡ true
 row-threes [] us s = refl
 row-threes (x ∷ xs) [] s = absurd s
 row-threes (x ∷ xs) (u ∷ us) s =
-    and-both (isCorner x) (every isCorner xs) (eq-eqb (length x) 3 (s .0 .1 .0 .1)) (row-threes xs us (s .1))
+    and-both (isCorner x) (every isCorner xs) (eq-eqb (length x) width (s .0 .1 .0 .1)) (row-threes xs us (s .1))
 
 -- the first n corners, one after the other
-pub length-front-corners : (r : Ring) (n : ℕ) → every isCorner r ≡ true → n ≤ length r → length (joined (take n r)) ≡ 3 * n
+pub length-front-corners : (r : Ring) (n : ℕ) → every isCorner r ≡ true → n ≤ length r → length (joined (take n r)) ≡ width * n
 length-front-corners r n e h =
-    length-corners (take n r) (every-take isCorner n r e) ∙ ap (λ (k : ℕ). 3 * k) (length-take-le n r h)
+    length-corners (take n r) (every-take isCorner n r e) ∙ ap (λ (k : ℕ). width * k) (length-take-le n r h)
 
 -- three numbers are written one by one
-pub corner-written : (l c : List ℕ) (b : ℕ) → length c ≡ 3
+pub corner-written : (l c : List ℕ) (b : ℕ) → length c ≡ width
     → set (set (set l b (getD c 0 0)) (b + 1) (getD c 1 0)) (b + 2) (getD c 2 0) ≡ sets l b c
-corner-written l [] b e = absurd (let z : _≡_ {A = ℕ} 0 3 = e in omega arith)
-corner-written l (x ∷ []) b e = absurd (let z : _≡_ {A = ℕ} 1 3 = e in omega arith)
-corner-written l (x ∷ y ∷ []) b e = absurd (let z : _≡_ {A = ℕ} 2 3 = e in omega arith)
+corner-written l [] b e = absurd (let z : _≡_ {A = ℕ} 0 width = e in omega arith)
+corner-written l (x ∷ []) b e = absurd (let z : _≡_ {A = ℕ} 1 width = e in omega arith)
+corner-written l (x ∷ y ∷ []) b e = absurd (let z : _≡_ {A = ℕ} 2 width = e in omega arith)
 corner-written l (x ∷ y ∷ z ∷ []) b e = rw (add-one b, add-two b)
-corner-written l (x ∷ y ∷ z ∷ w ∷ c) b e = absurd (let q : suc (suc (suc (suc (length c)))) ≡ 3 = e in omega arith)
+corner-written l (x ∷ y ∷ z ∷ w ∷ c) b e = absurd (let q : suc (suc (suc (suc (length c)))) ≡ width = e in omega arith)
 
 -- The positions of a row under way: the first k are read.
 abbrev pub Reading : Ring → List ℕ → List ℕ → ℕ → Type 0
@@ -70,15 +70,15 @@ pub write-begins : (row : Ring) (n : ℕ) (l : List ℕ) (b : ℕ) → Writing r
 write-begins row n l b = record { within = omega arith; written = refl; long = refl }
 
 pub write-turns : (row : Ring) (n : ℕ) (l l' l'' : List ℕ) (b k : ℕ) → every isCorner row ≡ true → n ≤ length row → k < n
-    → l'' ≡ sets l' (b + 3 * k) (getD row k []) → Writing row n l l' b k → Writing row n l l'' b (k + 1)
+    → l'' ≡ sets l' (b + width * k) (getD row k []) → Writing row n l l' b k → Writing row n l l'' b (k + 1)
 write-turns row n l l' l'' b k w m h e c =
     let c' = getD row k [] in
-    let z : length (joined (take k row)) ≡ 3 * k = length-front-corners row k w (omega arith) in
+    let z : length (joined (take k row)) ≡ width * k = length-front-corners row k w (omega arith) in
     let f : joined (take (k + 1) row) ≡ joined (take k row) ++ c' = step row k (omega arith) in
     record {
       within = omega arith;
       written = e ∙ rw (c .written, f, sets-append, z);
-      long = ap length e ∙ length-sets l' (b + 3 * k) c' ∙ c .long;
+      long = ap length e ∙ length-sets l' (b + width * k) c' ∙ c .long;
     }
   where
     one : (x : Corner) → joined (x ∷ []) ≡ x

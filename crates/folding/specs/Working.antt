@@ -3,7 +3,7 @@ use Prim.Native.Nat.{ℕ, _+_, _*_, _≤_, _<_}
 use mathlib.Core.Path.{_≡_}
 use mathlib.Core.List.{List}
 use lib.ListN.{length}
-use Rattle.mesh.specs.Limits.{ringLimit}
+use Rattle.mesh.specs.Limits.{width, ringLimit}
 use Rattle.mesh.specs.Mesh.{Ring}
 use Rattle.folding.specs.Folding.{firstIn, secondIn}
 
@@ -11,7 +11,7 @@ use Rattle.folding.specs.Folding.{firstIn, secondIn}
 -- as a third of the corners, rounded down
 pub record Room (n : ℕ) (out lens : List ℕ) (c f : ℕ) : Type 0 where
   pub small : n ≤ ringLimit
-  pub corners : 3 * (c + n) ≤ length out
+  pub corners : width * (c + n) ≤ length out
   pub sizes : 3 * f + n < 3 * (length lens + 1)
 
 -- i is the first corner of r that has another with its position, or their number; of such a corner j is the first other

@@ -8,12 +8,13 @@ ghost use mathlib.Core.List.{map};
 ghost use mathlib.Core.Bool.{false};
 ghost use Rattle.lists.specs.Lists.{joined};
 ghost use Rattle.mesh.specs.Mesh.{position};
-ghost use Rattle.mesh.specs.Limits.{ringLimit};
+ghost use Rattle.mesh.specs.Limits.{width, ringLimit};
 ghost use Rattle.grouping.specs.Push.{Placed};
 ghost use Rattle.folding.specs.Working.{Room, Cut, FirstPair};
 ghost use Rattle.folding.specs.Folding.{foldOf, withoutQ1, withoutQ3, mateOf, firstOf, folded, between, around, ringPieces};
 use grouping::Filled;
 use mesh::RING;
+use mesh::WIDTH;
 
 // What becomes of a quadrangle q0..q3.
 pub enum Fold {
@@ -30,7 +31,7 @@ struct Pair {
 }
 
 // The decision on a quadrangle.
-pub fn degenerate_quadrangle(quad: [[u32; 3]; 4]) -> Fold
+pub fn degenerate_quadrangle(quad: [[u32; WIDTH]; 4]) -> Fold
     ensures { λ r. ⌜ r ≡ foldOf quad ⌝ }
 {
     let q0 = quad[0][0];
@@ -65,7 +66,7 @@ pub fn degenerate_quadrangle(quad: [[u32; 3]; 4]) -> Fold
 }
 
 // The triangle (q0,q2,q3).
-pub fn without_q1(quad: [[u32; 3]; 4]) -> [[u32; 3]; 3]
+pub fn without_q1(quad: [[u32; WIDTH]; 4]) -> [[u32; WIDTH]; 3]
     ensures { λ r. ⌜ r ≡ withoutQ1 quad ⌝ }
 {
     let q0 = quad[0];
@@ -75,7 +76,7 @@ pub fn without_q1(quad: [[u32; 3]; 4]) -> [[u32; 3]; 3]
 }
 
 // The triangle (q0,q1,q2).
-pub fn without_q3(quad: [[u32; 3]; 4]) -> [[u32; 3]; 3]
+pub fn without_q3(quad: [[u32; WIDTH]; 4]) -> [[u32; WIDTH]; 3]
     ensures { λ r. ⌜ r ≡ withoutQ3 quad ⌝ }
 {
     let q0 = quad[0];
@@ -115,7 +116,7 @@ pub fn first(places: &[u32]) -> usize
 }
 
 // The positions of a row's corners.
-fn places_of(poly: [[u32; 3]; RING]) -> [u32; RING]
+fn places_of(poly: [[u32; WIDTH]; RING]) -> [u32; RING]
     ensures { λ r. ⌜ r ≡ map position poly ⌝ }
 {
     let mut places = [0u32; RING];
@@ -128,7 +129,7 @@ fn places_of(poly: [[u32; 3]; RING]) -> [u32; RING]
 }
 
 // The first i, and for it the first j after i, with equal positions; i is n where there is none.
-fn pair_of(poly: [[u32; 3]; RING], n: usize) -> Pair
+fn pair_of(poly: [[u32; WIDTH]; RING], n: usize) -> Pair
     requires { ⌜ n ≤ ringLimit ⌝ }
     ensures { λ r. ⌜ FirstPair (take n poly) (r .i) (r .j) ⌝ }
 {
@@ -143,12 +144,12 @@ fn pair_of(poly: [[u32; 3]; RING], n: usize) -> Pair
 
 // Corners a, a + 1, .. of a row, m of them, go to another, from place b on.
 fn copied(
-    poly: [[u32; 3]; RING],
+    poly: [[u32; WIDTH]; RING],
     a: usize,
     m: usize,
-    to: [[u32; 3]; RING],
+    to: [[u32; WIDTH]; RING],
     b: usize,
-) -> [[u32; 3]; RING]
+) -> [[u32; WIDTH]; RING]
     requires { ⌜ (a + m ≤ ringLimit) × (b + m ≤ ringLimit) ⌝ }
     ensures { λ r. ⌜ r ≡ sets to b (take m (drop a poly)) ⌝ }
 {
@@ -162,7 +163,7 @@ fn copied(
 }
 
 // Corners i to j-1.
-fn ring_one(poly: [[u32; 3]; RING], n: usize, i: usize, j: usize) -> [[u32; 3]; RING]
+fn ring_one(poly: [[u32; WIDTH]; RING], n: usize, i: usize, j: usize) -> [[u32; WIDTH]; RING]
     requires { ⌜ Cut n i j ⌝ }
     ensures { λ r. ⌜ take (j - i) r ≡ between (take n poly) i j ⌝ }
 {
@@ -170,7 +171,7 @@ fn ring_one(poly: [[u32; 3]; RING], n: usize, i: usize, j: usize) -> [[u32; 3]; 
 }
 
 // Corners j to the last, then 0 to i-1.
-fn ring_two(poly: [[u32; 3]; RING], n: usize, i: usize, j: usize) -> [[u32; 3]; RING]
+fn ring_two(poly: [[u32; WIDTH]; RING], n: usize, i: usize, j: usize) -> [[u32; WIDTH]; RING]
     requires { ⌜ Cut n i j ⌝ }
     ensures { λ r. ⌜ take (n - (j - i)) r ≡ around (take n poly) i j ⌝ }
 {
@@ -179,8 +180,8 @@ fn ring_two(poly: [[u32; 3]; RING], n: usize, i: usize, j: usize) -> [[u32; 3]; 
 }
 
 // A corner's three numbers go to the list.
-pub fn put_corner(corner: [u32; 3], out: &mut [u32], at: usize)
-    requires { ⌜ at + 3 ≤ length (now out) ⌝ }
+pub fn put_corner(corner: [u32; WIDTH], out: &mut [u32], at: usize)
+    requires { ⌜ at + width ≤ length (now out) ⌝ }
     ensures { λ _. ⌜ now (out .exit) ≡ sets (now (out .entry)) at corner ⌝ }
 {
     out[at] = corner[0];
@@ -189,20 +190,20 @@ pub fn put_corner(corner: [u32; 3], out: &mut [u32], at: usize)
 }
 
 // The first n corners of a row go to the list.
-fn put_row(poly: [[u32; 3]; RING], n: usize, out: &mut [u32], at: usize)
-    requires { ⌜ (n ≤ ringLimit) × (at + 3 * n ≤ length (now out)) ⌝ }
+fn put_row(poly: [[u32; WIDTH]; RING], n: usize, out: &mut [u32], at: usize)
+    requires { ⌜ (n ≤ ringLimit) × (at + width * n ≤ length (now out)) ⌝ }
     ensures { λ _. ⌜ now (out .exit) ≡ sets (now (out .entry)) at (joined (take n poly)) ⌝ }
 {
     let mut k: usize = 0;
     while k < n {
-        put_corner(poly[k], out, at + 3 * k);
+        put_corner(poly[k], out, at + WIDTH * k);
         k += 1;
     }
 }
 
 // A ring that is not folded goes to the lists where it has three corners or more.
 fn put_ring(
-    poly: [[u32; 3]; RING],
+    poly: [[u32; WIDTH]; RING],
     n: usize,
     out: &mut [u32],
     lens: &mut [u32],
@@ -217,7 +218,7 @@ fn put_ring(
     }
     let c = at.corners;
     let f = at.faces;
-    put_row(poly, n, out, 3 * c);
+    put_row(poly, n, out, WIDTH * c);
     lens[f] = n as u32;
     Filled {
         corners: c + n,
@@ -227,7 +228,7 @@ fn put_ring(
 
 // The pieces of a larger face go to the lists: each of the two rings is split again by the same rule, the first ring's pieces first.
 pub fn split_into_nondegenerate(
-    poly: [[u32; 3]; RING],
+    poly: [[u32; WIDTH]; RING],
     n: usize,
     out: &mut [u32],
     lens: &mut [u32],

@@ -13,7 +13,7 @@ use Rattle.lists.proofs.Bools.{and-left, and-right, by-cases}
 use Rattle.lists.proofs.Counting.{clash}
 use Rattle.lists.proofs.Only.{some-only}
 use Rattle.lists.proofs.Parts.{some-append, every-at, each-joined, every-joined, some-joined}
-use Rattle.mesh.specs.Limits.{ringLimit}
+use Rattle.mesh.specs.Limits.{width, ringLimit}
 use Rattle.mesh.specs.Mesh.{Mesh, Ring, meshOf, threes}
 use Rattle.mesh.specs.Table.{meshNumber, astray, astrayAt, ungrouped}
 use Rattle.mesh.proofs.Corners.{isCorner, threes-joined}
@@ -73,7 +73,7 @@ module _ (p t n : List Float) (fs : List Ring) (o : Orderly p t n fs) where
   abbrev m : Mesh
   m = meshOf p t n (each joined (pushed fs)) (map length (pushed fs))
 
-  flat-length : length (m .corners) ≡ 3 * cornerCount (pushed fs)
+  flat-length : length (m .corners) ≡ width * cornerCount (pushed fs)
   flat-length = length-flat (pushed fs) (every-pushed isRing fs (o .are-rings))
 
   size-of : (k : ℕ) → k < length (m .sizes) → sized (getD (pushed fs) k []) ≡ true
@@ -85,7 +85,7 @@ module _ (p t n : List Float) (fs : List Ring) (o : Orderly p t n fs) where
       let c : cornerCount (pushed fs) ≤ cornerCount fs = pushed-corners fs in
       let l : length (pushed fs) ≤ length fs = pushed-length fs in
       let s : 3 * length fs ≤ cornerCount fs = sized-count fs (o .are-sized) in
-      let f : length (m .corners) ≡ 3 * cornerCount (pushed fs) = flat-length in
+      let f : length (m .corners) ≡ width * cornerCount (pushed fs) = flat-length in
       let g : length (m .sizes) ≡ length (pushed fs) = length-map (pushed fs) length in
       clear-0 m (record {
         shaped = record {

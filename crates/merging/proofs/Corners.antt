@@ -14,6 +14,7 @@ use Rattle.lists.specs.Lists.{joined}
 use Rattle.lists.proofs.Bools.{by-cases}
 use Rattle.lists.proofs.Parts.{joined-append}
 use Rattle.lists.proofs.Writing.{sets-append}
+use Rattle.mesh.specs.Limits.{width}
 use Rattle.mesh.specs.Mesh.{Corner, missing, threes, cornerAt}
 use Rattle.mesh.proofs.Corners.{length-threes, getD-threes}
 use Rattle.merging.specs.Merging.{unlessMissing}
@@ -29,13 +30,13 @@ sent-other m i h = rw (ne-eqb i missing h)
 
 -- ---- the corners, of which the first k are written
 
-length-sent : (p t n : List ℕ) (r : List Corner) → length (joined (map (sentCorner p t n) r)) ≡ 3 * length r
+length-sent : (p t n : List ℕ) (r : List Corner) → length (joined (map (sentCorner p t n) r)) ≡ width * length r
 unfolding sentCorner
 length-sent p t n [] = refl
-length-sent p t n (c ∷ r) = let e : length (joined (map (sentCorner p t n) r)) ≡ 3 * length r = length-sent p t n r in omega arith
+length-sent p t n (c ∷ r) = let e : length (joined (map (sentCorner p t n) r)) ≡ width * length r = length-sent p t n r in omega arith
 
 pub record Writing (cs p t n out out' : List ℕ) (k : ℕ) : Type 0 where
-  pub within : k ≤ length cs / 3
+  pub within : k ≤ length cs / width
   pub written : out' ≡ sets out 0 (joined (map (sentCorner p t n) (take k (threes cs))))
   pub long : length out' ≡ length out
 
@@ -43,36 +44,36 @@ module _ (cs p t n out : List ℕ) where
   pub write-begins : Writing cs p t n out out 0
   write-begins = record { within = omega arith; written = refl; long = refl }
 
-  module _ (out' : List ℕ) (k : ℕ) (h : k < length cs / 3) (g : Writing cs p t n out out' k) where
+  module _ (out' : List ℕ) (k : ℕ) (h : k < length cs / width) (g : Writing cs p t n out out' k) where
     f : Corner → Corner
     f = sentCorner p t n
 
-    one-more : sets (sets out 0 (joined (map (sentCorner p t n) (take k (threes cs))))) (3 * k) (sentCorner p t n (cornerAt cs k)) ≡ sets out 0 (joined (map (sentCorner p t n) (take (k + 1) (threes cs))))
+    one-more : sets (sets out 0 (joined (map (sentCorner p t n) (take k (threes cs))))) (width * k) (sentCorner p t n (cornerAt cs k)) ≡ sets out 0 (joined (map (sentCorner p t n) (take (k + 1) (threes cs))))
     one-more =
-        let l : length (threes cs) ≡ length cs / 3 = length-threes cs in
+        let l : length (threes cs) ≡ length cs / width = length-threes cs in
         let done = joined (map (sentCorner p t n) (take k (threes cs))) in
         let new = sentCorner p t n (cornerAt cs k) in
-        let e : 3 * k ≡ 0 + length done = omega (arith, length-sent p t n (take k (threes cs)), length-take-le k (threes cs) (omega arith)) in
+        let e : width * k ≡ 0 + length done = omega (arith, length-sent p t n (take k (threes cs)), length-take-le k (threes cs) (omega arith)) in
         let q : take (k + 1) (threes cs) ≡ take k (threes cs) ++ (cornerAt cs k ∷ []) = rw (add-one k, take-suc (threes cs) k [] (omega arith), getD-threes cs k h) in
         ap (λ (j : ℕ). sets (sets out 0 done) j new) e
         ∙ sym (sets-append out 0 done new)
         ∙ ap (sets out 0) (sym (ap (λ (r : List Corner). joined (map (sentCorner p t n) r)) q ∙ ap joined (map-append (sentCorner p t n) (take k (threes cs)) (cornerAt cs k ∷ [])) ∙ joined-append (map (sentCorner p t n) (take k (threes cs))) (new ∷ []) ∙ ap (λ (x : List ℕ). done ++ x) (append-nil new)))
 
-    pub write-turns : (a b c : ℕ) → a ≡ getD p (getD cs (3 * k) 0) 0 → b ≡ unlessMissing (λ i. getD t i 0) (getD cs (3 * k + 1) 0) → c ≡ unlessMissing (λ i. getD n i 0) (getD cs (3 * k + 2) 0) → Writing cs p t n out (set (set (set out' (3 * k) a) (3 * k + 1) b) (3 * k + 2) c) (k + 1)
+    pub write-turns : (a b c : ℕ) → a ≡ getD p (getD cs (width * k) 0) 0 → b ≡ unlessMissing (λ i. getD t i 0) (getD cs (width * k + 1) 0) → c ≡ unlessMissing (λ i. getD n i 0) (getD cs (width * k + 2) 0) → Writing cs p t n out (set (set (set out' (width * k) a) (width * k + 1) b) (width * k + 2) c) (k + 1)
     unfolding sentCorner
     write-turns a b c x y z =
-        let e : 3 * k + 1 ≡ suc (3 * k) = omega arith in
-        let e' : 3 * k + 2 ≡ suc (suc (3 * k)) = omega arith in
-        let w : set (set (set out' (3 * k) a) (3 * k + 1) b) (3 * k + 2) c ≡ sets out' (3 * k) (a ∷ b ∷ c ∷ []) =
-        ap (λ (j : ℕ). set (set (set out' (3 * k) a) j b) (3 * k + 2) c) e ∙ ap (λ (j : ℕ). set (set (set out' (3 * k) a) (suc (3 * k)) b) j c) e' in
+        let e : width * k + 1 ≡ suc (width * k) = omega arith in
+        let e' : width * k + 2 ≡ suc (suc (width * k)) = omega arith in
+        let w : set (set (set out' (width * k) a) (width * k + 1) b) (width * k + 2) c ≡ sets out' (width * k) (a ∷ b ∷ c ∷ []) =
+        ap (λ (j : ℕ). set (set (set out' (width * k) a) j b) (width * k + 2) c) e ∙ ap (λ (j : ℕ). set (set (set out' (width * k) a) (suc (width * k)) b) j c) e' in
         let v : (a ∷ b ∷ c ∷ []) ≡ sentCorner p t n (cornerAt cs k) = cc in
         record {
           within = omega arith;
-          written = w ∙ ap (sets out' (3 * k)) v ∙ ap (λ (o : List ℕ). sets o (3 * k) (sentCorner p t n (cornerAt cs k))) (g .written) ∙ one-more;
-          long = ap length w ∙ length-sets out' (3 * k) (a ∷ b ∷ c ∷ []) ∙ g .long;
+          written = w ∙ ap (sets out' (width * k)) v ∙ ap (λ (o : List ℕ). sets o (width * k) (sentCorner p t n (cornerAt cs k))) (g .written) ∙ one-more;
+          long = ap length w ∙ length-sets out' (width * k) (a ∷ b ∷ c ∷ []) ∙ g .long;
         }
 
-  pub write-ends : (out' : List ℕ) (k : ℕ) → length cs / 3 ≤ k → Writing cs p t n out out' k → out' ≡ sets out 0 (joined (map (sentCorner p t n) (threes cs)))
+  pub write-ends : (out' : List ℕ) (k : ℕ) → length cs / width ≤ k → Writing cs p t n out out' k → out' ≡ sets out 0 (joined (map (sentCorner p t n) (threes cs)))
   write-ends out' k h g =
       g .written
-      ∙ ap (λ (r : List Corner). sets out 0 (joined (map (sentCorner p t n) r))) (take-all k (threes cs) (let l : length (threes cs) ≡ length cs / 3 = length-threes cs in omega arith))
+      ∙ ap (λ (r : List Corner). sets out 0 (joined (map (sentCorner p t n) r))) (take-all k (threes cs) (let l : length (threes cs) ≡ length cs / width = length-threes cs in omega arith))

@@ -13,6 +13,7 @@ use borrow.Author.Tests.{eqb-false}
 use Rattle.lists.specs.Lists.{joined}
 use Rattle.lists.proofs.Bools.{by-cases}
 use Rattle.lists.proofs.Mapping.{map-same}
+use Rattle.mesh.specs.Limits.{width}
 use Rattle.mesh.specs.Mesh.{Mesh, Corner, missing, threes, cornerAt, positionCount, textureCount, normalCount}
 use Rattle.mesh.specs.Table.{after}
 use Rattle.mesh.proofs.Accepted.{Accepted, Found, accepted}
@@ -84,26 +85,26 @@ module _ (m : Mesh) (t : Float) (out : List ℕ) (earns : mergeNumber m t (lengt
     even = a .whole .corners;
     few = a .limits .corners;
     room = c .long;
-    positions = λ k h. (let z : getD (m .corners) (3 * k) 0 < positionCount m = a .corner k h .position in omega (arith, a .limits .positions));
-    textures = λ k h e. (let z : getD (m .corners) (3 * k + 1) 0 < textureCount m = a .corner k h .texture e in omega (arith, a .limits .textures));
-    normals = λ k h e. (let z : getD (m .corners) (3 * k + 2) 0 < normalCount m = a .corner k h .normal e in omega (arith, a .limits .normals));
+    positions = λ k h. (let z : getD (m .corners) (width * k) 0 < positionCount m = a .corner k h .position in omega (arith, a .limits .positions));
+    textures = λ k h e. (let z : getD (m .corners) (width * k + 1) 0 < textureCount m = a .corner k h .texture e in omega (arith, a .limits .textures));
+    normals = λ k h e. (let z : getD (m .corners) (width * k + 2) 0 < normalCount m = a .corner k h .normal e in omega (arith, a .limits .normals));
   }
 
   module _ (p p₀ u u₀ n n₀ : List ℕ) (sp : Settled (positionCount m) (mergedTo t 3 (scaledList (m .positions))) p₀ p) (su : Settled (textureCount m) (mergedTo t 2 (m .textures)) u₀ u) (sn : Settled (normalCount m) (mergedTo t 3 (m .normals)) n₀ n) where
-    corner-same : (k : ℕ) → k < length (m .corners) / 3 → sentCorner p u n (cornerAt (m .corners) k) ≡ mergedCorner m t (cornerAt (m .corners) k)
+    corner-same : (k : ℕ) → k < length (m .corners) / width → sentCorner p u n (cornerAt (m .corners) k) ≡ mergedCorner m t (cornerAt (m .corners) k)
     unfolding sentCorner mergedCorner
     corner-same k h =
         let f : Found m k = a .corner k h in
-        let x = sp .each (getD (m .corners) (3 * k) 0) (f .position) in
-        let y = sent-same (λ i. getD u i 0) (mergedTo t 2 (m .textures)) (textureCount m) (getD (m .corners) (3 * k + 1) 0) (f .texture) (su .each) in
-        let z = sent-same (λ i. getD n i 0) (mergedTo t 3 (m .normals)) (normalCount m) (getD (m .corners) (3 * k + 2) 0) (f .normal) (sn .each) in
+        let x = sp .each (getD (m .corners) (width * k) 0) (f .position) in
+        let y = sent-same (λ i. getD u i 0) (mergedTo t 2 (m .textures)) (textureCount m) (getD (m .corners) (width * k + 1) 0) (f .texture) (su .each) in
+        let z = sent-same (λ i. getD n i 0) (mergedTo t 3 (m .normals)) (normalCount m) (getD (m .corners) (width * k + 2) 0) (f .normal) (sn .each) in
         rw (x, y, z)
 
     corners-same : map (sentCorner p u n) (threes (m .corners)) ≡ map (mergedCorner m t) (threes (m .corners))
     corners-same =
         map-same (sentCorner p u n) (mergedCorner m t) [] (threes (m .corners))
         (λ k h.
-        let l : k < length (m .corners) / 3 = (let e : length (threes (m .corners)) ≡ length (m .corners) / 3 = length-threes (m .corners) in let z : k < length (threes (m .corners)) = h in omega arith) in
+        let l : k < length (m .corners) / width = (let e : length (threes (m .corners)) ≡ length (m .corners) / width = length-threes (m .corners) in let z : k < length (threes (m .corners)) = h in omega arith) in
         let e : getD (threes (m .corners)) k [] ≡ cornerAt (m .corners) k = getD-threes (m .corners) k l in
         ap (sentCorner p u n) e ∙ corner-same k l ∙ ap (mergedCorner m t) (sym e))
 

@@ -7,6 +7,7 @@ use lib.ListN.{length, getD}
 use lib.Seq.{slice}
 use lib.Ieee.{Float}
 use Rattle.lists.specs.Lists.{some, has}
+use Rattle.mesh.specs.Limits.{width}
 use Rattle.mesh.specs.Mesh.{Corner, position, texture, normal, missing}
 use Rattle.floating.specs.Limits.{unfit, boundless, distant}
 use Rattle.merging.specs.Centre.{representative, sentTo}
@@ -58,9 +59,9 @@ sentCorner p t n c =
 
 -- corners whose indices the maps have
 pub record Indexed (cs p t n out : List ℕ) : Type 0 where
-  pub even : length cs % 3 ≡ 0
+  pub even : length cs % width ≡ 0
   pub few : length cs ≤ 12288
   pub room : length cs ≤ length out
-  pub positions : (k : ℕ) → k < length cs / 3 → getD cs (3 * k) 0 < length p
-  pub textures : (k : ℕ) → k < length cs / 3 → (getD cs (3 * k + 1) 0 ≡ missing → ⊥) → getD cs (3 * k + 1) 0 < length t
-  pub normals : (k : ℕ) → k < length cs / 3 → (getD cs (3 * k + 2) 0 ≡ missing → ⊥) → getD cs (3 * k + 2) 0 < length n
+  pub positions : (k : ℕ) → k < length cs / width → getD cs (width * k) 0 < length p
+  pub textures : (k : ℕ) → k < length cs / width → (getD cs (width * k + 1) 0 ≡ missing → ⊥) → getD cs (width * k + 1) 0 < length t
+  pub normals : (k : ℕ) → k < length cs / width → (getD cs (width * k + 2) 0 ≡ missing → ⊥) → getD cs (width * k + 2) 0 < length n

@@ -199,10 +199,10 @@ fn send_corners(corners: &[u32], pmap: &[u32], tmap: &[u32], nmap: &[u32], out: 
     requires { ⌜ Indexed (now corners) (now pmap) (now tmap) (now nmap) (now out) ⌝ }
     ensures { λ _. ⌜ now (out .exit) ≡ sets (now (out .entry)) 0 (joined (map (sentCorner (now (pmap .entry)) (now (tmap .entry)) (now (nmap .entry))) (threes (now (corners .entry))))) ⌝ }
 {
-    let count = corners.len() / 3;
+    let count = corners.len() / mesh::WIDTH;
     let mut k: usize = 0;
     while k < count {
-        let at = 3 * k;
+        let at = mesh::WIDTH * k;
         out[at] = pmap[corners[at] as usize];
         out[at + 1] = sent(tmap, corners[at + 1]);
         out[at + 2] = sent(nmap, corners[at + 2]);

@@ -9,7 +9,7 @@ use borrow.Author.Tests.{ltb-false, leb-false, eqb-true, not-false, le-ltb, lt-l
 use Rattle.lists.specs.Lists.{sum}
 use Rattle.lists.proofs.Bools.{or-false-left, or-false-right, or-neither, by-cases}
 use Rattle.lists.proofs.Parts.{some-false-at, some-none}
-use Rattle.mesh.specs.Limits.{ringLimit}
+use Rattle.mesh.specs.Limits.{width, ringLimit}
 use Rattle.mesh.specs.Mesh.{Mesh, threes, missing, positionCount, textureCount, normalCount}
 use Rattle.mesh.specs.Table.{overLimits, uneven, misfit, outside, ungrouped, astray, astrayAt, beyondUnlessMissing, kind, falls, meshNumber}
 use Rattle.mesh.specs.Face.{Sound}
@@ -54,8 +54,8 @@ pub record Even (m : Mesh) : Type 0 where
   pub positions : length (m .positions) % 3 ≡ 0
   pub textures : length (m .textures) % 2 ≡ 0
   pub normals : length (m .normals) % 3 ≡ 0
-  pub corners : length (m .corners) % 3 ≡ 0
-  pub adds : 3 * sum (m .sizes) ≡ length (m .corners)
+  pub corners : length (m .corners) % width ≡ 0
+  pub adds : width * sum (m .sizes) ≡ length (m .corners)
 
 pub even : (m : Mesh) → uneven m ≡ false → Even m
 unfolding uneven
@@ -63,8 +63,8 @@ even m h =
     let a = eqb (length (m .positions) % 3) 0 in
     let b = eqb (length (m .textures) % 2) 0 in
     let c = eqb (length (m .normals) % 3) 0 in
-    let d = eqb (length (m .corners) % 3) 0 in
-    let e = eqb (3 * sum (m .sizes)) (length (m .corners)) in
+    let d = eqb (length (m .corners) % width) 0 in
+    let e = eqb (width * sum (m .sizes)) (length (m .corners)) in
     let h3 : (not a || not b || not c || not d) ≡ false = or-false-left (not a || not b || not c || not d) (not e) h in
     let h2 : (not a || not b || not c) ≡ false = or-false-left (not a || not b || not c) (not d) h3 in
     let h1 : (not a || not b) ≡ false = or-false-left (not a || not b) (not c) h2 in
@@ -72,8 +72,8 @@ even m h =
       positions = eqb-true (length (m .positions) % 3) 0 (not-false a (or-false-left (not a) (not b) h1));
       textures = eqb-true (length (m .textures) % 2) 0 (not-false b (or-false-right (not a) (not b) h1));
       normals = eqb-true (length (m .normals) % 3) 0 (not-false c (or-false-right (not a || not b) (not c) h2));
-      corners = eqb-true (length (m .corners) % 3) 0 (not-false d (or-false-right (not a || not b || not c) (not d) h3));
-      adds = eqb-true (3 * sum (m .sizes)) (length (m .corners)) (not-false e (or-false-right (not a || not b || not c || not d) (not e) h));
+      corners = eqb-true (length (m .corners) % width) 0 (not-false d (or-false-right (not a || not b || not c) (not d) h3));
+      adds = eqb-true (width * sum (m .sizes)) (length (m .corners)) (not-false e (or-false-right (not a || not b || not c || not d) (not e) h));
     }
 
 pub even-back : (m : Mesh) → Even m → uneven m ≡ false
@@ -103,9 +103,9 @@ sizes-back m f = some-none outside 0 (m .sizes) (λ k l. let n = getD (m .sizes)
 -- ---- row 5: every index is missing or below its count
 
 pub record Found (m : Mesh) (k : ℕ) : Type 0 where
-  pub position : getD (m .corners) (3 * k) 0 < positionCount m
-  pub texture : (getD (m .corners) (3 * k + 1) 0 ≡ missing → ⊥) → getD (m .corners) (3 * k + 1) 0 < textureCount m
-  pub normal : (getD (m .corners) (3 * k + 2) 0 ≡ missing → ⊥) → getD (m .corners) (3 * k + 2) 0 < normalCount m
+  pub position : getD (m .corners) (width * k) 0 < positionCount m
+  pub texture : (getD (m .corners) (width * k + 1) 0 ≡ missing → ⊥) → getD (m .corners) (width * k + 1) 0 < textureCount m
+  pub normal : (getD (m .corners) (width * k + 2) 0 ≡ missing → ⊥) → getD (m .corners) (width * k + 2) 0 < normalCount m
 
 below-count : (count i : ℕ) → beyondUnlessMissing count i ≡ false → (i ≡ missing → ⊥) → i < count
 below-count count i h n =
@@ -120,12 +120,12 @@ missing-or-below count i f =
     (λ e. rw e)
     (λ e. rw (e, lt-leb count i (f (borrow.Author.Tests.eqb-false i missing e))))
 
-pub found : (m : Mesh) → astray m ≡ false → (k : ℕ) → k < length (m .corners) / 3 → Found m k
+pub found : (m : Mesh) → astray m ≡ false → (k : ℕ) → k < length (m .corners) / width → Found m k
 unfolding astray
 found m h k l =
-    let p = getD (m .corners) (3 * k) 0 in
-    let t = getD (m .corners) (3 * k + 1) 0 in
-    let n = getD (m .corners) (3 * k + 2) 0 in
+    let p = getD (m .corners) (width * k) 0 in
+    let t = getD (m .corners) (width * k + 1) 0 in
+    let n = getD (m .corners) (width * k + 2) 0 in
     let a = leb (positionCount m) p in
     let b = beyondUnlessMissing (textureCount m) t in
     let c = beyondUnlessMissing (normalCount m) n in
@@ -138,12 +138,12 @@ found m h k l =
       normal = below-count (normalCount m) n (or-false-right (a || b) c e);
     }
 
-pub found-back : (m : Mesh) → ((k : ℕ) → k < length (m .corners) / 3 → Found m k) → astray m ≡ false
+pub found-back : (m : Mesh) → ((k : ℕ) → k < length (m .corners) / width → Found m k) → astray m ≡ false
 unfolding astray
 found-back m f =
     some-none (astrayAt m) [] (threes (m .corners))
     (λ k l.
-    let h : k < length (m .corners) / 3 = rw (length-threes (m .corners)) at l in
+    let h : k < length (m .corners) / width = rw (length-threes (m .corners)) at l in
     let r : Found m k = f k h in
     ap (astrayAt m) (getD-threes (m .corners) k h)
     ∙ or-neither _ _
@@ -159,7 +159,7 @@ pub record Accepted (m : Mesh) : Type 0 where
   pub least : (k : ℕ) → k < length (m .sizes) → 3 ≤ getD (m .sizes) k 0
   pub most : (k : ℕ) → k < length (m .sizes) → getD (m .sizes) k 0 ≤ ringLimit
   pub grouped : falls (map kind (m .sizes)) ≡ false
-  pub corner : (k : ℕ) → k < length (m .corners) / 3 → Found m k
+  pub corner : (k : ℕ) → k < length (m .corners) / width → Found m k
 
 pub accepted : (m : Mesh) → meshNumber m ≡ 0 → Accepted m
 unfolding ungrouped

@@ -12,6 +12,7 @@ use borrow.Author.Tests.{lt-ltb, le-ltb, eq-eqb, ne-eqb}
 use Rattle.lists.specs.Lists.{every, joined, each, sum}
 use Rattle.lists.proofs.Bools.{and-left, and-right, and-both}
 use Rattle.lists.proofs.Parts.{sum-step, sum-at}
+use Rattle.mesh.specs.Limits.{width}
 use Rattle.mesh.specs.Mesh.{Mesh, Ring, threes, rings}
 use Rattle.mesh.specs.Table.{shapeNumber}
 use Rattle.mesh.specs.Face.{offsetOf, faceOf, facePart, Sound}
@@ -20,20 +21,20 @@ use Rattle.mesh.proofs.Corners.{isCorner, corners-threes, threes-joined
 -- ---- taking a face
 
 -- face k ends within the corners
-pub face-fits : (cs s : List ℕ) → Sound cs s → (k : ℕ) → k < length s → 3 * offsetOf s k + 3 * getD s k 0 ≤ length cs
-face-fits cs s h k l = let a : offsetOf s k + getD s k 0 ≤ sum s = sum-at s k l in let b : 3 * sum s ≡ length cs = h .adds in omega arith
+pub face-fits : (cs s : List ℕ) → Sound cs s → (k : ℕ) → k < length s → width * offsetOf s k + width * getD s k 0 ≤ length cs
+face-fits cs s h k l = let a : offsetOf s k + getD s k 0 ≤ sum s = sum-at s k l in let b : width * sum s ≡ length cs = h .adds in omega arith
 
 -- a face has three numbers for each of its corners
-pub face-length : (cs s : List ℕ) → Sound cs s → (k : ℕ) → k < length s → length (faceOf cs s k) ≡ 3 * getD s k 0
+pub face-length : (cs s : List ℕ) → Sound cs s → (k : ℕ) → k < length s → length (faceOf cs s k) ≡ width * getD s k 0
 unfolding faceOf
 face-length cs s h k l =
-    let f : 3 * offsetOf s k + 3 * getD s k 0 ≤ length cs = face-fits cs s h k l in
+    let f : width * offsetOf s k + width * getD s k 0 ≤ length cs = face-fits cs s h k l in
     simp (length-take, length-drop) (omega arith)
 
 -- the part from a to e is the face
-pub part-is : (cs s : List ℕ) (k at : ℕ) → at ≡ offsetOf s k → take (3 * at + 3 * getD s k 0 - 3 * at) (drop (3 * at) cs) ≡ faceOf cs s k
+pub part-is : (cs s : List ℕ) (k at : ℕ) → at ≡ offsetOf s k → take (width * at + width * getD s k 0 - width * at) (drop (width * at) cs) ≡ faceOf cs s k
 unfolding faceOf
-part-is cs s k at h = rw (add-sub-cancel-left (3 * at) (3 * getD s k 0), h)
+part-is cs s k at h = rw (add-sub-cancel-left (width * at) (width * getD s k 0), h)
 
 -- the next face begins where this one ends
 pub offset-step : (s : List ℕ) (k : ℕ) → k < length s → offsetOf s (k + 1) ≡ offsetOf s k + getD s k 0
@@ -43,20 +44,20 @@ offset-step = sum-step
 
 pub length-rings : (s cs : List ℕ) → length (rings s cs) ≡ length s
 length-rings [] cs = refl
-length-rings (n ∷ s) cs = ap suc (length-rings s (drop (3 * n) cs))
+length-rings (n ∷ s) cs = ap suc (length-rings s (drop (width * n) cs))
 
 -- one more face of what is left
 pub rings-step :
     (s cs : List ℕ) (k : ℕ) → k < length s
-    → rings (drop k s) (drop (3 * offsetOf s k) cs) ≡ threes (faceOf cs s k) ∷ rings (drop (k + 1) s) (drop (3 * offsetOf s (k + 1)) cs)
+    → rings (drop k s) (drop (width * offsetOf s k) cs) ≡ threes (faceOf cs s k) ∷ rings (drop (k + 1) s) (drop (width * offsetOf s (k + 1)) cs)
 unfolding faceOf
 rings-step s cs k h =
     let n = getD s k 0 in
     let o = offsetOf s k in
-    let e : 3 * o + 3 * n ≡ 3 * offsetOf s (k + 1) = let z : offsetOf s (k + 1) ≡ o + n = sum-step s k h in omega arith in
-    ap (λ (t : List ℕ). rings t (drop (3 * o) cs)) (drop-cons s k 0 h)
-    ∙ ap (λ (t : List ℕ). threes (take (3 * n) (drop (3 * o) cs)) ∷ rings (drop (suc k) s) t) (drop-drop (3 * n) (3 * o) cs ∙ ap (λ (i : ℕ). drop i cs) e)
-    ∙ ap (λ (i : ℕ). threes (take (3 * n) (drop (3 * o) cs)) ∷ rings (drop i s) (drop (3 * offsetOf s (k + 1)) cs)) (sym (add-one k))
+    let e : width * o + width * n ≡ width * offsetOf s (k + 1) = let z : offsetOf s (k + 1) ≡ o + n = sum-step s k h in omega arith in
+    ap (λ (t : List ℕ). rings t (drop (width * o) cs)) (drop-cons s k 0 h)
+    ∙ ap (λ (t : List ℕ). threes (take (width * n) (drop (width * o) cs)) ∷ rings (drop (suc k) s) t) (drop-drop (width * n) (width * o) cs ∙ ap (λ (i : ℕ). drop i cs) e)
+    ∙ ap (λ (i : ℕ). threes (take (width * n) (drop (width * o) cs)) ∷ rings (drop i s) (drop (width * offsetOf s (k + 1)) cs)) (sym (add-one k))
 
 -- the face at a place
 pub getD-rings : (s cs : List ℕ) (k : ℕ) → k < length s → getD (rings s cs) k [] ≡ threes (faceOf cs s k)
@@ -64,15 +65,15 @@ unfolding faceOf
 getD-rings [] cs k h = absurd (not-suc-le-zero h)
 getD-rings (n ∷ s) cs zero h = refl
 getD-rings (n ∷ s) cs (suc k) h =
-    let e : 3 * n + 3 * sum (take k s) ≡ 3 * (n + sum (take k s)) = omega arith in
-    getD-rings s (drop (3 * n) cs) k (le-of-suc-le-suc h)
-    ∙ ap (λ (l : List ℕ). threes (take (3 * getD s k 0) l)) (drop-drop (3 * sum (take k s)) (3 * n) cs ∙ ap (λ (i : ℕ). drop i cs) e)
+    let e : width * n + width * sum (take k s) ≡ width * (n + sum (take k s)) = omega arith in
+    getD-rings s (drop (width * n) cs) k (le-of-suc-le-suc h)
+    ∙ ap (λ (l : List ℕ). threes (take (width * getD s k 0) l)) (drop-drop (width * sum (take k s)) (width * n) cs ∙ ap (λ (i : ℕ). drop i cs) e)
 
 -- its size
 pub length-face : (cs s : List ℕ) → Sound cs s → (k : ℕ) → k < length s → length (threes (faceOf cs s k)) ≡ getD s k 0
 length-face cs s h k l =
-    let a : length (faceOf cs s k) ≡ 3 * getD s k 0 = face-length cs s h k l in
-    let b : length (threes (faceOf cs s k)) ≡ length (faceOf cs s k) / 3 = length-threes (faceOf cs s k) in
+    let a : length (faceOf cs s k) ≡ width * getD s k 0 = face-length cs s h k l in
+    let b : length (threes (faceOf cs s k)) ≡ length (faceOf cs s k) / width = length-threes (faceOf cs s k) in
     omega arith
 
 -- ---- flat and back
@@ -82,7 +83,7 @@ isRing r = every isCorner r
 
 pub rings-are : (s cs : List ℕ) → every isRing (rings s cs) ≡ true
 rings-are [] cs = refl
-rings-are (n ∷ s) cs = and-both (isRing (threes (take (3 * n) cs))) (every isRing (rings s (drop (3 * n) cs))) (corners-threes (take (3 * n) cs)) (rings-are s (drop (3 * n) cs))
+rings-are (n ∷ s) cs = and-both (isRing (threes (take (width * n) cs))) (every isRing (rings s (drop (width * n) cs))) (corners-threes (take (width * n) cs)) (rings-are s (drop (width * n) cs))
 
 -- faces that are written flat are read back as they were
 pub rings-back : (fs : List Ring) → every isRing fs ≡ true → rings (map length fs) (each joined fs) ≡ fs
@@ -90,32 +91,32 @@ rings-back [] h = refl
 rings-back (f ∷ fs) h =
     let a : isRing f ≡ true = and-left (isRing f) (every isRing fs) h in
     let b : every isRing fs ≡ true = and-right (isRing f) (every isRing fs) h in
-    let n : length (joined f) ≡ 3 * length f = length-corners f a in
-    ap (λ (l : List ℕ). threes l ∷ rings (map length fs) (drop (3 * length f) (joined f ++ each joined fs))) (take-at (joined f) (each joined fs) (3 * length f) n)
-    ∙ ap (λ (l : List ℕ). threes (joined f) ∷ rings (map length fs) l) (drop-at (joined f) (each joined fs) (3 * length f) n)
+    let n : length (joined f) ≡ width * length f = length-corners f a in
+    ap (λ (l : List ℕ). threes l ∷ rings (map length fs) (drop (width * length f) (joined f ++ each joined fs))) (take-at (joined f) (each joined fs) (width * length f) n)
+    ∙ ap (λ (l : List ℕ). threes (joined f) ∷ rings (map length fs) l) (drop-at (joined f) (each joined fs) (width * length f) n)
     ∙ ap (λ (l : List Ring). threes (joined f) ∷ l) (rings-back fs b)
     ∙ ap (λ (r : Ring). r ∷ fs) (threes-joined f a)
 
 -- and the lists of sizes and corners come back from the faces
-pub sizes-back : (s cs : List ℕ) → 3 * sum s ≤ length cs → map length (rings s cs) ≡ s
+pub sizes-back : (s cs : List ℕ) → width * sum s ≤ length cs → map length (rings s cs) ≡ s
 sizes-back [] cs h = refl
 sizes-back (n ∷ s) cs h =
-    let a : length (threes (take (3 * n) cs)) ≡ n =
-    let z : length (threes (take (3 * n) cs)) ≡ length (take (3 * n) cs) / 3 = length-threes (take (3 * n) cs) in
-    let y : length (take (3 * n) cs) ≡ 3 * n = length-take-le (3 * n) cs (omega arith) in
+    let a : length (threes (take (width * n) cs)) ≡ n =
+    let z : length (threes (take (width * n) cs)) ≡ length (take (width * n) cs) / width = length-threes (take (width * n) cs) in
+    let y : length (take (width * n) cs) ≡ width * n = length-take-le (width * n) cs (omega arith) in
     omega arith in
-    ap (λ (k : ℕ). k ∷ map length (rings s (drop (3 * n) cs))) a
-    ∙ ap (λ (l : List ℕ). n ∷ l) (sizes-back s (drop (3 * n) cs) (simp length-drop (omega arith)))
+    ap (λ (k : ℕ). k ∷ map length (rings s (drop (width * n) cs))) a
+    ∙ ap (λ (l : List ℕ). n ∷ l) (sizes-back s (drop (width * n) cs) (simp length-drop (omega arith)))
 
-pub corners-back : (s cs : List ℕ) → 3 * sum s ≡ length cs → each joined (rings s cs) ≡ cs
+pub corners-back : (s cs : List ℕ) → width * sum s ≡ length cs → each joined (rings s cs) ≡ cs
 corners-back [] [] h = refl
 corners-back [] (c ∷ cs) h = absurd (let z : 0 ≡ suc (length cs) = h in omega arith)
 corners-back (n ∷ s) cs h =
-    let y : length (take (3 * n) cs) ≡ 3 * n = length-take-le (3 * n) cs (omega arith) in
-    let m : length (take (3 * n) cs) % 3 ≡ 0 = omega arith in
-    ap (λ (l : List ℕ). l ++ each joined (rings s (drop (3 * n) cs))) (joined-threes (take (3 * n) cs) m)
-    ∙ ap (λ (l : List ℕ). take (3 * n) cs ++ l) (corners-back s (drop (3 * n) cs) (let z : length (drop (3 * n) cs) ≡ length cs - 3 * n = length-drop (3 * n) cs in omega arith))
-    ∙ take-append-drop (3 * n) cs
+    let y : length (take (width * n) cs) ≡ width * n = length-take-le (width * n) cs (omega arith) in
+    let m : length (take (width * n) cs) % width ≡ 0 = omega arith in
+    ap (λ (l : List ℕ). l ++ each joined (rings s (drop (width * n) cs))) (joined-threes (take (width * n) cs) m)
+    ∙ ap (λ (l : List ℕ). take (width * n) cs ++ l) (corners-back s (drop (width * n) cs) (let z : length (drop (width * n) cs) ≡ length cs - width * n = length-drop (width * n) cs in omega arith))
+    ∙ take-append-drop (width * n) cs
 
 -- ---- the part that is handed back: empty where k is no face, or where the lists earn 1 to 4
 

@@ -10,6 +10,7 @@ use lib.Seq.{drop-cons, drop-length}
 use lib.Dec.{ltb}
 use borrow.Author.Tests.{le-ltb}
 use Rattle.lists.proofs.Parts.{sum-step, Searching, search-turns, search-finds, search-ends}
+use Rattle.mesh.specs.Limits.{width}
 use Rattle.mesh.specs.Mesh.{Mesh, threes, cornerAt}
 use Rattle.mesh.specs.Table.{kind, falls, astray, astrayAt}
 use Rattle.mesh.specs.Face.{offsetOf}
@@ -66,16 +67,16 @@ module _ (m : Mesh) where
   abbrev pub Straying : ℕ → Type 0
   Straying k = Searching (astrayAt m) (threes (m .corners)) k
 
-  at : (k : ℕ) → k < length (m .corners) / 3 → (b : Bool) → astrayAt m (cornerAt (m .corners) k) ≡ b → astrayAt m (getD (threes (m .corners)) k []) ≡ b
+  at : (k : ℕ) → k < length (m .corners) / width → (b : Bool) → astrayAt m (cornerAt (m .corners) k) ≡ b → astrayAt m (getD (threes (m .corners)) k []) ≡ b
   at k h b e = ap (astrayAt m) (getD-threes (m .corners) k h) ∙ e
 
-  pub straying-turns : (k : ℕ) → k < length (m .corners) / 3 → astrayAt m (cornerAt (m .corners) k) ≡ false → Straying k → Straying (k + 1)
+  pub straying-turns : (k : ℕ) → k < length (m .corners) / width → astrayAt m (cornerAt (m .corners) k) ≡ false → Straying k → Straying (k + 1)
   straying-turns k h e s = search-turns (astrayAt m) [] (threes (m .corners)) k (rw (length-threes (m .corners)) h) (at k h false e) s
 
-  pub straying-finds : (k : ℕ) → k < length (m .corners) / 3 → astrayAt m (cornerAt (m .corners) k) ≡ true → true ≡ astray m
+  pub straying-finds : (k : ℕ) → k < length (m .corners) / width → astrayAt m (cornerAt (m .corners) k) ≡ true → true ≡ astray m
   unfolding astray
   straying-finds k h e = search-finds (astrayAt m) [] (threes (m .corners)) k (rw (length-threes (m .corners)) h) (at k h true e)
 
-  pub straying-ends : (k : ℕ) → length (m .corners) / 3 ≤ k → Straying k → false ≡ astray m
+  pub straying-ends : (k : ℕ) → length (m .corners) / width ≤ k → Straying k → false ≡ astray m
   unfolding astray
   straying-ends k h s = search-ends (astrayAt m) [] (threes (m .corners)) k (rw (length-threes (m .corners)) h) s

@@ -6,6 +6,7 @@ use mathlib.Core.List.{List, []}
 use lib.ListN.{length, getD, take, drop}
 use lib.Dec.{ltb, eqb}
 use Rattle.lists.specs.Lists.{sum}
+use Rattle.mesh.specs.Limits.{width}
 use Rattle.mesh.specs.Mesh.{Mesh}
 use Rattle.mesh.specs.Table.{shapeNumber}
 
@@ -15,7 +16,7 @@ offsetOf s k = sum (take k s)
 
 -- the corners of face k: three numbers for each, behind those of the faces before it
 unfoldable pub faceOf : List ℕ → List ℕ → ℕ → List ℕ
-faceOf cs s k = take (3 * getD s k 0) (drop (3 * offsetOf s k) cs)
+faceOf cs s k = take (width * getD s k 0) (drop (width * offsetOf s k) cs)
 
 abbrev pub listIf : Bool → List ℕ → List ℕ
 listIf true l = l
@@ -29,7 +30,7 @@ facePart m k = listIf (ltb k (length (m .sizes)) && eqb (shapeNumber m) 0) (face
 pub record Sound (cs s : List ℕ) : Type 0 where
   pub few : length s ≤ 1365
   pub fits : length cs ≤ 12288
-  pub adds : 3 * sum s ≡ length cs
+  pub adds : width * sum s ≡ length cs
 
 -- face k, before which `at` corners stand
 pub record Here (cs s : List ℕ) (k at : ℕ) : Type 0 where

@@ -3,6 +3,7 @@ use Prim.Native.Nat.{ℕ, zero, suc, _+_, _*_, _/_}
 use mathlib.Core.List.{List, [], _∷_}
 use lib.ListN.{length, getD, take, drop}
 use lib.Ieee.{Float}
+use Rattle.mesh.specs.Limits.{width}
 
 -- positions, texture points and normals as flat lists of coordinates; one flat list of corners, one list of face sizes
 pub record Mesh : Type 0 where
@@ -45,12 +46,12 @@ threes (p ∷ t ∷ n ∷ cs) = (p ∷ t ∷ n ∷ []) ∷ threes cs
 
 -- corner k of a flat list
 abbrev pub cornerAt : List ℕ → ℕ → Corner
-cornerAt cs k = getD cs (3 * k) 0 ∷ getD cs (3 * k + 1) 0 ∷ getD cs (3 * k + 2) 0 ∷ []
+cornerAt cs k = getD cs (width * k) 0 ∷ getD cs (width * k + 1) 0 ∷ getD cs (width * k + 2) 0 ∷ []
 
 -- the faces of a flat list of corners: each takes as many corners as its size says
 abbrev pub rings : List ℕ → List ℕ → List Ring
 rings [] cs = []
-rings (n ∷ s) cs = threes (take (3 * n) cs) ∷ rings s (drop (3 * n) cs)
+rings (n ∷ s) cs = threes (take (width * n) cs) ∷ rings s (drop (width * n) cs)
 
 -- the faces of a mesh; face k is the one at place k
 unfoldable pub faces : Mesh → List Ring

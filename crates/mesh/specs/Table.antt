@@ -6,7 +6,7 @@ use mathlib.Core.List.{List, [], _∷_, map}
 use lib.ListN.{length}
 use lib.Dec.{ltb, leb, eqb}
 use Rattle.lists.specs.Lists.{some, sum}
-use Rattle.mesh.specs.Limits.{ringLimit}
+use Rattle.mesh.specs.Limits.{width, ringLimit}
 use Rattle.mesh.specs.Mesh.{Mesh, Corner, position, texture, normal, missing, threes, positionCount, textureCount, normalCount}
 
 -- a row of the table: its number where its rule says so, else 0
@@ -26,7 +26,7 @@ overLimits m =
     ltb (2048 * 3) (length (m .positions))
     || ltb (2048 * 2) (length (m .textures))
     || ltb (2048 * 3) (length (m .normals))
-    || ltb (4096 * 3) (length (m .corners))
+    || ltb (4096 * width) (length (m .corners))
     || ltb 1365 (length (m .sizes))
 
 -- 2: a list's length is no multiple of its width, or the sizes don't add up to the corners
@@ -35,8 +35,8 @@ uneven m =
     not (eqb (length (m .positions) % 3) 0)
     || not (eqb (length (m .textures) % 2) 0)
     || not (eqb (length (m .normals) % 3) 0)
-    || not (eqb (length (m .corners) % 3) 0)
-    || not (eqb (3 * sum (m .sizes)) (length (m .corners)))
+    || not (eqb (length (m .corners) % width) 0)
+    || not (eqb (width * sum (m .sizes)) (length (m .corners)))
 
 -- 3: a face size lies outside 3 to 32
 abbrev pub outside : ℕ → Bool

@@ -9,12 +9,16 @@ ghost use mathlib.Core.List.{map};
 ghost use Prim.Native.Nat.{ℕ, _+_, _*_, _-_, _<_, _≤_, _/_, _%_};
 ghost use lib.ListN.{length, getD, take, drop};
 ghost use Rattle.lists.specs.Lists.{some, sum};
+ghost use Rattle.mesh.specs.Limits.{width};
 ghost use Rattle.mesh.specs.Mesh.{meshOf, threes};
 ghost use Rattle.mesh.specs.Table as table;
 ghost use Rattle.mesh.specs.Face as part;
 
 // The mark of a missing texture or normal.
 pub const MISSING: u32 = 4294967295;
+
+// How many numbers a corner has: position, texture, normal.
+pub const WIDTH: usize = 3;
 
 // The most corners that a face may have.
 pub const RING: usize = 32;
@@ -65,8 +69,8 @@ pub fn face_at<'a>(corners: &'a [u32], sizes: &[u32], k: usize, at: usize) -> &'
     ensures { λ r. ⌜ now r ≡ part.faceOf (now (corners .entry)) (now (sizes .entry)) k ⌝ }
 {
     let n = sizes[k] as usize;
-    let a = 3 * at;
-    let e = a + 3 * n;
+    let a = WIDTH * at;
+    let e = a + WIDTH * n;
     &corners[a..e]
 }
 
@@ -154,10 +158,10 @@ fn uneven(
     if normals.len() % 3 != 0 {
         return true;
     }
-    if corners.len() % 3 != 0 {
+    if corners.len() % WIDTH != 0 {
         return true;
     }
-    3 * offset(sizes, sizes.len()) != corners.len()
+    WIDTH * offset(sizes, sizes.len()) != corners.len()
 }
 
 // Row 3: a face size lies outside 3 to 32.
@@ -221,16 +225,16 @@ pub fn astray(
     corners: &[u32],
     sizes: &[u32],
 ) -> bool
-    requires { ⌜ length (now corners) % 3 ≡ 0 ⌝ }
+    requires { ⌜ length (now corners) % width ≡ 0 ⌝ }
     ensures { λ r. ⌜ r ≡ table.astray (meshOf (now (positions .entry)) (now (textures .entry)) (now (normals .entry)) (now (corners .entry)) (now (sizes .entry))) ⌝ }
 {
     let p = positions.len() / 3;
     let t = textures.len() / 2;
     let n = normals.len() / 3;
-    let count = corners.len() / 3;
+    let count = corners.len() / WIDTH;
     let mut k: usize = 0;
     while k < count {
-        let at = 3 * k;
+        let at = WIDTH * k;
         if is_astray(p, t, n, corners[at], corners[at + 1], corners[at + 2]) {
             return true;
         }

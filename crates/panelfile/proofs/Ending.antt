@@ -11,6 +11,7 @@ use lib.Ieee.{Float}
 use borrow.Author.Tests.{lt-ltb, le-ltb, ltb-false}
 use Rattle.lists.proofs.Bools.{or-false-left, or-false-right}
 use Rattle.lists.specs.Lists.{some, joined, each, sum}
+use Rattle.mesh.specs.Limits.{width}
 use Rattle.mesh.specs.Mesh.{meshOf, rings}
 use Rattle.mesh.specs.Table.{when, astray, astrayAt, short, meshNumber}
 use Rattle.mesh.specs.Face.{Sound}
@@ -41,13 +42,13 @@ module _ (file : List ℕ) (x : Progress) (p t n : List Float) (c s : List ℕ) 
   pub front-normals : length (take (3 * x .normals) n) ≡ 3 * x .normals
   front-normals = length-take-le (3 * x .normals) n (omega (arith, d .within .normals, d .long .normals))
 
-  pub front-corners : length (take (3 * x .corners) c) ≡ 3 * x .corners
-  front-corners = length-take-le (3 * x .corners) c (omega (arith, d .within .corners, d .long .corners))
+  pub front-corners : length (take (width * x .corners) c) ≡ width * x .corners
+  front-corners = length-take-le (width * x .corners) c (omega (arith, d .within .corners, d .long .corners))
 
   pub front-sizes : length (take (x .faces) s) ≡ x .faces
   front-sizes = length-take-le (x .faces) s (omega (arith, d .within .faces, d .within .corners, d .long .sizes))
 
-  pub own-sound : Sound (take (3 * x .corners) c) (take (x .faces) s)
+  pub own-sound : Sound (take (width * x .corners) c) (take (x .faces) s)
   own-sound =
       let e : sum (take (x .faces) s) ≡ x .corners = ap sum (d .holds .sizes) ∙ sym (d .holds .counted) in
       record {
@@ -56,14 +57,14 @@ module _ (file : List ℕ) (x : Progress) (p t n : List Float) (c s : List ℕ) 
         adds = omega (arith, front-corners);
       }
 
-  pub own-rings : rings (take (x .faces) s) (take (3 * x .corners) c) ≡ drawn .faces
+  pub own-rings : rings (take (x .faces) s) (take (width * x .corners) c) ≡ drawn .faces
   own-rings =
-      ap (λ (l : List ℕ). rings l (take (3 * x .corners) c)) (d .holds .sizes)
+      ap (λ (l : List ℕ). rings l (take (width * x .corners) c)) (d .holds .sizes)
       ∙ ap (rings (map length (drawn .faces))) (d .holds .corners)
       ∙ rings-back (drawn .faces) (all-sane file .drawn .are-rings)
 
   -- the indices, over the corners of all faces that are kept
-  pub own-astray : astray (meshOf (take (3 * x .positions) p) (take (2 * x .textures) t) (take (3 * x .normals) n) (take (3 * x .corners) c) (take (x .faces) s)) ≡ some (astrayAt (meshDrawn drawn)) (joined (drawn .faces))
+  pub own-astray : astray (meshOf (take (3 * x .positions) p) (take (2 * x .textures) t) (take (3 * x .normals) n) (take (width * x .corners) c) (take (x .faces) s)) ≡ some (astrayAt (meshDrawn drawn)) (joined (drawn .faces))
   unfolding astray meshDrawn
   own-astray = rw (d .holds .positions, d .holds .textures, d .holds .normals, d .holds .corners, threes-flat (drawn .faces) (all-sane file .drawn .are-rings))
 
@@ -89,7 +90,7 @@ module _ (file : List ℕ) (x : Progress) (p t n : List Float) (c s : List ℕ) 
   pub handed :
       (p1 p2 t1 t2 n1 n2 : List Float) (c1 c2 s1 s2 : List ℕ) (fc ff : ℕ)
       → p2 ≡ sets p1 0 (take (3 * x .positions) p) → t2 ≡ sets t1 0 (take (2 * x .textures) t) → n2 ≡ sets n1 0 (take (3 * x .normals) n)
-      → Placed (pushed (rings (take (x .faces) s) (take (3 * x .corners) c))) c1 c2 s1 s2 0 0 fc ff
+      → Placed (pushed (rings (take (x .faces) s) (take (width * x .corners) c))) c1 c2 s1 s2 0 0 fc ff
       → Handed (panelMesh file) (record { number = 0; positions = x .positions; textures = x .textures; normals = x .normals; corners = fc; faces = ff }) p1 p2 t1 t2 n1 n2 c1 c2 s1 s2
   unfolding panelMesh meshDrawn
   handed p1 p2 t1 t2 n1 n2 c1 c2 s1 s2 fc ff ep et en q =
@@ -98,7 +99,7 @@ module _ (file : List ℕ) (x : Progress) (p t n : List Float) (c s : List ℕ) 
       let a : length (drawn .positions) ≡ 3 * x .positions = ap length (sym (d .holds .positions)) ∙ front-positions in
       let b : length (drawn .textures) ≡ 2 * x .textures = ap length (sym (d .holds .textures)) ∙ front-textures in
       let e : length (drawn .normals) ≡ 3 * x .normals = ap length (sym (d .holds .normals)) ∙ front-normals in
-      let f : length (each joined (pushed fs)) ≡ 3 * cornerCount (pushed fs) = length-flat (pushed fs) (every-pushed isRing fs (all-sane file .drawn .are-rings)) in
+      let f : length (each joined (pushed fs)) ≡ width * cornerCount (pushed fs) = length-flat (pushed fs) (every-pushed isRing fs (all-sane file .drawn .are-rings)) in
       record {
         number = refl;
         position-count = omega arith;

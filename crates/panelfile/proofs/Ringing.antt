@@ -10,6 +10,7 @@ use lib.Seq.{sets}
 use Rattle.lists.specs.Lists.{joined, every}
 use Rattle.lists.proofs.Parts.{joined-append}
 use Rattle.lists.proofs.Writing.{sets-append}
+use Rattle.mesh.specs.Limits.{width}
 use Rattle.mesh.specs.Mesh.{Corner, Ring}
 use Rattle.mesh.proofs.Corners.{isCorner, length-corners}
 use Rattle.panelfile.specs.Records.{word}
@@ -37,13 +38,13 @@ pub ring-corners : (s : List ℕ) (k a : ℕ) → every isCorner (ringFrom s k a
 ring-corners s zero a = refl
 ring-corners s (suc k) a = ring-corners s k (a + 12)
 
-pub ring-flat : (s : List ℕ) (k a : ℕ) → length (joined (ringFrom s k a)) ≡ 3 * k
-ring-flat s k a = length-corners (ringFrom s k a) (ring-corners s k a) ∙ ap (λ (n : ℕ). 3 * n) (ring-length s k a)
+pub ring-flat : (s : List ℕ) (k a : ℕ) → length (joined (ringFrom s k a)) ≡ width * k
+ring-flat s k a = length-corners (ringFrom s k a) (ring-corners s k a) ∙ ap (λ (n : ℕ). width * n) (ring-length s k a)
 
 -- the first k corners are written behind `at` corners
 pub record Ringing (s : List ℕ) (a n : ℕ) (o o' : List ℕ) (at k : ℕ) : Type 0 where
   pub within : k ≤ n
-  pub written : o' ≡ sets o (3 * at) (joined (ringFrom s k a))
+  pub written : o' ≡ sets o (width * at) (joined (ringFrom s k a))
   pub long : length o' ≡ length o
 
 pub ringing-begins : (s : List ℕ) (a n : ℕ) (o : List ℕ) (at : ℕ) → Ringing s a n o o at 0
@@ -57,21 +58,21 @@ pub ringing-turns :
     (s : List ℕ) (a n : ℕ) (o o' : List ℕ) (at k x y z : ℕ) → k < n
     → x ≡ word s (a + 12 * k) → y ≡ word s (a + 12 * k + 4) → z ≡ word s (a + 12 * k + 8)
     → Ringing s a n o o' at k
-    → Ringing s a n o (set (set (set o' (3 * (at + k)) x) (3 * (at + k) + 1) y) (3 * (at + k) + 2) z) at (k + 1)
+    → Ringing s a n o (set (set (set o' (width * (at + k)) x) (width * (at + k) + 1) y) (width * (at + k) + 2) z) at (k + 1)
 ringing-turns s a n o o' at k x y z h ex ey ez r =
-    let i : 3 * (at + k) ≡ 3 * at + length (joined (ringFrom s k a)) = omega (arith, ring-flat s k a) in
+    let i : width * (at + k) ≡ width * at + length (joined (ringFrom s k a)) = omega (arith, ring-flat s k a) in
     let v : x ∷ y ∷ z ∷ [] ≡ cornerFrom s (a + 12 * k) = rw (ex, ey, ez) in
     record {
       within = omega arith;
       written =
-          three o' (3 * (at + k)) x y z
+          three o' (width * (at + k)) x y z
           ∙ ap (λ (j : ℕ). sets o' j (x ∷ y ∷ z ∷ [])) i
-          ∙ ap (λ (l : List ℕ). sets l (3 * at + length (joined (ringFrom s k a))) (x ∷ y ∷ z ∷ [])) (r .written)
-          ∙ sym (sets-append o (3 * at) (joined (ringFrom s k a)) (x ∷ y ∷ z ∷ []))
-          ∙ ap (λ (l : List ℕ). sets o (3 * at) (joined (ringFrom s k a) ++ l)) (v ∙ sym (append-nil (cornerFrom s (a + 12 * k))))
-          ∙ ap (sets o (3 * at)) (sym (joined-append (ringFrom s k a) (cornerFrom s (a + 12 * k) ∷ [])) ∙ ap joined (sym (ring-more s k a)));
-      long = length-set (set (set o' (3 * (at + k)) x) (3 * (at + k) + 1) y) (3 * (at + k) + 2) z ∙ length-set (set o' (3 * (at + k)) x) (3 * (at + k) + 1) y ∙ length-set o' (3 * (at + k)) x ∙ r .long;
+          ∙ ap (λ (l : List ℕ). sets l (width * at + length (joined (ringFrom s k a))) (x ∷ y ∷ z ∷ [])) (r .written)
+          ∙ sym (sets-append o (width * at) (joined (ringFrom s k a)) (x ∷ y ∷ z ∷ []))
+          ∙ ap (λ (l : List ℕ). sets o (width * at) (joined (ringFrom s k a) ++ l)) (v ∙ sym (append-nil (cornerFrom s (a + 12 * k))))
+          ∙ ap (sets o (width * at)) (sym (joined-append (ringFrom s k a) (cornerFrom s (a + 12 * k) ∷ [])) ∙ ap joined (sym (ring-more s k a)));
+      long = length-set (set (set o' (width * (at + k)) x) (width * (at + k) + 1) y) (width * (at + k) + 2) z ∙ length-set (set o' (width * (at + k)) x) (width * (at + k) + 1) y ∙ length-set o' (width * (at + k)) x ∙ r .long;
     }
 
-pub ringing-ends : (s : List ℕ) (a n : ℕ) (o o' : List ℕ) (at k : ℕ) → n ≤ k → Ringing s a n o o' at k → o' ≡ sets o (3 * at) (joined (ringFrom s n a))
-ringing-ends s a n o o' at k h r = let e : k ≡ n = omega (arith, r .within) in r .written ∙ ap (λ (j : ℕ). sets o (3 * at) (joined (ringFrom s j a))) e
+pub ringing-ends : (s : List ℕ) (a n : ℕ) (o o' : List ℕ) (at k : ℕ) → n ≤ k → Ringing s a n o o' at k → o' ≡ sets o (width * at) (joined (ringFrom s n a))
+ringing-ends s a n o o' at k h r = let e : k ≡ n = omega (arith, r .within) in r .written ∙ ap (λ (j : ℕ). sets o (width * at) (joined (ringFrom s j a))) e

@@ -15,6 +15,7 @@ use borrow.Author.Tests.{lt-ltb, le-ltb}
 use Rattle.lists.specs.Lists.{joined, each}
 use Rattle.lists.proofs.Writing.{take-sets}
 use Rattle.lists.proofs.Parts.{each-append}
+use Rattle.mesh.specs.Limits.{width}
 use Rattle.mesh.specs.Mesh.{Ring}
 use Rattle.grouping.specs.Push.{cornerCount}
 use Rattle.grouping.proofs.Placing.{count-append}
@@ -229,7 +230,7 @@ module _ (file : List ℕ) (x : Progress) (i m : ℕ) (p t n : List Float) (c s 
 
   pub face-taken :
       3 ≤ m → x .corners + m ≤ 4096 → length c ≡ 12288 → length s ≡ 1365
-      → Stepped file (Face i m) x (atFace x i m) p p t t n n c (sets c (3 * x .corners) (joined (ringFrom file m i))) s (set s (x .faces) m)
+      → Stepped file (Face i m) x (atFace x i m) p p t t n n c (sets c (width * x .corners) (joined (ringFrom file m i))) s (set s (x .faces) m)
   unfolding take1
   face-taken g h lc ls = record {
     within = record { positions = a .within .positions; textures = a .within .textures; normals = a .within .normals; corners = h; faces = omega (arith, a .within .faces); place = a .fits };
@@ -237,8 +238,8 @@ module _ (file : List ℕ) (x : Progress) (i m : ℕ) (p t n : List Float) (c s 
     taken = λ z k.
         let ring = ringFrom file m i in
         let u : ltb 4096 (cornerCount (z .drawn .faces) + m) ≡ false = le-ltb 4096 (cornerCount (z .drawn .faces) + m) (omega (arith, k .counted)) in
-        subst⁻¹ (λ (b : Bool). Holds (takeFace b file i m z) (atFace x i m) p t n (sets c (3 * x .corners) (joined ring)) (set s (x .faces) m)) (le-ltb m 3 g)
-        (subst⁻¹ (λ (b : Bool). Holds (limited b z (reader (i + 12 * m) 0 false (withFace ring (z .drawn)))) (atFace x i m) p t n (sets c (3 * x .corners) (joined ring)) (set s (x .faces) m)) u
+        subst⁻¹ (λ (b : Bool). Holds (takeFace b file i m z) (atFace x i m) p t n (sets c (width * x .corners) (joined ring)) (set s (x .faces) m)) (le-ltb m 3 g)
+        (subst⁻¹ (λ (b : Bool). Holds (limited b z (reader (i + 12 * m) 0 false (withFace ring (z .drawn)))) (atFace x i m) p t n (sets c (width * x .corners) (joined ring)) (set s (x .faces) m)) u
         (record {
           place = refl;
           refusal = a .unrefused;
@@ -247,7 +248,7 @@ module _ (file : List ℕ) (x : Progress) (i m : ℕ) (p t n : List Float) (c s 
           textures = k .textures;
           normals = k .normals;
           corners =
-              take-sets c (3 * x .corners) (joined ring) (3 * (x .corners + m)) (omega (arith, ring-flat file m i)) (omega arith)
+              take-sets c (width * x .corners) (joined ring) (width * (x .corners + m)) (omega (arith, ring-flat file m i)) (omega arith)
               ∙ ap (λ (l : List ℕ). l ++ joined ring) (k .corners)
               ∙ ap (λ (l : List ℕ). each joined (z .drawn .faces) ++ l) (sym (append-nil (joined ring)))
               ∙ sym (each-append joined (z .drawn .faces) (ring ∷ []));
@@ -348,7 +349,7 @@ module _ (file : List ℕ) (r : Record) (x : Progress) (p t n : List Float) (c s
 
     pub face-step :
         (i m : ℕ) → r ≡ Face i m → 3 ≤ m → x .corners + m ≤ 4096 → length c ≡ 12288 → length s ≡ 1365
-        → (c' : List ℕ) → c' ≡ sets c (3 * x .corners) (joined (ringFrom file m i)) → Stepped file r x (atFace x i m) p p t t n n c c' s (set s (x .faces) m)
+        → (c' : List ℕ) → c' ≡ sets c (width * x .corners) (joined (ringFrom file m i)) → Stepped file r x (atFace x i m) p p t t n n c c' s (set s (x .faces) m)
     face-step i m e g h lc ls c' f = rw (e, f) (face-taken file x i m p t n c s (rw e at a) g h lc ls)
 
 -- the answer is the record at the place

@@ -5,6 +5,7 @@ use mathlib.Core.List.{List}
 use lib.ListN.{length}
 use lib.Seq.{sets}
 use lib.Ieee.{Float}
+use Rattle.mesh.specs.Limits.{width}
 use Rattle.mesh.specs.Mesh.{Mesh, positionCount, textureCount, normalCount}
 use Rattle.mesh.specs.Table.{after}
 use Rattle.panelfile.specs.declared.Panel.{Panel}
@@ -15,7 +16,7 @@ pub record PanelRead (file : List ℕ) (r : Panel) (p p' t t' n n' : List Float)
   pub position-count : r .positions ≡ after (r .number) (positionCount (panelMesh file)) 0
   pub texture-count : r .textures ≡ after (r .number) (textureCount (panelMesh file)) 0
   pub normal-count : r .normals ≡ after (r .number) (normalCount (panelMesh file)) 0
-  pub corner-count : r .corners ≡ after (r .number) (length (panelMesh file .corners) / 3) 0
+  pub corner-count : r .corners ≡ after (r .number) (length (panelMesh file .corners) / width) 0
   pub face-count : r .faces ≡ after (r .number) (length (panelMesh file .sizes)) 0
   pub positions : p' ≡ after (r .number) (sets p 0 (panelMesh file .positions)) p
   pub textures : t' ≡ after (r .number) (sets t 0 (panelMesh file .textures)) t
@@ -32,7 +33,7 @@ pub record Handed (m : Mesh) (r : Panel) (p p' t t' n n' : List Float) (c c' s s
   pub position-count : r .positions ≡ positionCount m
   pub texture-count : r .textures ≡ textureCount m
   pub normal-count : r .normals ≡ normalCount m
-  pub corner-count : r .corners ≡ length (m .corners) / 3
+  pub corner-count : r .corners ≡ length (m .corners) / width
   pub face-count : r .faces ≡ length (m .sizes)
   pub positions : p' ≡ sets p 0 (m .positions)
   pub textures : t' ≡ sets t 0 (m .textures)

@@ -8,6 +8,7 @@ use lib.Seq.{sets}
 use lib.Dec.{ltb, eqb}
 use lib.Ieee.{Float}
 use Rattle.lists.specs.Lists.{some, joined, each, sum}
+use Rattle.mesh.specs.Limits.{width}
 use Rattle.mesh.specs.Mesh.{Mesh, Ring, meshOf}
 use Rattle.mesh.specs.Table.{when, firstOf, astrayAt, Lent, lent, short, after}
 use Rattle.grouping.specs.Push.{pushed, cornerCount}
@@ -95,7 +96,7 @@ finish s x =
 
 -- 9 first: room must be at the full limits
 unfoldable pub fullRoom : ℕ → ℕ → ℕ → ℕ → ℕ → List Lent
-fullRoom p t n c s = lent p (2048 * 3) ∷ lent t (2048 * 2) ∷ lent n (2048 * 3) ∷ lent c (4096 * 3) ∷ lent s 1365 ∷ []
+fullRoom p t n c s = lent p (2048 * 3) ∷ lent t (2048 * 2) ∷ lent n (2048 * 3) ∷ lent c (4096 * width) ∷ lent s 1365 ∷ []
 
 unfoldable pub panelNumber : List Lent → List ℕ → ℕ
 panelNumber rooms s = firstOf (when (short rooms) 9 ∷ finish s (readAll s) ∷ [])

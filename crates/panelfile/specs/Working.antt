@@ -6,7 +6,7 @@ use mathlib.Core.List.{List, map}
 use lib.ListN.{length, take}
 use lib.Ieee.{Float}
 use Rattle.lists.specs.Lists.{joined, each}
-use Rattle.mesh.specs.Limits.{ringLimit}
+use Rattle.mesh.specs.Limits.{width, ringLimit}
 use Rattle.grouping.specs.Push.{cornerCount}
 use Rattle.panelfile.specs.declared.Record.{Record}
 use Rattle.panelfile.specs.declared.Record.the-variants.{Position, Texture, Normal, Face, End, Refused}
@@ -86,7 +86,7 @@ pub record Holds (z : Reader) (y : Progress) (p t n : List Float) (c s : List �
   pub positions : take (3 * y .positions) p ≡ z .drawn .positions
   pub textures : take (2 * y .textures) t ≡ z .drawn .textures
   pub normals : take (3 * y .normals) n ≡ z .drawn .normals
-  pub corners : take (3 * y .corners) c ≡ each joined (z .drawn .faces)
+  pub corners : take (width * y .corners) c ≡ each joined (z .drawn .faces)
   pub sizes : take (y .faces) s ≡ map length (z .drawn .faces)
   pub counted : y .corners ≡ cornerCount (z .drawn .faces)
 

@@ -101,7 +101,7 @@ pub fn number_at_end(
     let np = 3 * x.positions;
     let nt = 2 * x.textures;
     let nn = 3 * x.normals;
-    let nc = 3 * x.corners;
+    let nc = mesh::WIDTH * x.corners;
     let ns = x.faces;
     if number != 0 {
         return number;
@@ -139,7 +139,7 @@ pub fn hand_over(
     let pn = 3 * np;
     let tn = 2 * nt;
     let nm = 3 * nn;
-    let nc = 3 * x.corners;
+    let nc = mesh::WIDTH * x.corners;
     let ns = x.faces;
     lists::put_coordinates(&p[..pn], positions, 0);
     lists::put_coordinates(&t[..tn], textures, 0);

@@ -7,6 +7,7 @@ ghost use lib.ListN.{length};
 ghost use lib.Seq.{sets};
 ghost use lib.Ieee.{Float};
 ghost use Rattle.lists.specs.Lists.{joined};
+ghost use Rattle.mesh.specs.Limits.{width};
 ghost use Rattle.panelfile.specs.Records.{recordFrom};
 ghost use Rattle.panelfile.specs.Reading.{ringFrom};
 ghost use Rattle.panelfile.specs.Working.{caseOf, stoppedWith, Within, Able, Long, Stepped};
@@ -167,13 +168,13 @@ fn refused(x: Progress, number: u32) -> Progress
 
 // The n corners from place a of the file, behind `at` corners of the list.
 fn put_ring(file: &[u8], a: usize, n: usize, out: &mut [u32], at: usize)
-    requires { ⌜ (a + 12 * n ≤ length (now file)) × (3 * (at + n) ≤ length (now out)) ⌝ }
-    ensures { λ _. ⌜ now (out .exit) ≡ sets (now (out .entry)) (3 * at) (joined (ringFrom (now (file .entry)) n a)) ⌝ }
+    requires { ⌜ (a + 12 * n ≤ length (now file)) × (width * (at + n) ≤ length (now out)) ⌝ }
+    ensures { λ _. ⌜ now (out .exit) ≡ sets (now (out .entry)) (width * at) (joined (ringFrom (now (file .entry)) n a)) ⌝ }
 {
     let mut k: usize = 0;
     while k < n {
         let from = a + 12 * k;
-        let to = 3 * (at + k);
+        let to = mesh::WIDTH * (at + k);
         out[to] = crate::bytes::word(file, from);
         out[to + 1] = crate::bytes::word(file, from + 4);
         out[to + 2] = crate::bytes::word(file, from + 8);

@@ -15,6 +15,7 @@ use Rattle.lists.specs.Lists.{span, sum}
 use Rattle.lists.proofs.Writing.{sets-append, Copying, copy-turns, copy-ends}
 use Rattle.lists.proofs.Copies.{sets-whole}
 use Rattle.lists.proofs.Buckets.{lt-or-ge, table-at, table-ext}
+use Rattle.mesh.specs.Limits.{width}
 use Rattle.mesh.specs.Mesh.{Corner, Ring, threes, rings, cornerAt}
 use Rattle.mesh.specs.Face.{offsetOf, faceOf, Sound}
 use Rattle.mesh.proofs.Corners.{length-threes, getD-threes}
@@ -60,16 +61,16 @@ next-below n j h =
     (lt-or-ge (j + 1) n)
 
 -- the edges of a face that is a part of the list of corners
-pub ring-part : (part : List ℕ) → ringEdges (threes part) ≡ map (edgeAt part) (span 0 (length part / 3))
+pub ring-part : (part : List ℕ) → ringEdges (threes part) ≡ map (edgeAt part) (span 0 (length part / width))
 unfolding edgeAt
 ring-part part =
-    let n : length (threes part) ≡ length part / 3 = length-threes part in
-    table-ext (edgeAt part) (length part / 3) ([], []) (ringEdges (threes part))
+    let n : length (threes part) ≡ length part / width = length-threes part in
+    table-ext (edgeAt part) (length part / width) ([], []) (ringEdges (threes part))
     (length-ring (threes part) ∙ n)
     (λ j h.
     ring-at [] (threes part) j (omega arith)
     ∙ ap (λ (m : ℕ). (getD (threes part) j [], getD (threes part) (nextOf m j) [])) n
-    ∙ ap₂ (λ (a b : Corner). (a, b)) (getD-threes part j h) (getD-threes part (nextOf (length part / 3) j) (next-below (length part / 3) j h)))
+    ∙ ap₂ (λ (a b : Corner). (a, b)) (getD-threes part j h) (getD-threes part (nextOf (length part / width) j) (next-below (length part / width) j h)))
 
 module _ (normals : Bool) (which : ℕ) where
   -- ---- the uses of one face
@@ -84,37 +85,37 @@ module _ (normals : Bool) (which : ℕ) where
       ∙ length-map (ringEdges f) (keyOf normals)
       ∙ length-ring f
 
-  face-column : (k : ℕ) (part : List ℕ) → faceColumn k (threes part) ≡ map (λ j. entryOf which (k, keyOf normals (edgeAt part j))) (span 0 (length part / 3))
+  face-column : (k : ℕ) (part : List ℕ) → faceColumn k (threes part) ≡ map (λ j. entryOf which (k, keyOf normals (edgeAt part j))) (span 0 (length part / width))
   face-column k part =
       map-map (entryOf which) (λ key. (k, key)) (faceKeys normals (threes part))
       ∙ map-map (λ key. entryOf which (k, key)) (keyOf normals) (ringEdges (threes part))
       ∙ ap (map (λ e. entryOf which (k, keyOf normals e))) (ring-part part)
-      ∙ map-map (λ e. entryOf which (k, keyOf normals e)) (edgeAt part) (span 0 (length part / 3))
+      ∙ map-map (λ e. entryOf which (k, keyOf normals e)) (edgeAt part) (span 0 (length part / width))
 
   -- as many numbers as the face has corners, and at corner j the one of its edge
-  pub part-column-length : (k : ℕ) (part : List ℕ) → length (faceColumn k (threes part)) ≡ length part / 3
+  pub part-column-length : (k : ℕ) (part : List ℕ) → length (faceColumn k (threes part)) ≡ length part / width
   part-column-length k part = face-column-length k (threes part) ∙ length-threes part
 
-  pub part-column-at : (k : ℕ) (part : List ℕ) (j : ℕ) → j < length part / 3 → getD (faceColumn k (threes part)) j 0 ≡ entryOf which (k, keyOf normals (edgeAt part j))
+  pub part-column-at : (k : ℕ) (part : List ℕ) (j : ℕ) → j < length part / width → getD (faceColumn k (threes part)) j 0 ≡ entryOf which (k, keyOf normals (edgeAt part j))
   part-column-at k part j h =
-      ap (λ (l : List ℕ). getD l j 0) (face-column k part) ∙ table-at (λ i. entryOf which (k, keyOf normals (edgeAt part i))) (length part / 3) j 0 h
+      ap (λ (l : List ℕ). getD l j 0) (face-column k part) ∙ table-at (λ i. entryOf which (k, keyOf normals (edgeAt part i))) (length part / width) j 0 h
 
   -- one number more of a face's column
   pub face-turns :
-      (k : ℕ) (part out₀ out : List ℕ) (at j v : ℕ) → j < length part / 3 → v ≡ entryOf which (k, keyOf normals (edgeAt part j))
+      (k : ℕ) (part out₀ out : List ℕ) (at j v : ℕ) → j < length part / width → v ≡ entryOf which (k, keyOf normals (edgeAt part j))
       → Copying (faceColumn k (threes part)) out₀ out at j
       → Copying (faceColumn k (threes part)) out₀ (set out (at + j) v) at (j + 1)
   face-turns k part out₀ out at j v h e c =
       subst
       (λ (x : ℕ). Copying (faceColumn k (threes part)) out₀ (set out (at + j) x) at (j + 1))
       (part-column-at k part j h ∙ sym e)
-      (copy-turns 0 (faceColumn k (threes part)) out₀ out at j (let l : length (faceColumn k (threes part)) ≡ length part / 3 = part-column-length k part in omega arith) c)
+      (copy-turns 0 (faceColumn k (threes part)) out₀ out at j (let l : length (faceColumn k (threes part)) ≡ length part / width = part-column-length k part in omega arith) c)
 
   pub face-ends :
-      (k : ℕ) (part out₀ out : List ℕ) (at j : ℕ) → length part / 3 ≤ j → Copying (faceColumn k (threes part)) out₀ out at j
+      (k : ℕ) (part out₀ out : List ℕ) (at j : ℕ) → length part / width ≤ j → Copying (faceColumn k (threes part)) out₀ out at j
       → out ≡ sets out₀ at (faceColumn k (threes part))
   face-ends k part out₀ out at j h c =
-      copy-ends 0 (faceColumn k (threes part)) out₀ out at j (let l : length (faceColumn k (threes part)) ≡ length part / 3 = part-column-length k part in omega arith) c
+      copy-ends 0 (faceColumn k (threes part)) out₀ out at j (let l : length (faceColumn k (threes part)) ≡ length part / width = part-column-length k part in omega arith) c
 
 -- ---- one face more
 
@@ -154,10 +155,10 @@ module _ (normals : Bool) (which : ℕ) (cs s out₀ : List ℕ) where
       (out out′ part : List ℕ) (at k : ℕ) → Sound cs s → k < length s → part ≡ faceOf cs s k
       → out′ ≡ sets out at (map (entryOf which) (faceUses normals k (threes part)))
       → Filling normals which cs s out₀ out at k
-      → Filling normals which cs s out₀ out′ (at + length part / 3) (k + 1)
+      → Filling normals which cs s out₀ out′ (at + length part / width) (k + 1)
   fill-turns out out′ part at k sound h e w r = record {
     within = omega arith;
-    passed = let p : at ≡ offsetOf s k = r .passed in let q : offsetOf s (k + 1) ≡ offsetOf s k + getD s k 0 = offset-step s k h in let z : length part / 3 ≡ getD s k 0 = size in omega arith;
+    passed = let p : at ≡ offsetOf s k = r .passed in let q : offsetOf s (k + 1) ≡ offsetOf s k + getD s k 0 = offset-step s k h in let z : length part / width ≡ getD s k 0 = size in omega arith;
     filled =
         w
         ∙ ap (λ (l : List ℕ). sets l at (map (entryOf which) (faceUses normals k (threes part)))) (r .filled)
@@ -172,11 +173,11 @@ module _ (normals : Bool) (which : ℕ) (cs s out₀ : List ℕ) where
     long = ap length w ∙ length-sets out at (map (entryOf which) (faceUses normals k (threes part))) ∙ r .long;
   }
     where
-      size : length part / 3 ≡ getD s k 0
-      size = let l : length part ≡ 3 * getD s k 0 = ap length e ∙ face-length cs s sound k h in omega arith
+      size : length part / width ≡ getD s k 0
+      size = let l : length part ≡ width * getD s k 0 = ap length e ∙ face-length cs s sound k h in omega arith
 
   pub fill-ends :
-      (out : List ℕ) (at k : ℕ) → Sound cs s → length s ≤ k → length out₀ ≡ length cs / 3 → Filling normals which cs s out₀ out at k
+      (out : List ℕ) (at k : ℕ) → Sound cs s → length s ≤ k → length out₀ ≡ length cs / width → Filling normals which cs s out₀ out at k
       → out ≡ column normals which (rings s cs)
   unfolding column
   fill-ends out at k sound h room r =
@@ -188,14 +189,14 @@ module _ (normals : Bool) (which : ℕ) (cs s out₀ : List ℕ) where
       let q : take k s ≡ s = ap (λ (n : ℕ). take n s) e ∙ take-length s in
       let t : at ≡ sum s = p ∙ ap sum q in
       let c : length (upto k) ≡ at = r .counted in
-      let a : 3 * sum s ≡ length cs = sound .adds in
+      let a : width * sum s ≡ length cs = sound .adds in
       r .filled ∙ sets-whole out₀ (upto k) (omega arith) ∙ all
 
   -- the face's part fits behind what is written
-  pub fill-room : (out part : List ℕ) (at k : ℕ) → Sound cs s → k < length s → part ≡ faceOf cs s k → length out₀ ≡ length cs / 3 → Filling normals which cs s out₀ out at k → FaceRoom part out at
+  pub fill-room : (out part : List ℕ) (at k : ℕ) → Sound cs s → k < length s → part ≡ faceOf cs s k → length out₀ ≡ length cs / width → Filling normals which cs s out₀ out at k → FaceRoom part out at
   fill-room out part at k sound h e room r =
-      let l : length part ≡ 3 * getD s k 0 = ap length e ∙ face-length cs s sound k h in
-      let f : 3 * offsetOf s k + 3 * getD s k 0 ≤ length cs = face-fits cs s sound k h in
+      let l : length part ≡ width * getD s k 0 = ap length e ∙ face-length cs s sound k h in
+      let f : width * offsetOf s k + width * getD s k 0 ≤ length cs = face-fits cs s sound k h in
       let p : at ≡ offsetOf s k = r .passed in
       let g : length out ≡ length out₀ = r .long in
       let c : length cs ≤ 12288 = sound .fits in
@@ -244,7 +245,7 @@ unfolding normalDigit
 digit-there normals n e h = rw (e, ne-eqb n 4294967295 h)
 
 -- the edge from corner j to the one behind it, b: by which position is lower
-module _ (normals : Bool) (which k : ℕ) (part : List ℕ) (j b n m r : ℕ) (e : b ≡ nextOf (length part / 3) j) where
+module _ (normals : Bool) (which k : ℕ) (part : List ℕ) (j b n m r : ℕ) (e : b ≡ nextOf (length part / width) j) where
   entry-at :
       chosen which (keyOf normals (cornerAt part j, cornerAt part b) .0) (keyOf normals (cornerAt part j, cornerAt part b) .1)
       (normalDigit (keyOf normals (cornerAt part j, cornerAt part b) .2)) (normalDigit (keyOf normals (cornerAt part j, cornerAt part b) .3)) k
@@ -253,35 +254,35 @@ module _ (normals : Bool) (which k : ℕ) (part : List ℕ) (j b n m r : ℕ) (e
   entry-at = ap (λ (i : ℕ). entryOf which (k, keyOf normals (cornerAt part j, cornerAt part i))) e
 
   pub entry-up :
-      getD part (3 * j) 0 < getD part (3 * b) 0
-      → n ≡ normalDigit (cond normals (getD part (3 * j + 2) 0) 0) → m ≡ normalDigit (cond normals (getD part (3 * b + 2) 0) 0)
-      → r ≡ chosen which (getD part (3 * j) 0) (getD part (3 * b) 0) n m k
+      getD part (width * j) 0 < getD part (width * b) 0
+      → n ≡ normalDigit (cond normals (getD part (width * j + 2) 0) 0) → m ≡ normalDigit (cond normals (getD part (width * b + 2) 0) 0)
+      → r ≡ chosen which (getD part (width * j) 0) (getD part (width * b) 0) n m k
       → r ≡ entryOf which (k, keyOf normals (edgeAt part j))
   unfolding keyOf
   entry-up h p q w =
       w
-      ∙ ap₂ (λ (x y : ℕ). chosen which (getD part (3 * j) 0) (getD part (3 * b) 0) x y k) p q
+      ∙ ap₂ (λ (x y : ℕ). chosen which (getD part (width * j) 0) (getD part (width * b) 0) x y k) p q
       ∙ ap
       (λ (t : Bool).
-      let key : Key = cond t (getD part (3 * j) 0, getD part (3 * b) 0, cond normals (getD part (3 * j + 2) 0) 0, cond normals (getD part (3 * b + 2) 0) 0)
-      (getD part (3 * b) 0, getD part (3 * j) 0, cond normals (getD part (3 * b + 2) 0) 0, cond normals (getD part (3 * j + 2) 0) 0) in
+      let key : Key = cond t (getD part (width * j) 0, getD part (width * b) 0, cond normals (getD part (width * j + 2) 0) 0, cond normals (getD part (width * b + 2) 0) 0)
+      (getD part (width * b) 0, getD part (width * j) 0, cond normals (getD part (width * b + 2) 0) 0, cond normals (getD part (width * j + 2) 0) 0) in
       chosen which (key .0) (key .1) (normalDigit (key .2)) (normalDigit (key .3)) k)
-      (sym (lt-ltb (getD part (3 * j) 0) (getD part (3 * b) 0) h))
+      (sym (lt-ltb (getD part (width * j) 0) (getD part (width * b) 0) h))
       ∙ entry-at
 
   pub entry-down :
-      getD part (3 * b) 0 ≤ getD part (3 * j) 0
-      → n ≡ normalDigit (cond normals (getD part (3 * j + 2) 0) 0) → m ≡ normalDigit (cond normals (getD part (3 * b + 2) 0) 0)
-      → r ≡ chosen which (getD part (3 * b) 0) (getD part (3 * j) 0) m n k
+      getD part (width * b) 0 ≤ getD part (width * j) 0
+      → n ≡ normalDigit (cond normals (getD part (width * j + 2) 0) 0) → m ≡ normalDigit (cond normals (getD part (width * b + 2) 0) 0)
+      → r ≡ chosen which (getD part (width * b) 0) (getD part (width * j) 0) m n k
       → r ≡ entryOf which (k, keyOf normals (edgeAt part j))
   unfolding keyOf
   entry-down h p q w =
       w
-      ∙ ap₂ (λ (x y : ℕ). chosen which (getD part (3 * b) 0) (getD part (3 * j) 0) y x k) p q
+      ∙ ap₂ (λ (x y : ℕ). chosen which (getD part (width * b) 0) (getD part (width * j) 0) y x k) p q
       ∙ ap
       (λ (t : Bool).
-      let key : Key = cond t (getD part (3 * j) 0, getD part (3 * b) 0, cond normals (getD part (3 * j + 2) 0) 0, cond normals (getD part (3 * b + 2) 0) 0)
-      (getD part (3 * b) 0, getD part (3 * j) 0, cond normals (getD part (3 * b + 2) 0) 0, cond normals (getD part (3 * j + 2) 0) 0) in
+      let key : Key = cond t (getD part (width * j) 0, getD part (width * b) 0, cond normals (getD part (width * j + 2) 0) 0, cond normals (getD part (width * b + 2) 0) 0)
+      (getD part (width * b) 0, getD part (width * j) 0, cond normals (getD part (width * b + 2) 0) 0, cond normals (getD part (width * j + 2) 0) 0) in
       chosen which (key .0) (key .1) (normalDigit (key .2)) (normalDigit (key .3)) k)
-      (sym (le-ltb (getD part (3 * j) 0) (getD part (3 * b) 0) h))
+      (sym (le-ltb (getD part (width * j) 0) (getD part (width * b) 0) h))
       ∙ entry-at

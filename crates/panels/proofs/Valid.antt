@@ -1,20 +1,20 @@
 -- The keys of an accepted mesh: positions below 2,048, normals missing or below 2,048. So digits tell them apart. Assumes nothing.
 use mathlib.Core.Path.{_≡_, refl, sym, ap, ap₂, _∙_, subst}
 use mathlib.Core.Bool.{Bool, true, false, cond, _&&_, _||_}
-use mathlib.Core.List.{List, [], _∷_, _++_, map}
-use Prim.Native.Nat.{ℕ, zero, suc, _+_, _*_, _/_, _≤_, _<_}
+use mathlib.Core.List.{List, [], _∷_, map}
+use Prim.Native.Nat.{ℕ, suc, _+_, _*_, _/_, _-_, _≤_, _<_}
 use native.Mathlib.Omega.{arith}
 use lib.Dec.{ltb, eqb}
-use lib.ListN.{length, getD, take, drop, length-append, length-map, List·getD-map}
-use lib.Seq.{take-nil, drop-nil}
+use lib.ListN.{length, getD, take, drop, length-append, length-map, length-drop, List·getD-map}
 use borrow.Author.Tests.{lt-ltb, ltb-true, eq-eqb, eqb-true, eqb-false}
 use Rattle.lists.specs.Lists.{every, sum}
 use Rattle.lists.proofs.Bools.{by-cases, and-both, and-left, and-right, or-left, or-right}
 use Rattle.lists.proofs.Cases.{iff}
 use Rattle.lists.proofs.Mapping.{every-map, every-all}
 use Rattle.lists.proofs.Parts.{every-append, every-at}
+use Rattle.mesh.specs.Limits.{width}
 use Rattle.mesh.specs.Mesh.{Mesh, Corner, Ring, position, normal, missing, threes, rings}
-use Rattle.mesh.proofs.Corners.{length-threes, getD-threes}
+use Rattle.mesh.proofs.Corners.{length-threes, getD-threes, threes-split}
 use Rattle.mesh.proofs.Faces.{sizes-back}
 use Rattle.mesh.proofs.Accepted.{Accepted, Found}
 use Rattle.edges.specs.Edges.{runEdges, ringEdges}
@@ -79,52 +79,41 @@ uses-good normals i (f ∷ fs) h =
 
 -- ---- from the flat list to the faces
 
-threes-split : (n : ℕ) (cs : List ℕ) → threes cs ≡ threes (take (3 * n) cs) ++ threes (drop (3 * n) cs)
-threes-split zero cs = refl
-threes-split (suc n) cs = subst (λ (k : ℕ). threes cs ≡ threes (take k cs) ++ threes (drop k cs)) (let e : suc (suc (suc (3 * n))) ≡ 3 * suc n = omega arith in e) (go cs (threes-split n))
-  where
-    go : (cs : List ℕ) → ((ds : List ℕ) → threes ds ≡ threes (take (3 * n) ds) ++ threes (drop (3 * n) ds))
-        → threes cs ≡ threes (take (suc (suc (suc (3 * n)))) cs) ++ threes (drop (suc (suc (suc (3 * n)))) cs)
-    go [] r = refl
-    go (p ∷ []) r = rw (take-nil (suc (3 * n)), drop-nil (suc (3 * n)))
-    go (p ∷ t ∷ []) r = refl
-    go (p ∷ t ∷ c ∷ cs) r = ap (λ (l : Ring). (p ∷ t ∷ c ∷ []) ∷ l) (r cs)
-
-rings-every : (q : Corner → Bool) (s cs : List ℕ) → every q (threes cs) ≡ true → every (every q) (rings s cs) ≡ true
-rings-every q [] cs h = refl
-rings-every q (n ∷ s) cs h =
-    let e : (every q (threes (take (3 * n) cs)) && every q (threes (drop (3 * n) cs))) ≡ true =
-    sym (every-append q (threes (take (3 * n) cs)) (threes (drop (3 * n) cs))) ∙ ap (every q) (sym (threes-split n cs)) ∙ h in
-    and-both (every q (threes (take (3 * n) cs))) (every (every q) (rings s (drop (3 * n) cs)))
-    (and-left (every q (threes (take (3 * n) cs))) (every q (threes (drop (3 * n) cs))) e)
-    (rings-every q s (drop (3 * n) cs) (and-right (every q (threes (take (3 * n) cs))) (every q (threes (drop (3 * n) cs))) e))
+rings-every : (q : Corner → Bool) (s cs : List ℕ) → width * sum s ≤ length cs → every q (threes cs) ≡ true → every (every q) (rings s cs) ≡ true
+rings-every q [] cs l h = refl
+rings-every q (n ∷ s) cs l h =
+    let e : (every q (threes (take (width * n) cs)) && every q (threes (drop (width * n) cs))) ≡ true =
+    sym (every-append q (threes (take (width * n) cs)) (threes (drop (width * n) cs))) ∙ ap (every q) (sym (threes-split n cs (omega arith))) ∙ h in
+    and-both (every q (threes (take (width * n) cs))) (every (every q) (rings s (drop (width * n) cs)))
+    (and-left (every q (threes (take (width * n) cs))) (every q (threes (drop (width * n) cs))) e)
+    (rings-every q s (drop (width * n) cs) (let z : length (drop (width * n) cs) ≡ length cs - width * n = length-drop (width * n) cs in omega arith) (and-right (every q (threes (take (width * n) cs))) (every q (threes (drop (width * n) cs))) e))
 
 pub faces-good : (cs s : List ℕ) → Keyable cs s → every (every goodCorner) (rings s cs) ≡ true
 faces-good cs s a =
-    rings-every goodCorner s cs
+    rings-every goodCorner s cs (let z : width * sum s ≡ length cs = a .sound .adds in omega arith)
     (every-all goodCorner [] (threes cs)
     (λ k h.
-    let l : length (threes cs) ≡ length cs / 3 = length-threes cs in
+    let l : length (threes cs) ≡ length cs / width = length-threes cs in
     subst (λ (c : Corner). goodCorner c ≡ true) (sym (getD-threes cs k (omega arith)))
-    (and-both (ltb (getD cs (3 * k) 0) 2048) (isNormal (getD cs (3 * k + 2) 0))
-    (lt-ltb (getD cs (3 * k) 0) 2048 (a .position k (omega arith)))
-    (by-cases (eqb (getD cs (3 * k + 2) 0) missing)
-    (λ t. or-left (eqb (getD cs (3 * k + 2) 0) missing) (ltb (getD cs (3 * k + 2) 0) 2048) t)
+    (and-both (ltb (getD cs (width * k) 0) 2048) (isNormal (getD cs (width * k + 2) 0))
+    (lt-ltb (getD cs (width * k) 0) 2048 (a .position k (omega arith)))
+    (by-cases (eqb (getD cs (width * k + 2) 0) missing)
+    (λ t. or-left (eqb (getD cs (width * k + 2) 0) missing) (ltb (getD cs (width * k + 2) 0) 2048) t)
     (λ t.
-    or-right (eqb (getD cs (3 * k + 2) 0) missing) (ltb (getD cs (3 * k + 2) 0) 2048)
-    (lt-ltb (getD cs (3 * k + 2) 0) 2048 (a .normal k (omega arith) (eqb-false (getD cs (3 * k + 2) 0) missing t))))))))
+    or-right (eqb (getD cs (width * k + 2) 0) missing) (ltb (getD cs (width * k + 2) 0) 2048)
+    (lt-ltb (getD cs (width * k + 2) 0) 2048 (a .normal k (omega arith) (eqb-false (getD cs (width * k + 2) 0) missing t))))))))
 
 pub keyable : (m : Mesh) → Accepted m → Keyable (m .corners) (m .sizes)
 keyable m a = record {
   sound = a .sound;
   position = λ k h.
       let f : Found m k = a .corner k h in
-      let p : getD (m .corners) (3 * k) 0 < length (m .positions) / 3 = f .position in
+      let p : getD (m .corners) (width * k) 0 < length (m .positions) / 3 = f .position in
       let q : length (m .positions) ≤ 6144 = a .limits .positions in
       omega arith;
   normal = λ k h ne.
       let f : Found m k = a .corner k h in
-      let p : getD (m .corners) (3 * k + 2) 0 < length (m .normals) / 3 = f .normal ne in
+      let p : getD (m .corners) (width * k + 2) 0 < length (m .normals) / 3 = f .normal ne in
       let q : length (m .normals) ≤ 6144 = a .limits .normals in
       omega arith;
 }
@@ -251,7 +240,7 @@ uses-length normals i (f ∷ fs) =
     length-append (faceUses normals i f) (usesFrom normals (suc i) fs)
     ∙ ap₂ _+_ (length-map (faceKeys normals f) (λ k. (i, k)) ∙ length-map (ringEdges f) (keyOf normals) ∙ length-ring f) (uses-length normals (suc i) fs)
 
-pub uses-corners : (normals : Bool) (s cs : List ℕ) → 3 * sum s ≡ length cs → length (usesFrom normals 0 (rings s cs)) ≡ length cs / 3
+pub uses-corners : (normals : Bool) (s cs : List ℕ) → width * sum s ≡ length cs → length (usesFrom normals 0 (rings s cs)) ≡ length cs / width
 uses-corners normals s cs h =
     let a : length (usesFrom normals 0 (rings s cs)) ≡ sum (map length (rings s cs)) = uses-length normals 0 (rings s cs) in
     let b : sum (map length (rings s cs)) ≡ sum s = ap sum (sizes-back s cs (omega arith)) in

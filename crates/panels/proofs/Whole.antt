@@ -16,6 +16,7 @@ use Rattle.lists.proofs.Bools.{and-both, and-left, and-right}
 use Rattle.lists.proofs.Parts.{every-append, every-at}
 use Rattle.lists.proofs.Copies.{sets-whole, take-written}
 use Rattle.lists.proofs.Buckets.{length-front, length-span, span-at}
+use Rattle.mesh.specs.Limits.{width}
 use Rattle.mesh.specs.Mesh.{Mesh, Ring, rings, faces}
 use Rattle.mesh.specs.Table.{when, lent, short, meshNumber, after}
 use Rattle.mesh.proofs.Numbers.{first-is, first-on, row-given, row-passed}
@@ -43,11 +44,11 @@ module _ (normals : Bool) (cs s : List ℕ) (k : Keyable cs s) where
   good : every (λ (u : Use). goodKey (u .1)) (usesFrom normals 0 (rings s cs)) ≡ true
   good = uses-good normals 0 (rings s cs) (faces-good cs s k)
 
-  long : length (usesFrom normals 0 (rings s cs)) ≡ length cs / 3
+  long : length (usesFrom normals 0 (rings s cs)) ≡ length cs / width
   long = uses-corners normals s cs (k .sound .adds)
 
   few : length (usesFrom normals 0 (rings s cs)) ≤ 4096
-  few = let a : length (usesFrom normals 0 (rings s cs)) ≡ length cs / 3 = long in let b : length cs ≤ 12288 = k .sound .fits in omega arith
+  few = let a : length (usesFrom normals 0 (rings s cs)) ≡ length cs / width = long in let b : length cs ≤ 12288 = k .sound .fits in omega arith
 
   module _ (lower higher n m : List ℕ) (d : Digits normals (rings s cs) lower higher n m) where
     columns-uses : KeyColumns lower higher n m (length (usesFrom normals 0 (rings s cs)))
@@ -61,13 +62,13 @@ module _ (normals : Bool) (cs s : List ℕ) (k : Keyable cs s) where
         (sym (d .m-is))
         (key-columns (usesFrom normals 0 (rings s cs)) good few))))
 
-    pub columns-row : (row : List ℕ) → length row ≡ length cs / 3 → KeyColumns lower higher n m (length row)
+    pub columns-row : (row : List ℕ) → length row ≡ length cs / width → KeyColumns lower higher n m (length row)
     columns-row row l = subst (KeyColumns lower higher n m) (long ∙ sym l) columns-uses
 
-    pub rows-ready : (order spare : List ℕ) → length order ≡ length cs / 3 → length spare ≡ length cs / 3 → TwoRows lower higher n m order spare
+    pub rows-ready : (order spare : List ℕ) → length order ≡ length cs / width → length spare ≡ length cs / width → TwoRows lower higher n m order spare
     rows-ready order spare l w = record { columns = columns-row order l; spare-long = w ∙ sym l }
 
-    module _ (order firsts face : List ℕ) (l : length order ≡ length cs / 3) (f : face ≡ column normals 4 (rings s cs)) (r : Marked lower higher n m (length order) firsts) where
+    module _ (order firsts face : List ℕ) (l : length order ≡ length cs / width) (f : face ≡ column normals 4 (rings s cs)) (r : Marked lower higher n m (length order) firsts) where
       marked-uses : Marked (map (entryOf 0) (usesFrom normals 0 (rings s cs))) (map (entryOf 1) (usesFrom normals 0 (rings s cs))) (map (entryOf 2) (usesFrom normals 0 (rings s cs))) (map (entryOf 3) (usesFrom normals 0 (rings s cs))) (length (usesFrom normals 0 (rings s cs))) firsts
       unfolding column
       marked-uses =
@@ -77,15 +78,15 @@ module _ (normals : Bool) (cs s : List ℕ) (k : Keyable cs s) where
           (subst (λ (t : List ℕ). Marked lower higher n t (length (usesFrom normals 0 (rings s cs))) firsts) (d .m-is)
           (subst (λ (u : ℕ). Marked lower higher n m u firsts) (l ∙ sym long) r))))
 
-      face-long : length face ≡ length cs / 3
+      face-long : length face ≡ length cs / width
       unfolding column
       face-long = ap length f ∙ length-map (usesFrom normals 0 (rings s cs)) (entryOf 4) ∙ long
 
       pub joins-ready : (out : List ℕ) → 8192 ≤ length out → Joinable face firsts out
       joins-ready out h =
-          let u : length (usesFrom normals 0 (rings s cs)) ≡ length cs / 3 = long in
+          let u : length (usesFrom normals 0 (rings s cs)) ≡ length cs / width = long in
           let v : length firsts ≡ length order = r .long in
-          let w : length face ≡ length cs / 3 = face-long in
+          let w : length face ≡ length cs / width = face-long in
           let q : length cs ≤ 12288 = k .sound .fits in
           record {
             few = omega arith;
@@ -251,44 +252,44 @@ module _ (m : Mesh) (normals : Bool) (flat lengths : List ℕ) where
   unfolding panelsNumber
   refused-mesh number n f p e ne a b c =
       refusal number n f p
-      (e ∙ sym (first-is (meshNumber m) (when (short (lent (length flat) (length (m .corners) / 3) ∷ lent (length lengths) (length (m .corners) / 3) ∷ [])) 9 ∷ []) (λ q. ne (e ∙ q))))
+      (e ∙ sym (first-is (meshNumber m) (when (short (lent (length flat) (length (m .corners) / width) ∷ lent (length lengths) (length (m .corners) / width) ∷ [])) 9 ∷ []) (λ q. ne (e ∙ q))))
       ne a b c
 
   -- the number by the room
-  number-9 : meshNumber m ≡ 0 → short (lent (length flat) (length (m .corners) / 3) ∷ lent (length lengths) (length (m .corners) / 3) ∷ []) ≡ true → 9 ≡ panelsNumber m (length flat) (length lengths)
+  number-9 : meshNumber m ≡ 0 → short (lent (length flat) (length (m .corners) / width) ∷ lent (length lengths) (length (m .corners) / width) ∷ []) ≡ true → 9 ≡ panelsNumber m (length flat) (length lengths)
   unfolding panelsNumber
   number-9 e t =
       sym
-      (first-on (meshNumber m) (when (short (lent (length flat) (length (m .corners) / 3) ∷ lent (length lengths) (length (m .corners) / 3) ∷ [])) 9 ∷ []) e
-      ∙ row-given (short (lent (length flat) (length (m .corners) / 3) ∷ lent (length lengths) (length (m .corners) / 3) ∷ [])) 8 [] t)
+      (first-on (meshNumber m) (when (short (lent (length flat) (length (m .corners) / width) ∷ lent (length lengths) (length (m .corners) / width) ∷ [])) 9 ∷ []) e
+      ∙ row-given (short (lent (length flat) (length (m .corners) / width) ∷ lent (length lengths) (length (m .corners) / width) ∷ [])) 8 [] t)
 
-  number-0 : meshNumber m ≡ 0 → short (lent (length flat) (length (m .corners) / 3) ∷ lent (length lengths) (length (m .corners) / 3) ∷ []) ≡ false → 0 ≡ panelsNumber m (length flat) (length lengths)
+  number-0 : meshNumber m ≡ 0 → short (lent (length flat) (length (m .corners) / width) ∷ lent (length lengths) (length (m .corners) / width) ∷ []) ≡ false → 0 ≡ panelsNumber m (length flat) (length lengths)
   unfolding panelsNumber
   number-0 e t =
       sym
-      (first-on (meshNumber m) (when (short (lent (length flat) (length (m .corners) / 3) ∷ lent (length lengths) (length (m .corners) / 3) ∷ [])) 9 ∷ []) e
-      ∙ row-passed (short (lent (length flat) (length (m .corners) / 3) ∷ lent (length lengths) (length (m .corners) / 3) ∷ [])) 8 [] t)
+      (first-on (meshNumber m) (when (short (lent (length flat) (length (m .corners) / width) ∷ lent (length lengths) (length (m .corners) / width) ∷ [])) 9 ∷ []) e
+      ∙ row-passed (short (lent (length flat) (length (m .corners) / width) ∷ lent (length lengths) (length (m .corners) / width) ∷ [])) 8 [] t)
 
-  short-flat : length flat < length (m .corners) / 3 → short (lent (length flat) (length (m .corners) / 3) ∷ lent (length lengths) (length (m .corners) / 3) ∷ []) ≡ true
+  short-flat : length flat < length (m .corners) / width → short (lent (length flat) (length (m .corners) / width) ∷ lent (length lengths) (length (m .corners) / width) ∷ []) ≡ true
   unfolding short
-  short-flat h = rw (lt-ltb (length flat) (length (m .corners) / 3) h)
+  short-flat h = rw (lt-ltb (length flat) (length (m .corners) / width) h)
 
-  short-lengths : length (m .corners) / 3 ≤ length flat → length lengths < length (m .corners) / 3 → short (lent (length flat) (length (m .corners) / 3) ∷ lent (length lengths) (length (m .corners) / 3) ∷ []) ≡ true
+  short-lengths : length (m .corners) / width ≤ length flat → length lengths < length (m .corners) / width → short (lent (length flat) (length (m .corners) / width) ∷ lent (length lengths) (length (m .corners) / width) ∷ []) ≡ true
   unfolding short
-  short-lengths g h = rw (le-ltb (length flat) (length (m .corners) / 3) g, lt-ltb (length lengths) (length (m .corners) / 3) h)
+  short-lengths g h = rw (le-ltb (length flat) (length (m .corners) / width) g, lt-ltb (length lengths) (length (m .corners) / width) h)
 
-  long-enough : length (m .corners) / 3 ≤ length flat → length (m .corners) / 3 ≤ length lengths → short (lent (length flat) (length (m .corners) / 3) ∷ lent (length lengths) (length (m .corners) / 3) ∷ []) ≡ false
+  long-enough : length (m .corners) / width ≤ length flat → length (m .corners) / width ≤ length lengths → short (lent (length flat) (length (m .corners) / width) ∷ lent (length lengths) (length (m .corners) / width) ∷ []) ≡ false
   unfolding short
-  long-enough g h = rw (le-ltb (length flat) (length (m .corners) / 3) g, le-ltb (length lengths) (length (m .corners) / 3) h)
+  long-enough g h = rw (le-ltb (length flat) (length (m .corners) / width) g, le-ltb (length lengths) (length (m .corners) / width) h)
 
   pub refused-flat :
-      (number n f p : ℕ) → number ≡ meshNumber m → number ≡ 0 → length flat < length (m .corners) / 3 → n ≡ 9 → f ≡ 0 → p ≡ 0
+      (number n f p : ℕ) → number ≡ meshNumber m → number ≡ 0 → length flat < length (m .corners) / width → n ≡ 9 → f ≡ 0 → p ≡ 0
       → Answered m normals flat lengths n f p flat lengths
   refused-flat number n f p e z h a b c =
       refusal 9 n f p (number-9 (sym e ∙ z) (short-flat h)) (λ q. omega arith) a b c
 
   pub refused-lengths :
-      (number n f p : ℕ) → number ≡ meshNumber m → number ≡ 0 → length (m .corners) / 3 ≤ length flat → length lengths < length (m .corners) / 3
+      (number n f p : ℕ) → number ≡ meshNumber m → number ≡ 0 → length (m .corners) / width ≤ length flat → length lengths < length (m .corners) / width
       → n ≡ 9 → f ≡ 0 → p ≡ 0
       → Answered m normals flat lengths n f p flat lengths
   refused-lengths number n f p e z g h a b c =
@@ -339,11 +340,11 @@ module _ (m : Mesh) (normals : Bool) (a : Accepted m) where
         let d : length (rings (m .sizes) (m .corners)) ≡ length (m .sizes) = faces-count in
         omega arith
 
-    module _ (flat lengths : List ℕ) (g : length (m .corners) / 3 ≤ length flat) (l : length (m .corners) / 3 ≤ length lengths) where
+    module _ (flat lengths : List ℕ) (g : length (m .corners) / width ≤ length flat) (l : length (m .corners) / width ≤ length lengths) where
       pub row-divides : Divisible (take n row′) (length (m .sizes)) flat lengths
       row-divides =
           let s : length (m .sizes) ≤ sum (m .sizes) = sizes-count (m .sizes) (a .least) in
-          let t : 3 * sum (m .sizes) ≡ length (m .corners) = a .sound .adds in
+          let t : width * sum (m .sizes) ≡ length (m .corners) = a .sound .adds in
           subst (λ (x : List ℕ). Divisible x (length (m .sizes)) flat lengths) (sym row-is)
           (record {
             whole = ap flatJoins (sym (joins-back (joins normals (rings (m .sizes) (m .corners)))));
@@ -375,8 +376,8 @@ module _ (m : Mesh) (normals : Bool) (a : Accepted m) where
 
 -- ---- the fronts of rows of fixed length
 
-pub corner-row : (cs s : List ℕ) → Keyable cs s → length (take {A = ℕ} (length cs / 3) (replicate 4096 0)) ≡ length cs / 3
-corner-row cs s k = length-front 0 (length cs / 3) 4096 (let a : length cs ≤ 12288 = k .sound .fits in omega arith)
+pub corner-row : (cs s : List ℕ) → Keyable cs s → length (take {A = ℕ} (length cs / width) (replicate 4096 0)) ≡ length cs / width
+corner-row cs s k = length-front 0 (length cs / width) 4096 (let a : length cs ≤ 12288 = k .sound .fits in omega arith)
 
 module _ (joins : List ℕ) (f : ℕ) (flat lengths : List ℕ) (p : Divisible joins f flat lengths) where
   pub entry-row : length (take {A = ℕ} (length joins) (replicate 8192 0)) ≡ length joins

@@ -6,6 +6,7 @@ use mathlib.Core.List.{List, map}
 use Prim.Native.Nat.{ℕ, zero, suc, _+_, _/_, _%_, _≤_, _<_}
 use lib.Dec.{ltb, eqb}
 use lib.ListN.{length}
+use Rattle.mesh.specs.Limits.{width}
 use Rattle.mesh.specs.Mesh.{Corner, Ring, missing, cornerAt}
 use Rattle.mesh.specs.Face.{Sound}
 use Rattle.panels.specs.Panels.{Use, faceKeys, usesFrom}
@@ -34,7 +35,7 @@ nextOf n j = cond (ltb (j + 1) n) (j + 1) 0
 
 -- the edge from corner j of a face, a part of the list of corners, to the one behind it
 unfoldable pub edgeAt : List ℕ → ℕ → Corner × Corner
-edgeAt part j = (cornerAt part j, cornerAt part (nextOf (length part / 3) j))
+edgeAt part j = (cornerAt part j, cornerAt part (nextOf (length part / width) j))
 
 -- the uses of face k
 abbrev pub faceUses : Bool → ℕ → Ring → List Use
@@ -42,28 +43,28 @@ faceUses normals k f = map (λ key. (k, key)) (faceKeys normals f)
 
 -- whole corners, and corner j one of them
 pub record AtCorner (part : List ℕ) (j : ℕ) : Type 0 where
-  pub whole : length part % 3 ≡ 0
+  pub whole : length part % width ≡ 0
   pub few : length part ≤ 12288
-  pub inside : j < length part / 3
+  pub inside : j < length part / width
 
 -- whole corners, and room for one number for each from `at` on
 pub record FaceRoom (part out : List ℕ) (at : ℕ) : Type 0 where
-  pub whole : length part % 3 ≡ 0
+  pub whole : length part % width ≡ 0
   pub few : length part ≤ 12288
-  pub room : at + length part / 3 ≤ length out
+  pub room : at + length part / width ≤ length out
 
 -- sizes that add up to the corners, and room for one number for each corner
 pub record ColumnRoom (cs s out : List ℕ) : Type 0 where
   pub sound : Sound cs s
-  pub room : length out ≡ length cs / 3
+  pub room : length out ≡ length cs / width
 
 -- the same for the four digits of the keys
 pub record DigitRoom (cs s lower higher n m : List ℕ) : Type 0 where
   pub sound : Sound cs s
-  pub lower-long : length lower ≡ length cs / 3
-  pub higher-long : length higher ≡ length cs / 3
-  pub n-long : length n ≡ length cs / 3
-  pub m-long : length m ≡ length cs / 3
+  pub lower-long : length lower ≡ length cs / width
+  pub higher-long : length higher ≡ length cs / width
+  pub n-long : length n ≡ length cs / width
+  pub m-long : length m ≡ length cs / width
 
 pub record Digits (normals : Bool) (fs : List Ring) (lower higher n m : List ℕ) : Type 0 where
   pub lower-is : lower ≡ column normals 0 fs

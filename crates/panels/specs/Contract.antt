@@ -6,6 +6,7 @@ use Prim.Native.Nat.{ℕ, _/_}
 use lib.ListN.{length}
 use lib.Seq.{sets}
 use Rattle.lists.specs.Lists.{joined}
+use Rattle.mesh.specs.Limits.{width}
 use Rattle.mesh.specs.Mesh.{Mesh, faces}
 use Rattle.mesh.specs.Table.{firstOf, when, lent, short, meshNumber, after}
 use Rattle.panels.specs.Panels.{panels}
@@ -13,7 +14,7 @@ use Rattle.panels.specs.Panels.{panels}
 -- numbers 0 to 5, and 9: there is room in each list for one number per corner
 unfoldable pub panelsNumber : Mesh → ℕ → ℕ → ℕ
 panelsNumber m flat lengths =
-    firstOf (meshNumber m ∷ when (short (lent flat (length (m .corners) / 3) ∷ lent lengths (length (m .corners) / 3) ∷ [])) 9 ∷ [])
+    firstOf (meshNumber m ∷ when (short (lent flat (length (m .corners) / width) ∷ lent lengths (length (m .corners) / width) ∷ [])) 9 ∷ [])
 
 -- the panels of a mesh
 abbrev pub panelsOf : Bool → Mesh → List (List ℕ)

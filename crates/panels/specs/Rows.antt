@@ -3,6 +3,7 @@ use mathlib.Core.Path.{_≡_}
 use mathlib.Core.List.{List}
 use Prim.Native.Nat.{ℕ, _+_, _*_, _/_, _≤_, _<_}
 use lib.ListN.{length, getD, replicate}
+use Rattle.mesh.specs.Limits.{width}
 use Rattle.mesh.specs.Mesh.{missing}
 use Rattle.mesh.specs.Face.{Sound}
 use Rattle.panels.specs.Joins.{flatJoins, joinsOf}
@@ -10,8 +11,8 @@ use Rattle.panels.specs.Joins.{flatJoins, joinsOf}
 -- corners whose positions are below 2,048, and whose normals are missing or below 2,048
 pub record Keyable (cs s : List ℕ) : Type 0 where
   pub sound : Sound cs s
-  pub position : (k : ℕ) → k < length cs / 3 → getD cs (3 * k) 0 < 2048
-  pub normal : (k : ℕ) → k < length cs / 3 → (getD cs (3 * k + 2) 0 ≡ missing → ⊥) → getD cs (3 * k + 2) 0 < 2048
+  pub position : (k : ℕ) → k < length cs / width → getD cs (width * k) 0 < 2048
+  pub normal : (k : ℕ) → k < length cs / width → (getD cs (width * k + 2) 0 ≡ missing → ⊥) → getD cs (width * k + 2) 0 < 2048
 
 -- room for all joins
 pub record JoinRoom (cs s joins : List ℕ) : Type 0 where
@@ -21,13 +22,13 @@ pub record JoinRoom (cs s joins : List ℕ) : Type 0 where
 -- rows of one number for each corner
 pub record KeyRows (cs s lower higher n m order firsts faces joins : List ℕ) : Type 0 where
   pub keyable : Keyable cs s
-  pub lower-long : length lower ≡ length cs / 3
-  pub higher-long : length higher ≡ length cs / 3
-  pub n-long : length n ≡ length cs / 3
-  pub m-long : length m ≡ length cs / 3
-  pub order-long : length order ≡ length cs / 3
-  pub firsts-long : length firsts ≡ length cs / 3
-  pub faces-long : length faces ≡ length cs / 3
+  pub lower-long : length lower ≡ length cs / width
+  pub higher-long : length higher ≡ length cs / width
+  pub n-long : length n ≡ length cs / width
+  pub m-long : length m ≡ length cs / width
+  pub order-long : length order ≡ length cs / width
+  pub firsts-long : length firsts ≡ length cs / width
+  pub faces-long : length faces ≡ length cs / width
   pub room : 8192 ≤ length joins
 
 -- joins of f faces, and room for the panels

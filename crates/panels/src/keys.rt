@@ -49,7 +49,7 @@ pub fn put_column(corners: &[u32], sizes: &[u32], normals: bool, which: u32, out
     while k < sizes.len() {
         let part = mesh::face_at(corners, sizes, k, at);
         put_face(part, k as u32, normals, which, out, at);
-        at += part.len() / 3;
+        at += part.len() / mesh::WIDTH;
         k += 1;
     }
 }
@@ -59,7 +59,7 @@ fn put_face(part: &[u32], face: u32, normals: bool, which: u32, out: &mut [u32],
     requires { ⌜ FaceRoom (now part) (now out) at ⌝ }
     ensures { λ _. ⌜ now (out .exit) ≡ sets (now (out .entry)) at (map (entryOf which) (faceUses normals face (threes (now (part .entry))))) ⌝ }
 {
-    let n = part.len() / 3;
+    let n = part.len() / mesh::WIDTH;
     let mut j: usize = 0;
     while j < n {
         out[at + j] = edge_entry(part, j, face, normals, which);
@@ -73,8 +73,8 @@ fn edge_entry(part: &[u32], j: usize, face: u32, normals: bool, which: u32) -> u
     requires { ⌜ AtCorner (now part) j ⌝ }
     ensures { λ r. ⌜ r ≡ entryOf which (face, keyOf normals (edgeAt (now (part .entry)) j)) ⌝ }
 {
-    let a = 3 * j;
-    let b = 3 * behind(part.len() / 3, j);
+    let a = mesh::WIDTH * j;
+    let b = mesh::WIDTH * behind(part.len() / mesh::WIDTH, j);
     let p = part[a];
     let q = part[b];
     let n = normal_digit(part[a + 2], normals);

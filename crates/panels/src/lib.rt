@@ -50,7 +50,7 @@ pub fn components(
     if number != 0 {
         return refused(number);
     }
-    let room = corners.len() / 3;
+    let room = corners.len() / mesh::WIDTH;
     if flat.len() < room {
         return refused(9);
     }
@@ -89,7 +89,7 @@ fn find_joins(corners: &[u32], sizes: &[u32], normals: bool, out: &mut [u32]) ->
     let mut order = [0u32; 4096];
     let mut firsts = [0u32; 4096];
     let mut faces = [0u32; 4096];
-    let u = corners.len() / 3;
+    let u = corners.len() / mesh::WIDTH;
     record_joins(
         corners,
         sizes,

@@ -7,6 +7,7 @@ use native.Mathlib.Omega.{arith}
 use lib.ListN.{length, take, length-map}
 use lib.Ieee.{Float}
 use borrow.Author.Tests.{le-ltb}
+use Rattle.mesh.specs.Limits.{width}
 use Rattle.mesh.specs.Mesh.{Mesh, meshOf, faces}
 use Rattle.mesh.specs.Table.{meshNumber, short}
 use Rattle.mesh.proofs.Accepted.{Accepted, accepted}
@@ -33,12 +34,12 @@ module _ {m : Mesh} {c c′ s s′ out : List ℕ} {r : Removed} (room : MeshRoo
   unfolding folding.removalNumber folding.tooShort short
   removal-done =
       let a : Accepted m = accepted m (room .ready .accepted) in
-      rw (left .number, room .ready .accepted, le-ltb (length c) (length (m .corners)) (omega (arith, room .corners, a .limits .corners)), le-ltb (length s) (length (m .corners) / 3 / 3) (omega (arith, room .sizes, a .limits .corners)))
+      rw (left .number, room .ready .accepted, le-ltb (length c) (length (m .corners)) (omega (arith, room .corners, a .limits .corners)), le-ltb (length s) (length (m .corners) / width / 3) (omega (arith, room .sizes, a .limits .corners)))
 
   unfolded-accepted : meshNumber unfolded ≡ 0
   unfolded-accepted = removed-accepted m (room .ready .accepted)
 
-  pub unfolded-corners : Front c′ (unfolded .corners) (3 * r .corners)
+  pub unfolded-corners : Front c′ (unfolded .corners) (width * r .corners)
   unfolding folding.unfoldedMesh
   unfolded-corners =
       front-corners unfolded unfolded-accepted c (room .corners) (left .corners ∙ after-done _ _ _ removal-done)
@@ -50,15 +51,15 @@ module _ {m : Mesh} {c c′ s s′ out : List ℕ} {r : Removed} (room : MeshRoo
       front-sizes unfolded unfolded-accepted s (room .sizes) (left .sizes ∙ after-done _ _ _ removal-done)
       (left .face-count ∙ after-done _ _ _ removal-done ∙ sym (length-map (folding.removed (faces m)) length))
 
-  unfolded-are : meshOf (m .positions) (m .textures) (m .normals) (take (3 * r .corners) c′) (take (r .faces) s′) ≡ unfolded
+  unfolded-are : meshOf (m .positions) (m .textures) (m .normals) (take (width * r .corners) c′) (take (r .faces) s′) ≡ unfolded
   unfolding folding.unfoldedMesh
   unfolded-are = rw (unfolded-corners .is, unfolded-sizes .is)
 
-  pub unfolded-ready : Ready (meshOf (m .positions) (m .textures) (m .normals) (take (3 * r .corners) c′) (take (r .faces) s′)) out
+  pub unfolded-ready : Ready (meshOf (m .positions) (m .textures) (m .normals) (take (width * r .corners) c′) (take (r .faces) s′)) out
   unfolded-ready = record { accepted = ap meshNumber unfolded-are ∙ unfolded-accepted; room = room .ready .room }
 
   pub unfolded-text :
-      sheetText (foundIn (compacting.compacted (meshOf (m .positions) (m .textures) (m .normals) (take (3 * r .corners) c′) (take (r .faces) s′))))
+      sheetText (foundIn (compacting.compacted (meshOf (m .positions) (m .textures) (m .normals) (take (width * r .corners) c′) (take (r .faces) s′))))
       ≡ sheetText (foundIn (cleaned m))
   unfolding cleaned
   unfolded-text = ap (λ (x : Mesh). sheetText (foundIn (compacting.compacted x))) unfolded-are

@@ -13,6 +13,7 @@ use borrow.Author.Tests.{le-ltb}
 use Rattle.lists.specs.Lists.{joined, sum}
 use Rattle.lists.proofs.Bools.{by-cases}
 use Rattle.lists.proofs.Parts.{length-joined}
+use Rattle.mesh.specs.Limits.{width}
 use Rattle.mesh.specs.Mesh.{Mesh, faces, positionCount, textureCount, normalCount}
 use Rattle.mesh.specs.Table.{after, short, when}
 use Rattle.mesh.proofs.Accepted.{Accepted, accepted}
@@ -53,7 +54,7 @@ module _ {m : Mesh} {flat flat₁ flat₂ lengths lengths₁ lengths₂ out : Li
   parts-done : pn ≡ 0
   unfolding panelling.panelsNumber short
   parts-done =
-      rw (parted .number, room .ready .accepted, le-ltb (length flat) (length (m .corners) / 3) (omega (arith, room .numbers, a .limits .corners)), le-ltb (length lengths) (length (m .corners) / 3) (omega (arith, room .wires, a .limits .corners)))
+      rw (parted .number, room .ready .accepted, le-ltb (length flat) (length (m .corners) / width) (omega (arith, room .numbers, a .limits .corners)), le-ltb (length lengths) (length (m .corners) / width) (omega (arith, room .wires, a .limits .corners)))
 
   parts-count : panel ≡ length (panels false (faces m))
   parts-count = parted .panels ∙ after-done _ _ _ parts-done

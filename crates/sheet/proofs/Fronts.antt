@@ -8,6 +8,7 @@ use lib.ListN.{length, take}
 use lib.Seq.{sets, length-sets}
 use lib.Ieee.{Float}
 use Rattle.lists.proofs.Copies.{take-written}
+use Rattle.mesh.specs.Limits.{width}
 use Rattle.mesh.specs.Mesh.{Mesh, positionCount, textureCount, normalCount}
 use Rattle.mesh.specs.Table.{meshNumber}
 use Rattle.mesh.proofs.Accepted.{Accepted, accepted}
@@ -37,7 +38,7 @@ module _ (m : Mesh) (ok : meshNumber m ≡ 0) where
   pub front-normals : (l : List Float) {l′ : List Float} {k : ℕ} → length l ≡ 6144 → l′ ≡ sets l 0 (m .normals) → k ≡ normalCount m → Front l′ (m .normals) (3 * k)
   front-normals l f e n = front l e (omega (arith, n, a .whole .normals)) (omega (arith, n, f, a .limits .normals))
 
-  pub front-corners : (l : List ℕ) {l′ : List ℕ} {k : ℕ} → length l ≡ 12288 → l′ ≡ sets l 0 (m .corners) → k ≡ length (m .corners) / 3 → Front l′ (m .corners) (3 * k)
+  pub front-corners : (l : List ℕ) {l′ : List ℕ} {k : ℕ} → length l ≡ 12288 → l′ ≡ sets l 0 (m .corners) → k ≡ length (m .corners) / width → Front l′ (m .corners) (width * k)
   front-corners l f e n = front l e (omega (arith, n, a .whole .corners)) (omega (arith, n, f, a .limits .corners))
 
   pub front-sizes : (l : List ℕ) {l′ : List ℕ} {k : ℕ} → length l ≡ 1365 → l′ ≡ sets l 0 (m .sizes) → k ≡ length (m .sizes) → Front l′ (m .sizes) k

@@ -6,6 +6,7 @@ use Prim.Native.Nat.{_*_, _≤_, ℕ, zero, suc}
 use native.Mathlib.Omega.{arith}
 use lib.ListN.{take}
 use lib.Ieee.{Float}
+use Rattle.mesh.specs.Limits.{width}
 use Rattle.mesh.specs.Mesh.{Mesh, meshOf}
 use Rattle.mesh.specs.Table.{meshNumber, short}
 use Rattle.mesh.proofs.Accepted.{Accepted, accepted}
@@ -43,7 +44,7 @@ pub record Fronts (m : Mesh) (p t n : List Float) (c s : List ℕ) (i j k l f : 
   pub positions : Front p (m .positions) (3 * i)
   pub textures : Front t (m .textures) (2 * j)
   pub normals : Front n (m .normals) (3 * k)
-  pub corners : Front c (m .corners) (3 * l)
+  pub corners : Front c (m .corners) (width * l)
   pub sizes : Front s (m .sizes) f
 
 -- no more of anything than the limits
@@ -55,7 +56,7 @@ pub record Few (r : Panel) : Type 0 where
 
 pub fronts-are :
     {m : Mesh} {p t n : List Float} {c s : List ℕ} {i j k l f : ℕ} → Fronts m p t n c s i j k l f
-    → meshOf (take (3 * i) p) (take (2 * j) t) (take (3 * k) n) (take (3 * l) c) (take f s) ≡ m
+    → meshOf (take (3 * i) p) (take (2 * j) t) (take (3 * k) n) (take (width * l) c) (take f s) ≡ m
 fronts-are r = rw (r .positions .is, r .textures .is, r .normals .is, r .corners .is, r .sizes .is)
 
 module _ {file : List ℕ} {r : Panel} {p p′ t t′ n n′ : List Float} {c c′ s s′ out : List ℕ} (room : FileRoom p t n c s out)
@@ -89,10 +90,10 @@ module _ {file : List ℕ} {r : Panel} {p p′ t t′ n n′ : List Float} {c c�
         corners = omega (arith, read .corner-count ∙ after-done _ _ _ z, m .limits .corners);
       }
 
-  pub read-ready : r .number ≡ 0 → Ready (meshOf (take (3 * r .positions) p′) (take (2 * r .textures) t′) (take (3 * r .normals) n′) (take (3 * r .corners) c′) (take (r .faces) s′)) out
+  pub read-ready : r .number ≡ 0 → Ready (meshOf (take (3 * r .positions) p′) (take (2 * r .textures) t′) (take (3 * r .normals) n′) (take (width * r .corners) c′) (take (r .faces) s′)) out
   read-ready z = record { accepted = ap meshNumber (fronts-are (read-fronts z)) ∙ mesh-accepted z; room = room .room }
 
-  pub read-text : (z : r .number ≡ 0) → sheetText (foundIn (cleaned (meshOf (take (3 * r .positions) p′) (take (2 * r .textures) t′) (take (3 * r .normals) n′) (take (3 * r .corners) c′) (take (r .faces) s′)))) ≡ printed (panelNumber [] file) (panelMesh file)
+  pub read-text : (z : r .number ≡ 0) → sheetText (foundIn (cleaned (meshOf (take (3 * r .positions) p′) (take (2 * r .textures) t′) (take (3 * r .normals) n′) (take (width * r .corners) c′) (take (r .faces) s′)))) ≡ printed (panelNumber [] file) (panelMesh file)
   read-text z = ap (λ (m : Mesh). sheetText (foundIn (cleaned m))) (fronts-are (read-fronts z)) ∙ printed-done _ (panelMesh file) (sym read-number ∙ z)
 
   pub refused-text : (r .number ≡ 0 → ⊥) → refusal (r .number) ≡ printed (panelNumber [] file) (panelMesh file)

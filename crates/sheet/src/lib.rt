@@ -88,7 +88,7 @@ fn read_in(
     let p = 3 * panel.positions;
     let t = 2 * panel.textures;
     let n = 3 * panel.normals;
-    let c = 3 * panel.corners;
+    let c = mesh::WIDTH * panel.corners;
     let f = panel.faces;
     from_mesh(
         &positions[..p],
@@ -149,7 +149,7 @@ fn unfold_in(
         newcorners,
         newsizes,
     );
-    let c = 3 * left.corners;
+    let c = mesh::WIDTH * left.corners;
     let f = left.faces;
     from_unfolded(
         positions,

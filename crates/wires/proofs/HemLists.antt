@@ -12,6 +12,7 @@ use Rattle.lists.specs.Lists.{every}
 use Rattle.lists.proofs.Bools.{and-left, and-right}
 use Rattle.lists.proofs.Parts.{every-at}
 use Rattle.lists.proofs.Writing.{sets-front}
+use Rattle.mesh.specs.Limits.{width}
 use Rattle.mesh.specs.Mesh.{Ring, position, rings}
 use Rattle.edges.specs.Edges.{Edge, edgesOf, Verdict, Irregular, Regular, verdict, hems}
 use Rattle.wires.specs.Hems.{pairs, EdgeLists, Balanced, Portable, Houseable}
@@ -82,7 +83,7 @@ module _ {cs s : List ℕ} {n : ℕ} (e : Edged cs s n) where
   hem-count : length (hems (edgesOf (rings s cs))) ≤ cornerCount cs
   hem-count =
       let a : length (hems (edgesOf (rings s cs))) ≤ length (edgesOf (rings s cs)) = hems-few (edgesOf (rings s cs)) in
-      let b : length (edgesOf (rings s cs)) ≡ length cs / 3 = length-uses cs s (e .sound) in
+      let b : length (edgesOf (rings s cs)) ≡ length cs / width = length-uses cs s (e .sound) in
       omega arith
 
   hem-few : length (hems (edgesOf (rings s cs))) ≤ 4096

@@ -6,6 +6,7 @@ use Prim.Native.Nat.{ℕ, _*_, _/_, _≤_}
 use lib.ListN.{length}
 use lib.Seq.{sets}
 use Rattle.lists.specs.Lists.{joined}
+use Rattle.mesh.specs.Limits.{width}
 use Rattle.mesh.specs.Mesh.{Mesh, faces}
 use Rattle.mesh.specs.Table.{meshNumber, when, firstOf, lent, short, after}
 use Rattle.edges.specs.Runs.{Edged}
@@ -15,7 +16,7 @@ use Rattle.wires.specs.Ported.{portedWires}
 
 -- how many corners there are
 abbrev pub cornerCount : List ℕ → ℕ
-cornerCount corners = length corners / 3
+cornerCount corners = length corners / width
 
 -- 9 for ported wires: the flat list is shorter than two numbers per corner, or the lengths than one
 abbrev pub portedShort : Mesh → ℕ → ℕ → Bool

@@ -53,7 +53,7 @@ pub fn extract_boundaries(
     if number != 0 {
         return refused(number);
     }
-    let room = corners.len() / 3;
+    let room = corners.len() / mesh::WIDTH;
     if flat.len() < 2 * room {
         return refused(9);
     }
@@ -85,7 +85,7 @@ pub fn house_wires(
     if number != 0 {
         return refused(number);
     }
-    let room = corners.len() / 3;
+    let room = corners.len() / mesh::WIDTH;
     if flat.len() < room {
         return refused(9);
     }

@@ -3,6 +3,7 @@
 use Prim.Native.Nat.{_/_, _-_}
 use mathlib.Core.Path.{refl, _∙_}
 use lib.ListN.{length}
+use Rattle.mesh.specs.Limits.{width}
 use Rattle.compaction.specs.Compaction.{resultOf}
 use Rattle.compaction.proofs.Loop.{Going, going-begins, going-turns, going-ends, going-long, column-before, column-few, column-long}
 use borrow.Author.Needs.{needs}
@@ -14,7 +15,7 @@ abbrev Inv-loop : tie.InvT-loop
 Inv-loop positions textures normals corners cs₀ ps₀ ts₀ ns₀ count pmap₀ tmap₀ nmap₀ p₀ t₀ n₀ k₀ cs ps ts ns pmap tmap nmap p t n k = Going positions textures normals corners (resultOf cs₀ ps₀ ts₀ ns₀) (resultOf cs ps ts ns) pmap tmap nmap p t n k
 
 abbrev μ-loop : tie.MeasureT-loop
-μ-loop positions textures normals corners cs₀ ps₀ ts₀ ns₀ count pmap₀ tmap₀ nmap₀ p₀ t₀ n₀ k₀ cs ps ts ns pmap tmap nmap p t n k = length corners / 3 - k
+μ-loop positions textures normals corners cs₀ ps₀ ts₀ ns₀ count pmap₀ tmap₀ nmap₀ p₀ t₀ n₀ k₀ cs ps ts ns pmap tmap nmap p t n k = length corners / width - k
 
 loop-holds : tie.Need-loop-holds Inv-loop μ-loop
 loop-holds c = going-begins _ _ _ _ _

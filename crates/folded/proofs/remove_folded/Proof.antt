@@ -3,6 +3,7 @@ use Prim.Native.Nat.{_*_}
 use mathlib.Core.Path.{sym}
 use lib.Seq.{length-take-le}
 use borrow.Rule.Slice.PartAt.{part-to-end}
+use Rattle.mesh.specs.Limits.{width}
 use Rattle.folded.proofs.TwoParts.{within-corners, ready-front, ready-behind, placed-triangles, placed-parts}
 use native.Mathlib.Omega.{arith}
 use borrow.Author.Needs.{needs}
@@ -60,7 +61,7 @@ part-remove-behind-end-2 c = search needs
 
 remove-behind-requires : tie.Need-remove-behind-requires
 remove-behind-requires c κs =
-    rw (part-to-end (c .before .before .before .before .before .before .before .before .before .before .before .before .before .before .before .before .before .before .before .args .corners .now) (9 * c .before .before .before .before .before .before .before .before .before .before .before .before .before .before .triangles .result), part-to-end (c .before .before .before .before .before .before .before .before .before .before .before .before .before .before .before .before .before .before .before .args .sizes .now) (c .before .before .before .before .before .before .before .before .before .before .before .before .before .before .triangles .result))
+    rw (part-to-end (c .before .before .before .before .before .before .before .before .before .before .before .before .before .before .before .before .before .before .before .args .corners .now) (width * 3 * c .before .before .before .before .before .before .before .before .before .before .before .before .before .before .triangles .result), part-to-end (c .before .before .before .before .before .before .before .before .before .before .before .before .before .before .before .before .before .before .before .args .sizes .now) (c .before .before .before .before .before .before .before .before .before .before .before .before .before .before .triangles .result))
     (ready-behind _ _ _ _ _ _ _ _ _ (c .before .before .before .before .before .before .before .before .before .before .before .before .before .before .before .before .before .before .before .pre) (c .before .before .before .before .before .before .before .before .before .before .before .before .before .before .triangles .ensures) (c .before .before .before .before .before .before .before .before .before .all-pieces .ensures) (c .before .before .before .before .before .before .before .before .before .all-pieces .kept .1 .1 .0) (c .before .before .before .before .before .before .before .before .before .all-pieces .kept .1 .1 .1 .0))
 
 same-length-3 : tie.Need-same-length-3
@@ -72,7 +73,7 @@ same-length-4 c = search needs
 returns-2 : tie.Need-returns-2
 returns-2 c =
     placed-parts _ _ _ _ _ _ _ _ _ _ _ _ _ (c .before .before .before .before .before .before .before .before .before .before .before .before .before .before .before .before .before .before .before .before .before .before .before .before .pre .fit) (c .before .before .before .before .before .before .before .before .before .before .before .before .before .before .before .before .before .before .before .triangles .ensures) (c .before .before .before .before .before .before .before .before .before .before .before .before .before .before .all-pieces .ensures)
-    (rw (part-to-end (c .before .before .before .before .before .before .before .before .before .before .before .before .before .before .before .before .before .before .before .before .before .before .before .before .args .corners .now) (9 * c .before .before .before .before .before .before .before .before .before .before .before .before .before .before .before .before .before .before .before .triangles .result), part-to-end (c .before .before .before .before .before .before .before .before .before .before .before .before .before .before .before .before .before .before .before .before .before .before .before .before .args .sizes .now) (c .before .before .before .before .before .before .before .before .before .before .before .before .before .before .before .before .before .before .before .triangles .result)) at (c .before .before .before .before .remove-behind .ensures))
+    (rw (part-to-end (c .before .before .before .before .before .before .before .before .before .before .before .before .before .before .before .before .before .before .before .before .before .before .before .before .args .corners .now) (width * 3 * c .before .before .before .before .before .before .before .before .before .before .before .before .before .before .before .before .before .before .before .triangles .result), part-to-end (c .before .before .before .before .before .before .before .before .before .before .before .before .before .before .before .before .before .before .before .before .before .before .before .before .args .sizes .now) (c .before .before .before .before .before .before .before .before .before .before .before .before .before .before .before .before .before .before .before .triangles .result)) at (c .before .before .before .before .remove-behind .ensures))
 
 pub remove-folded-spec : {M : Type 1} → statement M
 remove-folded-spec =

@@ -4,6 +4,7 @@ use Prim.Native.Nat.{_-_, _/_}
 use native.Mathlib.Omega.{arith}
 use lib.ListN.{length, length-set}
 use denote.Ref.{now}
+use Rattle.mesh.specs.Limits.{width}
 use Rattle.merging.proofs.Corners.{Writing, write-begins, write-turns, write-ends}
 use Rattle.merging.proofs.send_corners.Statement.{statement}
 use Rattle.merging.proofs.send_corners.Tie as tie
@@ -12,7 +13,7 @@ abbrev Inv-loop : tie.InvT-loop
 Inv-loop corners pmap tmap nmap out₀ count k₀ out k = Writing corners pmap tmap nmap out₀ out k
 
 abbrev μ-loop : tie.MeasureT-loop
-μ-loop corners pmap tmap nmap out₀ count k₀ out k = length corners / 3 - k
+μ-loop corners pmap tmap nmap out₀ count k₀ out k = length corners / width - k
 
 loop-holds : tie.Need-loop-holds Inv-loop μ-loop
 loop-holds c = write-begins (now (c .before .before .before .before .before .args .corners)) (now (c .before .before .before .before .before .args .pmap)) (now (c .before .before .before .before .before .args .tmap)) (now (c .before .before .before .before .before .args .nmap)) _

@@ -7,6 +7,7 @@ use lib.ListN.{length}
 use lib.Seq.{take-length}
 use borrow.Author.Tests.{eq-eqb, ne-eqb}
 use Rattle.lists.specs.Lists.{sum}
+use Rattle.mesh.specs.Limits.{width}
 use Rattle.mesh.specs.Table.{uneven}
 use borrow.Author.Needs.{needs}
 use Rattle.mesh.proofs.uneven.Statement.{statement}
@@ -39,7 +40,7 @@ unfolding uneven
 returns-5 c =
     let e : c .offset .result ≡ sum (c .before .before .before .before .before .before .before .before .before .before .args .sizes .now) = c .offset .ensures .0 ∙ ap sum (take-length (c .before .before .before .before .before .before .before .before .before .before .args .sizes .now)) in
     rw (eq-eqb _ _ (c .before .before .before .before .if1 .left), eq-eqb _ _ (c .before .before .before .if2 .left), eq-eqb _ _ (c .before .before .if3 .left), eq-eqb _ _ (c .before .if4 .left))
-    (ap (λ (n : ℕ). not (eqb (3 * n) (length (c .before .before .before .before .before .before .before .before .before .before .args .corners .now)))) e)
+    (ap (λ (n : ℕ). not (eqb (width * n) (length (c .before .before .before .before .before .before .before .before .before .before .args .corners .now)))) e)
 
 pub uneven-spec : {M : Type 1} → statement M
 uneven-spec =

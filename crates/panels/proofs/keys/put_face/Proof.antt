@@ -2,6 +2,7 @@
 use Prim.Native.Nat.{_-_, _/_}
 use lib.ListN.{length}
 use Rattle.lists.proofs.Writing.{Copying, copy-begins}
+use Rattle.mesh.specs.Limits.{width}
 use Rattle.mesh.specs.Mesh.{threes}
 use Rattle.panels.proofs.Using.{faceColumn, face-turns, face-ends}
 use borrow.Author.Needs.{needs}
@@ -12,7 +13,7 @@ abbrev Inv-loop : tie.InvT-loop
 Inv-loop part face normals which out₀ at n j₀ out j = Copying (faceColumn normals which face (threes part)) out₀ out at j
 
 abbrev μ-loop : tie.MeasureT-loop
-μ-loop part face normals which out₀ at n j₀ out j = length part / 3 - j
+μ-loop part face normals which out₀ at n j₀ out j = length part / width - j
 
 loop-holds : tie.Need-loop-holds Inv-loop μ-loop
 loop-holds c = copy-begins 0 _ _ _
