@@ -8,7 +8,7 @@ use lib.ListN.{length, getD, take, drop}
 use lib.Dec.{ltb, eqb}
 use borrow.Author.Tests.{ltb-true, eqb-true, lt-ltb, eq-eqb}
 use Rattle.lists.proofs.Bools.{by-cases, and-left, and-right}
-use Rattle.mesh.specs.Limits.{width}
+use Rattle.mesh.specs.Limits.{width, faceLimit}
 use Rattle.mesh.specs.Mesh.{Mesh}
 use Rattle.mesh.specs.Table.{shapeNumber}
 use Rattle.mesh.specs.Face.{offsetOf, faceOf, facePart, listIf}
@@ -40,7 +40,7 @@ there m k p e h =
     (λ f. absurd (h (ap length e ∙ ap (λ (b : Bool). length (listIf b (faceOf (m .corners) (m .sizes) k))) f)))
 
 -- there are few faces then
-pub few : (m : Mesh) (k : ℕ) → There m k → length (m .sizes) ≤ 1365
+pub few : (m : Mesh) (k : ℕ) → There m k → length (m .sizes) ≤ faceLimit
 few m k t = sound m (shaped m (t .clear)) .few
 
 -- a face's part is three numbers for each of its corners

@@ -11,7 +11,7 @@ use lib.Ieee.{Float}
 use Rattle.lists.specs.Lists.{joined}
 use Rattle.lists.proofs.Parts.{joined-append}
 use Rattle.lists.proofs.Writing.{sets-append}
-use Rattle.mesh.specs.Limits.{width}
+use Rattle.mesh.specs.Limits.{width, entryLimit}
 use Rattle.mesh.specs.Mesh.{Corner, Ring, missing, threes, cornerAt}
 use Rattle.mesh.proofs.Corners.{length-threes, getD-threes}
 use Rattle.compaction.specs.declared.Compacted.{Compacted}
@@ -28,7 +28,7 @@ pub record Column
 
 column-begins :
     (attrs : List Float) (w : ℕ) (cs : List ℕ) (q : ℕ) (fresh : List Float)
-    → Column attrs w cs q 0 fresh fresh (replicate 2048 missing) 0
+    → Column attrs w cs q 0 fresh fresh (replicate entryLimit missing) 0
 unfolding firstUses entries
 column-begins attrs w cs q fresh = record { tables = tables-begin; grown = refl }
 
@@ -56,7 +56,7 @@ module _
   column-turns fresh′ old2new′ used′ out out′ t = record { tables = t .tables; grown = t .grown fresh₀ (c .grown) }
 
   -- few enough for the type of a count
-  pub column-few : Pointed attrs w cs q → used ≤ 2048
+  pub column-few : Pointed attrs w cs q → used ≤ entryLimit
   column-few p = omega (arith, c .tables .counted, uses-within p k, p .few)
 
   -- where all are read
@@ -131,7 +131,7 @@ pub record Going
 
 pub going-begins :
     (p t n : List Float) (cs : List ℕ) (r : Result)
-    → Going p t n cs r r (replicate 2048 missing) (replicate 2048 missing) (replicate 2048 missing) 0 0 0 0
+    → Going p t n cs r r (replicate entryLimit missing) (replicate entryLimit missing) (replicate entryLimit missing) 0 0 0 0
 going-begins p t n cs r = record {
   within = omega arith;
   positions = column-begins p 3 cs 0 (r .positions);

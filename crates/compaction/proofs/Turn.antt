@@ -17,7 +17,7 @@ use Rattle.lists.proofs.Parts.{some-take, some-false-at}
 use Rattle.lists.proofs.Writing.{sets-append}
 use Rattle.lists.proofs.Members.{has-snoc}
 use Rattle.lists.proofs.Others.{eqb-self}
-use Rattle.mesh.specs.Limits.{width}
+use Rattle.mesh.specs.Limits.{width, entryLimit}
 use Rattle.mesh.specs.Mesh.{Corner, missing, threes, cornerAt}
 use Rattle.mesh.specs.Table.{beyondUnlessMissing}
 use Rattle.mesh.proofs.Corners.{length-threes, getD-threes}
@@ -123,7 +123,7 @@ module _
     present : eqb (indexAt cs k q) missing ≡ false
     present = ne-eqb (indexAt cs k q) missing pr
 
-    pub index-few : indexAt cs k q < 2048
+    pub index-few : indexAt cs k q < entryLimit
     index-few = omega (arith, index-below (b .pointed) k there present, b .pointed .few)
 
     found :
@@ -175,7 +175,7 @@ module _
 
       -- the map with the new number in it
       remapped :
-          (y : ℕ) → y < 2048
+          (y : ℕ) → y < entryLimit
           → getD (set old2new (indexAt cs k q) used) y 0 ≡ cond (has y (usesTo q cs (k + 1))) (place (usesTo q cs (k + 1)) y) missing
       remapped y l =
           let us = usesTo q cs k in
@@ -222,5 +222,5 @@ module _
 
 -- ---- before the first turn: nothing is used, and the map says missing of all
 
-pub tables-begin : Tables [] (replicate 2048 missing) 0
-tables-begin = record { counted = refl; wide = length-replicate 2048 missing; mapped = λ y l. getD-replicate 2048 y missing 0 l }
+pub tables-begin : Tables [] (replicate entryLimit missing) 0
+tables-begin = record { counted = refl; wide = length-replicate entryLimit missing; mapped = λ y l. getD-replicate entryLimit y missing 0 l }

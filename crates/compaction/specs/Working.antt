@@ -7,7 +7,7 @@ use lib.ListN.{length, getD, take, set}
 use lib.Seq.{sets}
 use lib.Ieee.{Float}
 use Rattle.lists.specs.Lists.{some, has, joined}
-use Rattle.mesh.specs.Limits.{width}
+use Rattle.mesh.specs.Limits.{width, entryLimit}
 use Rattle.mesh.specs.Mesh.{Corner, missing, threes}
 use Rattle.mesh.specs.Table.{beyondUnlessMissing}
 use Rattle.compaction.specs.Compaction.{firstUses, place, renumber, entries, Result}
@@ -38,14 +38,14 @@ pub record Pointed (attrs : List Float) (w : ℕ) (cs : List ℕ) (q : ℕ) : Ty
   pub is-column : q < 3
   pub count : ℕ
   pub whole : count * w ≡ length attrs
-  pub few : count ≤ 2048
+  pub few : count ≤ entryLimit
   pub within : some (beyondUnlessMissing count) (column q cs) ≡ false
 
 -- the map from old to new numbers, and the count of entries used, where us are the indices used so far
 pub record Tables (us old2new : List ℕ) (used : ℕ) : Type 0 where
   pub counted : used ≡ length us
-  pub wide : length old2new ≡ 2048
-  pub mapped : (i : ℕ) → i < 2048 → getD old2new i 0 ≡ cond (has i us) (place us i) missing
+  pub wide : length old2new ≡ entryLimit
+  pub mapped : (i : ℕ) → i < entryLimit → getD old2new i 0 ≡ cond (has i us) (place us i) missing
 
 -- before the turn of corner k in column q
 pub record Before

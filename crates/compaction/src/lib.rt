@@ -91,9 +91,9 @@ fn compact(
     ensures { λ r. ⌜ Done (now (positions .entry)) (now (textures .entry)) (now (normals .entry)) (now (corners .entry)) (want.resultOf (now (cs .entry)) (now (ps .entry)) (now (ts .entry)) (now (ns .entry))) (want.resultOf (now (cs .exit)) (now (ps .exit)) (now (ts .exit)) (now (ns .exit))) r ⌝ }
 {
     let count = corners.len() / mesh::WIDTH;
-    let mut pmap = [MISSING; 2048];
-    let mut tmap = [MISSING; 2048];
-    let mut nmap = [MISSING; 2048];
+    let mut pmap = [MISSING; mesh::ENTRIES];
+    let mut tmap = [MISSING; mesh::ENTRIES];
+    let mut nmap = [MISSING; mesh::ENTRIES];
     let mut p: u32 = 0;
     let mut t: u32 = 0;
     let mut n: u32 = 0;

@@ -17,7 +17,7 @@ use Rattle.lists.proofs.Copies.{sets-whole}
 use Rattle.lists.proofs.Buckets.{length-span}
 use Rattle.sorting.specs.Sorting.{sortedBy, All}
 use Rattle.sorting.proofs.Laws.{sorted-all, sorted-length}
-use Rattle.mesh.specs.Limits.{width}
+use Rattle.mesh.specs.Limits.{width, entryLimit, cornerLimit}
 use Rattle.mesh.specs.Mesh.{rings}
 use Rattle.edges.specs.Edges.{Edge, key, keys, edgesOf, Irregular, Regular, Oriented, Closed, verdict, thrice, alike, once, hems}
 use Rattle.edges.specs.Answers.{verdictOf, start, end, Hemmed}
@@ -33,7 +33,7 @@ use Rattle.edges.proofs.Ordered.{all-span}
 
 -- ---- over the edges alone
 
-module _ (n : ℕ) (es : List Edge) (few : n ≤ 2048) (fits : length es ≤ 4096) (low : every (inside n) es ≡ true) where
+module _ (n : ℕ) (es : List Edge) (few : n ≤ entryLimit) (fits : length es ≤ cornerLimit) (low : every (inside n) es ≡ true) where
   use-below : (u : ℕ) → u < length es → (key (useAt es u) .0 < n) × (key (useAt es u) .1 < n)
   use-below u h =
       let e : Edge = useAt es u in
@@ -147,7 +147,7 @@ module _ (cs s : List ℕ) (n : ℕ) (e : Edged cs s n) where
   abbrev es : List Edge
   es = edgesOf (rings s cs)
 
-  fits : length es ≤ 4096
+  fits : length es ≤ cornerLimit
   fits = let a : length es ≡ length cs / width = length-uses cs s (e .sound) in omega (arith, e .sound .fits)
 
   -- one column, written whole

@@ -9,7 +9,7 @@ use lib.ListN.{length, getD}
 use lib.Seq.{sets}
 use lib.Dec.{leb, ltb, eqb}
 use Rattle.lists.specs.Lists.{keepIf, span}
-use Rattle.mesh.specs.Limits.{width}
+use Rattle.mesh.specs.Limits.{width, entryLimit, cornerLimit}
 use Rattle.mesh.specs.Mesh.{position, threes}
 use Rattle.mesh.specs.Face.{Sound}
 use Rattle.sorting.specs.Sorting.{sortedBy}
@@ -61,7 +61,7 @@ nextOf i n = cond (ltb (i + 1) n) (i + 1) 0
 -- what the calls between crates rest on: sizes that add up to the corners, at most 2,048 positions, and every corner at one of them
 pub record Edged (cs s : List ℕ) (n : ℕ) : Type 0 where
   pub sound : Sound cs s
-  pub few : n ≤ 2048
+  pub few : n ≤ entryLimit
   pub below : (k : ℕ) → k < length cs / width → getD cs (width * k) 0 < n
 
 -- the uses sorted by higher, then by lower position
@@ -70,8 +70,8 @@ inOrder n lowers highers = sortedBy n lowers (sortedBy n highers (span 0 (length
 
 -- columns of positions below n, and room for their order
 pub record Placed (n : ℕ) (lowers highers first order : List ℕ) : Type 0 where
-  pub few : n ≤ 2048
-  pub fits : length lowers ≤ 4096
+  pub few : n ≤ entryLimit
+  pub fits : length lowers ≤ cornerLimit
   pub higher : length highers ≡ length lowers
   pub earlier : length first ≡ length lowers
   pub later : length order ≡ length lowers
@@ -151,7 +151,7 @@ module _ (lowers highers downs : List ℕ) where
 
 -- the sorted uses, each of which the columns have
 pub record Ready (lowers highers downs order : List ℕ) : Type 0 where
-  pub few : length order ≤ 4096
+  pub few : length order ≤ cornerLimit
   pub higher : length highers ≡ length lowers
   pub down : length downs ≡ length lowers
   pub known : (j : ℕ) → j < length order → getD order j 0 < length lowers

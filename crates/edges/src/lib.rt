@@ -13,7 +13,7 @@ ghost use Prim.Native.Nat.{ℕ, _+_, _*_, _/_, _<_, _≤_};
 ghost use lib.ListN.{length, getD, drop};
 ghost use lib.Dec.{leb, eqb};
 ghost use Rattle.lists.specs.Lists.{span};
-ghost use Rattle.mesh.specs.Limits.{width};
+ghost use Rattle.mesh.specs.Limits.{width, cornerLimit};
 ghost use Rattle.mesh.specs.Mesh.{meshOf, rings};
 ghost use Rattle.mesh.specs.Face.{Sound};
 ghost use Rattle.edges.specs.Edges.{same, edgesOf, verdict};
@@ -125,11 +125,11 @@ pub fn verdict_of(corners: &[u32], sizes: &[u32], positions: usize) -> ShellCond
     requires { ⌜ run.Edged (now corners) (now sizes) positions ⌝ }
     ensures { λ r. ⌜ verdictOf r ≡ verdict (edgesOf (rings (now (sizes .entry)) (now (corners .entry)))) ⌝ }
 {
-    let mut lowers = [0u32; 4096];
-    let mut highers = [0u32; 4096];
-    let mut downs = [0u32; 4096];
-    let mut first = [0u32; 4096];
-    let mut order = [0u32; 4096];
+    let mut lowers = [0u32; mesh::CORNERS];
+    let mut highers = [0u32; mesh::CORNERS];
+    let mut downs = [0u32; mesh::CORNERS];
+    let mut first = [0u32; mesh::CORNERS];
+    let mut order = [0u32; mesh::CORNERS];
     let n = corners.len() / mesh::WIDTH;
     judge(
         corners,
@@ -154,11 +154,11 @@ pub fn hems_of(
     requires { ⌜ run.Edged (now corners) (now sizes) positions × (length (now corners) / width ≤ length (now starts)) × (length (now corners) / width ≤ length (now ends)) ⌝ }
     ensures { λ r. ⌜ Hemmed (edgesOf (rings (now (sizes .entry)) (now (corners .entry)))) (now (starts .entry)) (now (ends .entry)) (now (starts .exit)) (now (ends .exit)) r ⌝ }
 {
-    let mut lowers = [0u32; 4096];
-    let mut highers = [0u32; 4096];
-    let mut downs = [0u32; 4096];
-    let mut first = [0u32; 4096];
-    let mut order = [0u32; 4096];
+    let mut lowers = [0u32; mesh::CORNERS];
+    let mut highers = [0u32; mesh::CORNERS];
+    let mut downs = [0u32; mesh::CORNERS];
+    let mut first = [0u32; mesh::CORNERS];
+    let mut order = [0u32; mesh::CORNERS];
     let n = corners.len() / mesh::WIDTH;
     hem(
         corners,
@@ -307,7 +307,7 @@ fn sort_uses(
 
 // 0, 1, 2, ..
 fn number_uses(order: &mut [u32])
-    requires { ⌜ length (now order) ≤ 4096 ⌝ }
+    requires { ⌜ length (now order) ≤ cornerLimit ⌝ }
     ensures { λ _. ⌜ now (order .exit) ≡ span 0 (length (now (order .entry))) ⌝ }
 {
     let mut i: usize = 0;
@@ -407,7 +407,7 @@ fn tally_use(
 
 // One use more of the present edge.
 fn count_use(t: Tally, down: u32) -> Tally
-    requires { ⌜ t .ups + t .downs < 4096 ⌝ }
+    requires { ⌜ t .ups + t .downs < cornerLimit ⌝ }
     ensures { λ r. ⌜ r ≡ run.counted down t ⌝ }
 {
     if down == 1 {
@@ -431,7 +431,7 @@ fn count_use(t: Tally, down: u32) -> Tally
 
 // No use more of the present edge: what its uses come to is seen.
 fn close_edge(t: Tally) -> Tally
-    requires { ⌜ t .ups + t .downs ≤ 4096 ⌝ }
+    requires { ⌜ t .ups + t .downs ≤ cornerLimit ⌝ }
     ensures { λ r. ⌜ r ≡ run.closed t ⌝ }
 {
     let n = uses_of(t);
@@ -447,7 +447,7 @@ fn close_edge(t: Tally) -> Tally
 
 // How often the present edge is used, in either direction.
 fn uses_of(t: Tally) -> usize
-    requires { ⌜ t .ups + t .downs ≤ 4096 ⌝ }
+    requires { ⌜ t .ups + t .downs ≤ cornerLimit ⌝ }
     ensures { λ r. ⌜ r ≡ t .ups + t .downs ⌝ }
 {
     t.ups + t.downs

@@ -8,7 +8,7 @@ use native.Mathlib.Omega.{arith}
 use lib.ListN.{length, take, length-map}
 use Rattle.lists.specs.Lists.{every, joined, each, sum}
 use Rattle.lists.proofs.Copies.{take-written}
-use Rattle.mesh.specs.Limits.{width}
+use Rattle.mesh.specs.Limits.{width, faceLimit, cornerNumbers}
 use Rattle.mesh.specs.Mesh.{Ring, rings}
 use Rattle.mesh.specs.Face.{Sound}
 use Rattle.mesh.proofs.Faces.{isRing, rings-are, rings-back, sizes-back}
@@ -23,7 +23,7 @@ use Rattle.folded.proofs.Passing.{pieces-rings}
 use Rattle.folded.proofs.Result.{every-pieces, count-pieces}
 
 -- the lists are long enough for every mesh
-pub scratch-ready : (cs s o l p q : List ℕ) → length p ≡ 12288 → length q ≡ 1365 → Ready cs s o l → Ready cs s p q
+pub scratch-ready : (cs s o l p q : List ℕ) → length p ≡ cornerNumbers → length q ≡ faceLimit → Ready cs s o l → Ready cs s p q
 scratch-ready cs s o l p q x z y = record {
   fit = y .fit;
   corners = omega (arith, y .fit .sound .fits);
@@ -31,7 +31,7 @@ scratch-ready cs s o l p q x z y = record {
 }
 
 -- c corners and f faces are written to p and q, which hold p' and q' then
-module _ (cs s o l p p' q q' : List ℕ) (c f : ℕ) (y : Ready cs s o l) (x : length p ≡ 12288) (z : length q ≡ 1365)
+module _ (cs s o l p p' q q' : List ℕ) (c f : ℕ) (y : Ready cs s o l) (x : length p ≡ cornerNumbers) (z : length q ≡ faceLimit)
     (w : Placed (each pieces (rings s cs)) p p' q q' 0 0 c f) where
   abbrev ps : List Ring
   ps = each pieces (rings s cs)

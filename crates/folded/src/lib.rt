@@ -185,8 +185,8 @@ fn remove_larger(
     requires { ⌜ Ready (now corners) (now sizes) (now newcorners) (now newsizes) ⌝ }
     ensures { λ r. ⌜ Placed (want.removed (rings (now (sizes .entry)) (now (corners .entry)))) (now (newcorners .entry)) (now (newcorners .exit)) (now (newsizes .entry)) (now (newsizes .exit)) 0 0 (r .corners) (r .faces) ⌝ }
 {
-    let mut pieces = [0u32; 12288];
-    let mut lens = [0u32; 1365];
+    let mut pieces = [0u32; mesh::CORNER_NUMBERS];
+    let mut lens = [0u32; mesh::FACES];
     let at = all_pieces(corners, sizes, &mut pieces, &mut lens);
     let c = WIDTH * at.corners;
     let f = at.faces;

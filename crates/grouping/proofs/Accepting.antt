@@ -13,7 +13,7 @@ use Rattle.lists.proofs.Bools.{and-left, and-right, by-cases}
 use Rattle.lists.proofs.Counting.{clash}
 use Rattle.lists.proofs.Only.{some-only}
 use Rattle.lists.proofs.Parts.{some-append, every-at, each-joined, every-joined, some-joined}
-use Rattle.mesh.specs.Limits.{width, ringLimit}
+use Rattle.mesh.specs.Limits.{width, ringLimit, cornerLimit, pointNumbers, texelNumbers}
 use Rattle.mesh.specs.Mesh.{Mesh, Ring, meshOf, threes}
 use Rattle.mesh.specs.Table.{meshNumber, astray, astrayAt, ungrouped}
 use Rattle.mesh.proofs.Corners.{isCorner, threes-joined}
@@ -59,13 +59,13 @@ size-at fs k = List·getD-map length fs k []
 -- ---- the mesh
 
 pub record Orderly (p t n : List Float) (fs : List Ring) : Type 0 where
-  pub few-positions : length p ≤ 6144
-  pub few-textures : length t ≤ 4096
-  pub few-normals : length n ≤ 6144
+  pub few-positions : length p ≤ pointNumbers
+  pub few-textures : length t ≤ texelNumbers
+  pub few-normals : length n ≤ pointNumbers
   pub whole-positions : length p % 3 ≡ 0
   pub whole-textures : length t % 2 ≡ 0
   pub whole-normals : length n % 3 ≡ 0
-  pub few-corners : cornerCount fs ≤ 4096
+  pub few-corners : cornerCount fs ≤ cornerLimit
   pub are-rings : every isRing fs ≡ true
   pub are-sized : every sized fs ≡ true
 

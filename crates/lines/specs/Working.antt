@@ -6,6 +6,7 @@ use mathlib.Core.List.{List, [], _∷_}
 use lib.ListN.{length, take, drop}
 use lib.Seq.{sets}
 use Rattle.lists.specs.Lists.{sum}
+use Rattle.mesh.specs.Limits.{cornerLimit}
 use Rattle.mesh.specs.Table.{after}
 use Rattle.edges.specs.Answers.{verdictOf}
 use Rattle.text.specs.Text.{Room}
@@ -41,8 +42,8 @@ pub record Wired (number : ℕ) (flat lengths out : List ℕ) (at : ℕ) : Type 
 -- as many numbers and as many wires as a mesh can have, and room for every sheet
 pub record Ready (flat lengths out : List ℕ) : Type 0 where
   pub within : sum lengths ≤ length flat
-  pub few : length flat ≤ 4096
-  pub few-wires : length lengths ≤ 4096
+  pub few : length flat ≤ cornerLimit
+  pub few-wires : length lengths ≤ cornerLimit
   pub room : 65536 ≤ length out
 
 -- the text stands at the front of the list, n bytes long, and fits in it

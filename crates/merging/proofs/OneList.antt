@@ -9,6 +9,7 @@ use lib.ListN.{length, getD, take, drop}
 use lib.Seq.{sets, take-at}
 use lib.Ieee.{Float}
 use Rattle.lists.proofs.Writing.{sets-front}
+use Rattle.mesh.specs.Limits.{entryLimit, pointNumbers}
 use Rattle.nearby.specs.Pairs.{pairs, comparedAt, nearAt, comparedPairs}
 use Rattle.nearby.specs.Walk.{groups}
 use Rattle.nearby.specs.Engine.{cellsOf, besideAt, nearBy, Points, Listed}
@@ -19,14 +20,14 @@ use Rattle.merging.specs.Working.{Mergeable, Settled}
 
 module _ {t : Float} {w n : ℕ} {s : List Float} {map : List ℕ} (g : Mergeable t w n s map) where
   -- 2,048 points of three coordinates are 6,144 numbers
-  pub fits : length s ≤ 6144
-  fits = let e : w * n ≤ 3 * 2048 = mul-le-mul (g .most) (g .few) in omega (arith, g .long)
+  pub fits : length s ≤ pointNumbers
+  fits = let e : w * n ≤ 3 * entryLimit = mul-le-mul (g .most) (g .few) in omega (arith, g .long)
 
   count-is : n ≡ length s / w
   count-is = sym (ap (λ (k : ℕ). k / w) (sym (g .long) ∙ mul-comm w n) ∙ mul-div-cancel n (let l : 2 ≤ w = g .least in omega arith))
 
   -- the cells stand at the front of their room
-  pub cells-are : (room room' : List ℕ) → length room ≡ 6144 → room' ≡ sets room 0 (cellsOf t s) → take (length s) room' ≡ cellsOf t s
+  pub cells-are : (room room' : List ℕ) → length room ≡ pointNumbers → room' ≡ sets room 0 (cellsOf t s) → take (length s) room' ≡ cellsOf t s
   cells-are room room' l e =
       let k : length (cellsOf t s) ≡ length s = length-cells t s in
       ap (take (length s)) (e ∙ sets-front room (cellsOf t s) (omega (arith, fits)))

@@ -10,6 +10,7 @@ use lib.Seq.{sets}
 use lib.Ieee.{Float, nan, binary64, fits}
 use Rattle.lists.specs.Lists.{some, each}
 use Rattle.lists.proofs.Copies.{take-written}
+use Rattle.mesh.specs.Limits.{pointNumbers}
 use Rattle.floating.specs.Limits.{unfit, boundless, distant}
 use Rattle.floating.specs.Points.{coordinates, pointsOf, Whole}
 use Rattle.floating.specs.Scaling.{boxOf, scaledIn, scaledList}
@@ -51,7 +52,7 @@ module _ (s : List Float) (t : Float) (g : Scalable s t) where
       omega (arith, g .even)
 
   -- the scaled list stands at the front of its room
-  pub scaled-are : (room room' : List Float) → length room ≡ 6144 → room' ≡ sets room 0 (scaledList s) → take (length s) room' ≡ scaledList s
+  pub scaled-are : (room room' : List Float) → length room ≡ pointNumbers → room' ≡ sets room 0 (scaledList s) → take (length s) room' ≡ scaledList s
   scaled-are room room' l e = ap (take (length s)) e ∙ take-written room (scaledList s) (length s) length-scaled (omega (arith, g .few))
 
   module _ (sc : List Float) (are : sc ≡ scaledList s) where

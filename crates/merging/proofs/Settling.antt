@@ -13,6 +13,7 @@ use borrow.Author.Tests.{eqb-true, eqb-false, ltb-true, ltb-false}
 use Rattle.lists.specs.Lists.{some, has, joined}
 use Rattle.lists.proofs.Bools.{by-cases, true-false, or-false-left, or-false-right}
 use Rattle.lists.proofs.Parts.{some-append, joined-snoc}
+use Rattle.mesh.specs.Limits.{entryLimit}
 use Rattle.nearby.specs.Walk.{groupFrom, groupsBelow, unlessHas, groups}
 use Rattle.nearby.specs.Engine.{Taken, Listed, Starts, Walked}
 use Rattle.nearby.proofs.Counting.{count-le}
@@ -62,25 +63,25 @@ pub record Settling (r : ℕ → ℕ → Bool) (w : ℕ) (s : List Float) (n : �
   pub long : length map ≡ length map₀
   pub sent : (k : ℕ) → k < n → getD seen k false ≡ true → getD map k 0 ≡ sentTo w s (groupsBelow r n i) k
   pub small : (k : ℕ) → k < n → getD seen k false ≡ true → getD map k 0 < n
-  pub order-long : length order ≡ 2048
-  pub seen-long : length seen ≡ 2048
-  pub node-long : length node ≡ 2048
-  pub left-long : length left ≡ 2048
+  pub order-long : length order ≡ entryLimit
+  pub seen-long : length seen ≡ entryLimit
+  pub node-long : length node ≡ entryLimit
+  pub left-long : length left ≡ entryLimit
 
-pub settle-begins : (r : ℕ → ℕ → Bool) (w : ℕ) (s : List Float) (n : ℕ) (map : List ℕ) → n ≤ 2048 → Settling r w s n map map (replicate 2048 0) (replicate 2048 false) (replicate 2048 0) (replicate 2048 0) 0 0
+pub settle-begins : (r : ℕ → ℕ → Bool) (w : ℕ) (s : List Float) (n : ℕ) (map : List ℕ) → n ≤ entryLimit → Settling r w s n map map (replicate entryLimit 0) (replicate entryLimit false) (replicate entryLimit 0) (replicate entryLimit 0) 0 0
 unfolding groupsBelow
 settle-begins r w s n map h = record {
   upto = omega arith;
-  held = taken-none n 2048 (replicate 2048 0) (omega (arith, length-replicate {A = ℕ} 2048 0)) h;
+  held = taken-none n entryLimit (replicate entryLimit 0) (omega (arith, length-replicate {A = ℕ} entryLimit 0)) h;
   list = refl;
   lowest = λ k l. absurd (let z : suc k ≤ 0 = l in omega arith);
   long = refl;
-  sent = λ k l e. true-false (sym e ∙ getD-none 2048 k);
-  small = λ k l e. true-false (sym e ∙ getD-none 2048 k);
-  order-long = length-replicate {A = ℕ} 2048 0;
-  seen-long = length-replicate {A = Bool} 2048 false;
-  node-long = length-replicate {A = ℕ} 2048 0;
-  left-long = length-replicate {A = ℕ} 2048 0;
+  sent = λ k l e. true-false (sym e ∙ getD-none entryLimit k);
+  small = λ k l e. true-false (sym e ∙ getD-none entryLimit k);
+  order-long = length-replicate {A = ℕ} entryLimit 0;
+  seen-long = length-replicate {A = Bool} entryLimit false;
+  node-long = length-replicate {A = ℕ} entryLimit 0;
+  left-long = length-replicate {A = ℕ} entryLimit 0;
 }
 
 module _ {r : ℕ → ℕ → Bool} {w : ℕ} {s : List Float} {n : ℕ} {map₀ map order : List ℕ} {seen : List Bool} {node left : List ℕ} {taken i : ℕ} (g : Settling r w s n map₀ map order seen node left taken i) where

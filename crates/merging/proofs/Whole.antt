@@ -13,7 +13,7 @@ use borrow.Author.Tests.{eqb-false}
 use Rattle.lists.specs.Lists.{joined}
 use Rattle.lists.proofs.Bools.{by-cases}
 use Rattle.lists.proofs.Mapping.{map-same}
-use Rattle.mesh.specs.Limits.{width}
+use Rattle.mesh.specs.Limits.{width, entryLimit}
 use Rattle.mesh.specs.Mesh.{Mesh, Corner, missing, threes, cornerAt, positionCount, textureCount, normalCount}
 use Rattle.mesh.specs.Table.{after}
 use Rattle.mesh.proofs.Accepted.{Accepted, Found, accepted}
@@ -57,10 +57,10 @@ module _ (m : Mesh) (t : Float) (out : List ℕ) (earns : mergeNumber m t (lengt
   pub positions-ready : Scalable (m .positions) t
   positions-ready = record { few = a .limits .positions; even = a .whole .positions; bounded = c .positions; fit = c .fit }
 
-  pub positions-few : length (m .positions) / 3 ≤ 2048
+  pub positions-few : length (m .positions) / 3 ≤ entryLimit
   positions-few = omega (arith, a .limits .positions)
 
-  pub textures-ready : (to : List ℕ) → length to ≡ 2048 → Mergeable t 2 (length (m .textures) / 2) (m .textures) to
+  pub textures-ready : (to : List ℕ) → length to ≡ entryLimit → Mergeable t 2 (length (m .textures) / 2) (m .textures) to
   textures-ready to l = record {
     least = lit≤ tt;
     most = lit≤ tt;
@@ -70,7 +70,7 @@ module _ (m : Mesh) (t : Float) (out : List ℕ) (earns : mergeNumber m t (lengt
     room = omega (arith, a .limits .textures);
   }
 
-  pub normals-ready : (to : List ℕ) → length to ≡ 2048 → Mergeable t 3 (length (m .normals) / 3) (m .normals) to
+  pub normals-ready : (to : List ℕ) → length to ≡ entryLimit → Mergeable t 3 (length (m .normals) / 3) (m .normals) to
   normals-ready to l = record {
     least = lit≤ tt;
     most = lit≤ tt;
@@ -80,7 +80,7 @@ module _ (m : Mesh) (t : Float) (out : List ℕ) (earns : mergeNumber m t (lengt
     room = omega (arith, a .limits .normals);
   }
 
-  pub corners-ready : (p u n : List ℕ) → length p ≡ 2048 → length u ≡ 2048 → length n ≡ 2048 → Indexed (m .corners) p u n out
+  pub corners-ready : (p u n : List ℕ) → length p ≡ entryLimit → length u ≡ entryLimit → length n ≡ entryLimit → Indexed (m .corners) p u n out
   corners-ready p u n lp lu ln = record {
     even = a .whole .corners;
     few = a .limits .corners;

@@ -7,7 +7,7 @@ use lib.ListN.{length, getD}
 use lib.Seq.{slice}
 use lib.Ieee.{Float}
 use Rattle.lists.specs.Lists.{some, has}
-use Rattle.mesh.specs.Limits.{width}
+use Rattle.mesh.specs.Limits.{width, entryLimit, pointNumbers, cornerNumbers}
 use Rattle.mesh.specs.Mesh.{Corner, position, texture, normal, missing}
 use Rattle.floating.specs.Limits.{unfit, boundless, distant}
 use Rattle.merging.specs.Centre.{representative, sentTo}
@@ -17,7 +17,7 @@ use Rattle.merging.specs.Merging.{unlessMissing}
 pub record Grouped (w n : ℕ) (s : List Float) (order : List ℕ) (from to : ℕ) : Type 0 where
   pub least : 2 ≤ w
   pub most : w ≤ 3
-  pub few : n ≤ 2048
+  pub few : n ≤ entryLimit
   pub long : w * n ≡ length s
   pub some : from < to
   pub room : to ≤ length order
@@ -34,7 +34,7 @@ pub record Sent (w n : ℕ) (s : List Float) (g : List ℕ) (map map' : List ℕ
 pub record Mergeable (t : Float) (w n : ℕ) (s : List Float) (map : List ℕ) : Type 0 where
   pub least : 2 ≤ w
   pub most : w ≤ 3
-  pub few : n ≤ 2048
+  pub few : n ≤ entryLimit
   pub long : w * n ≡ length s
   pub near : some (distant t) s ≡ false
   pub room : n ≤ length map
@@ -47,7 +47,7 @@ pub record Settled (n : ℕ) (to : ℕ → ℕ) (map map' : List ℕ) : Type 0 w
 
 -- positions that rows 1, 2 and 7 let through, with a tolerance that row 6 does
 pub record Scalable (s : List Float) (t : Float) : Type 0 where
-  pub few : length s ≤ 6144
+  pub few : length s ≤ pointNumbers
   pub even : length s % 3 ≡ 0
   pub bounded : some boundless s ≡ false
   pub fit : unfit t ≡ false
@@ -60,7 +60,7 @@ sentCorner p t n c =
 -- corners whose indices the maps have
 pub record Indexed (cs p t n out : List ℕ) : Type 0 where
   pub even : length cs % width ≡ 0
-  pub few : length cs ≤ 12288
+  pub few : length cs ≤ cornerNumbers
   pub room : length cs ≤ length out
   pub positions : (k : ℕ) → k < length cs / width → getD cs (width * k) 0 < length p
   pub textures : (k : ℕ) → k < length cs / width → (getD cs (width * k + 1) 0 ≡ missing → ⊥) → getD cs (width * k + 1) 0 < length t

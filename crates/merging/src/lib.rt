@@ -162,9 +162,9 @@ fn merge(
     requires { ⌜ mergeNumber (meshOf (now positions) (now textures) (now normals) (now corners) (now sizes)) t (length (now out)) ≡ 0 ⌝ }
     ensures { λ r. ⌜ PutTogether (meshOf (now (positions .entry)) (now (textures .entry)) (now (normals .entry)) (now (corners .entry)) (now (sizes .entry))) t (now (out .entry)) r (now (out .exit)) ⌝ }
 {
-    let mut pmap = [0u32; 2048];
-    let mut tmap = [0u32; 2048];
-    let mut nmap = [0u32; 2048];
+    let mut pmap = [0u32; mesh::ENTRIES];
+    let mut tmap = [0u32; mesh::ENTRIES];
+    let mut nmap = [0u32; mesh::ENTRIES];
     let p = merge_positions(positions, t, &mut pmap);
     let u = merge_list(textures, 2, t, textures.len() / 2, &mut tmap);
     let n = merge_list(normals, 3, t, normals.len() / 3, &mut nmap);
@@ -185,7 +185,7 @@ fn merge_positions(positions: &[f64], t: f64, map: &mut [u32]) -> usize
     if positions.len() == 0 {
         return 0;
     }
-    let mut room = [0.0f64; 6144];
+    let mut room = [0.0f64; mesh::POINT_NUMBERS];
     floating::scale(positions, &mut room);
     let end = positions.len();
     let scaled = &room[..end];
@@ -290,10 +290,10 @@ fn merge_groups(s: &[f64], w: usize, t: f64, cells: &[u64], n: usize, map: &mut 
     requires { ⌜ (Listed w n (now s) (now cells)) × (n ≤ length (now map)) ⌝ }
     ensures { λ _. ⌜ Settled n (centre.sentTo w (now (s .entry)) (groups (nearBy t w (now (s .entry)) (now (cells .entry))) n)) (now (map .entry)) (now (map .exit)) ⌝ }
 {
-    let mut order = [0usize; 2048];
-    let mut seen = [false; 2048];
-    let mut node = [0usize; 2048];
-    let mut left = [0usize; 2048];
+    let mut order = [0usize; mesh::ENTRIES];
+    let mut seen = [false; mesh::ENTRIES];
+    let mut node = [0usize; mesh::ENTRIES];
+    let mut left = [0usize; mesh::ENTRIES];
     let mut taken: usize = 0;
     let mut i: usize = 0;
     while i < n {
@@ -325,7 +325,7 @@ fn merge_list(s: &[f64], w: usize, t: f64, n: usize, map: &mut [u32]) -> usize
     requires { ⌜ Mergeable t w n (now s) (now map) ⌝ }
     ensures { λ r. ⌜ (r ≡ comparedPairs t w (now (s .entry))) × (Settled n (mergedTo t w (now (s .entry))) (now (map .entry)) (now (map .exit))) ⌝ }
 {
-    let mut room = [0u64; 6144];
+    let mut room = [0u64; mesh::POINT_NUMBERS];
     nearby::fill_cells(s, t, &mut room);
     let end = s.len();
     let cells = &room[..end];

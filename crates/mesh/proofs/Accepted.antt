@@ -9,7 +9,7 @@ use borrow.Author.Tests.{ltb-false, leb-false, eqb-true, not-false, le-ltb, lt-l
 use Rattle.lists.specs.Lists.{sum}
 use Rattle.lists.proofs.Bools.{or-false-left, or-false-right, or-neither, by-cases}
 use Rattle.lists.proofs.Parts.{some-false-at, some-none}
-use Rattle.mesh.specs.Limits.{width, ringLimit}
+use Rattle.mesh.specs.Limits.{width, ringLimit, faceLimit, pointNumbers, texelNumbers, cornerNumbers}
 use Rattle.mesh.specs.Mesh.{Mesh, threes, missing, positionCount, textureCount, normalCount}
 use Rattle.mesh.specs.Table.{overLimits, uneven, misfit, outside, ungrouped, astray, astrayAt, beyondUnlessMissing, kind, falls, meshNumber}
 use Rattle.mesh.specs.Face.{Sound}
@@ -19,29 +19,29 @@ use Rattle.mesh.proofs.Numbers.{Shaped, Clear, shaped, clear, clear-0}
 -- ---- row 1: no list is too long
 
 pub record Within (m : Mesh) : Type 0 where
-  pub positions : length (m .positions) ≤ 6144
-  pub textures : length (m .textures) ≤ 4096
-  pub normals : length (m .normals) ≤ 6144
-  pub corners : length (m .corners) ≤ 12288
-  pub sizes : length (m .sizes) ≤ 1365
+  pub positions : length (m .positions) ≤ pointNumbers
+  pub textures : length (m .textures) ≤ texelNumbers
+  pub normals : length (m .normals) ≤ pointNumbers
+  pub corners : length (m .corners) ≤ cornerNumbers
+  pub sizes : length (m .sizes) ≤ faceLimit
 
 pub within : (m : Mesh) → overLimits m ≡ false → Within m
 unfolding overLimits
 within m h =
-    let a = ltb 6144 (length (m .positions)) in
-    let b = ltb 4096 (length (m .textures)) in
-    let c = ltb 6144 (length (m .normals)) in
-    let d = ltb 12288 (length (m .corners)) in
-    let e = ltb 1365 (length (m .sizes)) in
+    let a = ltb pointNumbers (length (m .positions)) in
+    let b = ltb texelNumbers (length (m .textures)) in
+    let c = ltb pointNumbers (length (m .normals)) in
+    let d = ltb cornerNumbers (length (m .corners)) in
+    let e = ltb faceLimit (length (m .sizes)) in
     let h3 : (a || b || c || d) ≡ false = or-false-left (a || b || c || d) e h in
     let h2 : (a || b || c) ≡ false = or-false-left (a || b || c) d h3 in
     let h1 : (a || b) ≡ false = or-false-left (a || b) c h2 in
     record {
-      positions = ltb-false 6144 (length (m .positions)) (or-false-left a b h1);
-      textures = ltb-false 4096 (length (m .textures)) (or-false-right a b h1);
-      normals = ltb-false 6144 (length (m .normals)) (or-false-right (a || b) c h2);
-      corners = ltb-false 12288 (length (m .corners)) (or-false-right (a || b || c) d h3);
-      sizes = ltb-false 1365 (length (m .sizes)) (or-false-right (a || b || c || d) e h);
+      positions = ltb-false pointNumbers (length (m .positions)) (or-false-left a b h1);
+      textures = ltb-false texelNumbers (length (m .textures)) (or-false-right a b h1);
+      normals = ltb-false pointNumbers (length (m .normals)) (or-false-right (a || b) c h2);
+      corners = ltb-false cornerNumbers (length (m .corners)) (or-false-right (a || b || c) d h3);
+      sizes = ltb-false faceLimit (length (m .sizes)) (or-false-right (a || b || c || d) e h);
     }
 
 pub within-back : (m : Mesh) → Within m → overLimits m ≡ false

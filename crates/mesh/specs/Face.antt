@@ -6,7 +6,7 @@ use mathlib.Core.List.{List, []}
 use lib.ListN.{length, getD, take, drop}
 use lib.Dec.{ltb, eqb}
 use Rattle.lists.specs.Lists.{sum}
-use Rattle.mesh.specs.Limits.{width}
+use Rattle.mesh.specs.Limits.{width, faceLimit, cornerNumbers}
 use Rattle.mesh.specs.Mesh.{Mesh}
 use Rattle.mesh.specs.Table.{shapeNumber}
 
@@ -28,8 +28,8 @@ facePart m k = listIf (ltb k (length (m .sizes)) && eqb (shapeNumber m) 0) (face
 
 -- sizes that add up to the corners: what taking a face's part rests on
 pub record Sound (cs s : List ℕ) : Type 0 where
-  pub few : length s ≤ 1365
-  pub fits : length cs ≤ 12288
+  pub few : length s ≤ faceLimit
+  pub fits : length cs ≤ cornerNumbers
   pub adds : width * sum s ≡ length cs
 
 -- face k, before which `at` corners stand

@@ -6,7 +6,7 @@ use mathlib.Core.List.{List, [], _∷_, map}
 use lib.ListN.{length}
 use lib.Dec.{ltb, leb, eqb}
 use Rattle.lists.specs.Lists.{some, sum}
-use Rattle.mesh.specs.Limits.{width, ringLimit}
+use Rattle.mesh.specs.Limits.{width, ringLimit, entryLimit, cornerLimit, faceLimit}
 use Rattle.mesh.specs.Mesh.{Mesh, Corner, position, texture, normal, missing, threes, positionCount, textureCount, normalCount}
 
 -- a row of the table: its number where its rule says so, else 0
@@ -23,11 +23,11 @@ firstOf (suc n ∷ ns) = suc n
 -- 1: a list holds more numbers than limit times width, or there are over 1,365 face sizes
 unfoldable pub overLimits : Mesh → Bool
 overLimits m =
-    ltb (2048 * 3) (length (m .positions))
-    || ltb (2048 * 2) (length (m .textures))
-    || ltb (2048 * 3) (length (m .normals))
-    || ltb (4096 * width) (length (m .corners))
-    || ltb 1365 (length (m .sizes))
+    ltb (entryLimit * 3) (length (m .positions))
+    || ltb (entryLimit * 2) (length (m .textures))
+    || ltb (entryLimit * 3) (length (m .normals))
+    || ltb (cornerLimit * width) (length (m .corners))
+    || ltb faceLimit (length (m .sizes))
 
 -- 2: a list's length is no multiple of its width, or the sizes don't add up to the corners
 unfoldable pub uneven : Mesh → Bool

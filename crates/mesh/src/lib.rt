@@ -9,7 +9,7 @@ ghost use mathlib.Core.List.{map};
 ghost use Prim.Native.Nat.{ℕ, _+_, _*_, _-_, _<_, _≤_, _/_, _%_};
 ghost use lib.ListN.{length, getD, take, drop};
 ghost use Rattle.lists.specs.Lists.{some, sum};
-ghost use Rattle.mesh.specs.Limits.{width};
+ghost use Rattle.mesh.specs.Limits.{width, faceLimit};
 ghost use Rattle.mesh.specs.Mesh.{meshOf, threes};
 ghost use Rattle.mesh.specs.Table as table;
 ghost use Rattle.mesh.specs.Face as part;
@@ -22,6 +22,20 @@ pub const WIDTH: usize = 3;
 
 // The most corners that a face may have.
 pub const RING: usize = 32;
+
+// The most positions, texture points or normals, the most corners and the most faces of a mesh.
+pub const ENTRIES: usize = 2048;
+
+pub const CORNERS: usize = 4096;
+
+pub const FACES: usize = 1365;
+
+// How many numbers they have: positions or normals, texture points, corners.
+pub const POINT_NUMBERS: usize = 3 * ENTRIES;
+
+pub const TEXEL_NUMBERS: usize = 2 * ENTRIES;
+
+pub const CORNER_NUMBERS: usize = WIDTH * CORNERS;
 
 // The number that the five lists earn: the first row of 1 to 5 whose rule says so, or 0.
 pub fn number(
@@ -76,7 +90,7 @@ pub fn face_at<'a>(corners: &'a [u32], sizes: &[u32], k: usize, at: usize) -> &'
 
 // How many corners stand before face k.
 pub fn offset(sizes: &[u32], k: usize) -> usize
-    requires { ⌜ (k ≤ length (now sizes)) × (length (now sizes) ≤ 1365) ⌝ }
+    requires { ⌜ (k ≤ length (now sizes)) × (length (now sizes) ≤ faceLimit) ⌝ }
     ensures { λ r. ⌜ (r ≡ part.offsetOf (now (sizes .entry)) k) × (r ≤ 4294967295 * k) ⌝ }
 {
     let mut t: usize = 0;
@@ -123,19 +137,19 @@ fn over_limits(
 ) -> bool
     ensures { λ r. ⌜ r ≡ table.overLimits (meshOf (now (positions .entry)) (now (textures .entry)) (now (normals .entry)) (now (corners .entry)) (now (sizes .entry))) ⌝ }
 {
-    if 6144 < positions.len() {
+    if POINT_NUMBERS < positions.len() {
         return true;
     }
-    if 4096 < textures.len() {
+    if TEXEL_NUMBERS < textures.len() {
         return true;
     }
-    if 6144 < normals.len() {
+    if POINT_NUMBERS < normals.len() {
         return true;
     }
-    if 12288 < corners.len() {
+    if CORNER_NUMBERS < corners.len() {
         return true;
     }
-    1365 < sizes.len()
+    FACES < sizes.len()
 }
 
 // Row 2: a list's length is no multiple of its width, or the sizes don't add up to the corners.
@@ -146,7 +160,7 @@ fn uneven(
     corners: &[u32],
     sizes: &[u32],
 ) -> bool
-    requires { ⌜ length (now sizes) ≤ 1365 ⌝ }
+    requires { ⌜ length (now sizes) ≤ faceLimit ⌝ }
     ensures { λ r. ⌜ r ≡ table.uneven (meshOf (now (positions .entry)) (now (textures .entry)) (now (normals .entry)) (now (corners .entry)) (now (sizes .entry))) ⌝ }
 {
     if positions.len() % 3 != 0 {

@@ -11,7 +11,7 @@ use lib.Ieee.{Float}
 use borrow.Author.Tests.{lt-ltb, le-ltb, ltb-false}
 use Rattle.lists.proofs.Bools.{or-false-left, or-false-right}
 use Rattle.lists.specs.Lists.{some, joined, each, sum}
-use Rattle.mesh.specs.Limits.{width}
+use Rattle.mesh.specs.Limits.{width, faceLimit, pointNumbers, texelNumbers, cornerNumbers}
 use Rattle.mesh.specs.Mesh.{meshOf, rings}
 use Rattle.mesh.specs.Table.{when, astray, astrayAt, short, meshNumber}
 use Rattle.mesh.specs.Face.{Sound}
@@ -171,19 +171,19 @@ read-accepted file e =
 pub not-short : (p t n : List Float) (c s : List ℕ) → short (fullRoom (length p) (length t) (length n) (length c) (length s)) ≡ false → Full p t n c s
 unfolding short fullRoom
 not-short p t n c s e =
-    let a = ltb (length p) 6144 in
-    let b = ltb (length t) 4096 in
-    let d = ltb (length n) 6144 in
-    let f = ltb (length c) 12288 in
-    let g = ltb (length s) 1365 in
+    let a = ltb (length p) pointNumbers in
+    let b = ltb (length t) texelNumbers in
+    let d = ltb (length n) pointNumbers in
+    let f = ltb (length c) cornerNumbers in
+    let g = ltb (length s) faceLimit in
     let e1 : (b || (d || (f || (g || false)))) ≡ false = or-false-right a (b || (d || (f || (g || false)))) e in
     let e2 : (d || (f || (g || false))) ≡ false = or-false-right b (d || (f || (g || false))) e1 in
     let e3 : (f || (g || false)) ≡ false = or-false-right d (f || (g || false)) e2 in
     let e4 : (g || false) ≡ false = or-false-right f (g || false) e3 in
     record {
-      positions = ltb-false (length p) 6144 (or-false-left a (b || (d || (f || (g || false)))) e);
-      textures = ltb-false (length t) 4096 (or-false-left b (d || (f || (g || false))) e1);
-      normals = ltb-false (length n) 6144 (or-false-left d (f || (g || false)) e2);
-      corners = ltb-false (length c) 12288 (or-false-left f (g || false) e3);
-      sizes = ltb-false (length s) 1365 (or-false-left g false e4);
+      positions = ltb-false (length p) pointNumbers (or-false-left a (b || (d || (f || (g || false)))) e);
+      textures = ltb-false (length t) texelNumbers (or-false-left b (d || (f || (g || false))) e1);
+      normals = ltb-false (length n) pointNumbers (or-false-left d (f || (g || false)) e2);
+      corners = ltb-false (length c) cornerNumbers (or-false-left f (g || false) e3);
+      sizes = ltb-false (length s) faceLimit (or-false-left g false e4);
     }

@@ -10,7 +10,7 @@ use borrow.Author.Tests.{ltb-false, le-leb}
 use Rattle.lists.specs.Lists.{every}
 use Rattle.lists.proofs.Bools.{by-cases, and-both}
 use Rattle.lists.proofs.Parts.{every-append}
-use Rattle.mesh.specs.Limits.{ringLimit}
+use Rattle.mesh.specs.Limits.{ringLimit, cornerLimit, pointNumbers, texelNumbers}
 use Rattle.mesh.specs.Mesh.{Ring}
 use Rattle.mesh.proofs.Faces.{isRing}
 use Rattle.grouping.specs.Push.{cornerCount}
@@ -46,11 +46,11 @@ take-sane : (s : List ℕ) (z : Reader) (r : Record) → Fitted (length s) (z .a
 unfolding take1
 take-sane s z (Position p) f h =
     let d = z .drawn in
-    limited-sane (length s) (ltb 6144 (length (d .positions) + 3)) z (reader (z .at + 28) 0 false (withPosition (coordinates p) d)) h
+    limited-sane (length s) (ltb pointNumbers (length (d .positions) + 3)) z (reader (z .at + 28) 0 false (withPosition (coordinates p) d)) h
     (λ e. record {
       place = f .fits;
       drawn = record {
-        few-positions = omega (arith, ltb-false 6144 (length (d .positions) + 3) e, length-append (d .positions) (coordinates p));
+        few-positions = omega (arith, ltb-false pointNumbers (length (d .positions) + 3) e, length-append (d .positions) (coordinates p));
         few-textures = h .drawn .few-textures;
         few-normals = h .drawn .few-normals;
         whole-positions = omega (arith, h .drawn .whole-positions, length-append (d .positions) (coordinates p));
@@ -63,12 +63,12 @@ take-sane s z (Position p) f h =
     })
 take-sane s z (Texture t) f h =
     let d = z .drawn in
-    limited-sane (length s) (ltb 4096 (length (d .textures) + 2)) z (reader (z .at + 20) 0 false (withTexture (t .u ∷ t .v ∷ []) d)) h
+    limited-sane (length s) (ltb texelNumbers (length (d .textures) + 2)) z (reader (z .at + 20) 0 false (withTexture (t .u ∷ t .v ∷ []) d)) h
     (λ e. record {
       place = f .fits;
       drawn = record {
         few-positions = h .drawn .few-positions;
-        few-textures = omega (arith, ltb-false 4096 (length (d .textures) + 2) e, length-append (d .textures) (t .u ∷ t .v ∷ []));
+        few-textures = omega (arith, ltb-false texelNumbers (length (d .textures) + 2) e, length-append (d .textures) (t .u ∷ t .v ∷ []));
         few-normals = h .drawn .few-normals;
         whole-positions = h .drawn .whole-positions;
         whole-textures = omega (arith, h .drawn .whole-textures, length-append (d .textures) (t .u ∷ t .v ∷ []));
@@ -80,13 +80,13 @@ take-sane s z (Texture t) f h =
     })
 take-sane s z (Normal p) f h =
     let d = z .drawn in
-    limited-sane (length s) (ltb 6144 (length (d .normals) + 3)) z (reader (z .at + 28) 0 false (withNormal (coordinates p) d)) h
+    limited-sane (length s) (ltb pointNumbers (length (d .normals) + 3)) z (reader (z .at + 28) 0 false (withNormal (coordinates p) d)) h
     (λ e. record {
       place = f .fits;
       drawn = record {
         few-positions = h .drawn .few-positions;
         few-textures = h .drawn .few-textures;
-        few-normals = omega (arith, ltb-false 6144 (length (d .normals) + 3) e, length-append (d .normals) (coordinates p));
+        few-normals = omega (arith, ltb-false pointNumbers (length (d .normals) + 3) e, length-append (d .normals) (coordinates p));
         whole-positions = h .drawn .whole-positions;
         whole-textures = h .drawn .whole-textures;
         whole-normals = omega (arith, h .drawn .whole-normals, length-append (d .normals) (coordinates p));
@@ -102,7 +102,7 @@ take-sane s z (Face a n) f h =
     let d = z .drawn in
     let ring = ringFrom s n a in
     rw e
-    (limited-sane (length s) (ltb 4096 (cornerCount (d .faces) + n)) z (reader (a + 12 * n) 0 false (withFace ring d)) h
+    (limited-sane (length s) (ltb cornerLimit (cornerCount (d .faces) + n)) z (reader (a + 12 * n) 0 false (withFace ring d)) h
     (λ g. record {
       place = f .fits;
       drawn = record {
@@ -112,7 +112,7 @@ take-sane s z (Face a n) f h =
         whole-positions = h .drawn .whole-positions;
         whole-textures = h .drawn .whole-textures;
         whole-normals = h .drawn .whole-normals;
-        few-corners = omega (arith, ltb-false 4096 (cornerCount (d .faces) + n) g, count-append (d .faces) (ring ∷ []), ring-length s n a);
+        few-corners = omega (arith, ltb-false cornerLimit (cornerCount (d .faces) + n) g, count-append (d .faces) (ring ∷ []), ring-length s n a);
         are-rings = every-more isRing (d .faces) ring (h .drawn .are-rings) (ring-corners s n a);
         are-sized = every-more sized (d .faces) ring (h .drawn .are-sized) (face-sized s n a (ltb-false n 3 e) (f .placed .1));
       };

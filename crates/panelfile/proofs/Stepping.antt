@@ -15,7 +15,7 @@ use borrow.Author.Tests.{lt-ltb, le-ltb}
 use Rattle.lists.specs.Lists.{joined, each}
 use Rattle.lists.proofs.Writing.{take-sets}
 use Rattle.lists.proofs.Parts.{each-append}
-use Rattle.mesh.specs.Limits.{width}
+use Rattle.mesh.specs.Limits.{width, entryLimit, cornerLimit, faceLimit, pointNumbers, texelNumbers, cornerNumbers}
 use Rattle.mesh.specs.Mesh.{Ring}
 use Rattle.grouping.specs.Push.{cornerCount}
 use Rattle.grouping.proofs.Placing.{count-append}
@@ -71,21 +71,21 @@ length-of n l d h e = ap length (sym e) ∙ length-take-le n l h
 abbrev pub atPosition : Progress → Progress
 atPosition x = record { at = x .at + 28; number = x .number; ended = x .ended; positions = x .positions + 1; textures = x .textures; normals = x .normals; corners = x .corners; faces = x .faces }
 
-module _ (file : List ℕ) (x : Progress) (pt : Point) (p t n : List Float) (c s : List ℕ) (a : Able (length file) (Position pt) x) (l : length p ≡ 6144) where
-  pub position-over : 2048 ≤ x .positions → Stepped file (Position pt) x (stoppedWith x 1) p p t t n n c c s s
+module _ (file : List ℕ) (x : Progress) (pt : Point) (p t n : List Float) (c s : List ℕ) (a : Able (length file) (Position pt) x) (l : length p ≡ pointNumbers) where
+  pub position-over : entryLimit ≤ x .positions → Stepped file (Position pt) x (stoppedWith x 1) p p t t n n c c s s
   unfolding take1
   position-over h =
       stepped-stop file (Position pt) x 1 p t n c s a (λ e. omega arith)
-      (λ z k. over-limit _ z _ (lt-ltb 6144 (length (z .drawn .positions) + 3) (omega (arith, length-of (3 * x .positions) p (z .drawn .positions) (omega (arith, a .within .positions)) (k .positions)))))
+      (λ z k. over-limit _ z _ (lt-ltb pointNumbers (length (z .drawn .positions) + 3) (omega (arith, length-of (3 * x .positions) p (z .drawn .positions) (omega (arith, a .within .positions)) (k .positions)))))
 
-  pub position-taken : x .positions < 2048 → Stepped file (Position pt) x (atPosition x) p (sets p (3 * x .positions) (coordinates pt)) t t n n c c s s
+  pub position-taken : x .positions < entryLimit → Stepped file (Position pt) x (atPosition x) p (sets p (3 * x .positions) (coordinates pt)) t t n n c c s s
   unfolding take1
   position-taken h = record {
     within = record { positions = omega arith; textures = a .within .textures; normals = a .within .normals; corners = a .within .corners; faces = a .within .faces; place = a .fits };
     moved = λ e i. omega arith;
     taken = λ z k.
-        let e : ltb 6144 (length (z .drawn .positions) + 3) ≡ false =
-        le-ltb 6144 (length (z .drawn .positions) + 3) (omega (arith, length-of (3 * x .positions) p (z .drawn .positions) (omega arith) (k .positions))) in
+        let e : ltb pointNumbers (length (z .drawn .positions) + 3) ≡ false =
+        le-ltb pointNumbers (length (z .drawn .positions) + 3) (omega (arith, length-of (3 * x .positions) p (z .drawn .positions) (omega arith) (k .positions))) in
         subst⁻¹ (λ (b : Bool). Holds (limited b z (reader (z .at + 28) 0 false (withPosition (coordinates pt) (z .drawn)))) (atPosition x) (sets p (3 * x .positions) (coordinates pt)) t n c s) e
         (record {
           place = ap (λ (i : ℕ). i + 28) (k .place);
@@ -105,21 +105,21 @@ module _ (file : List ℕ) (x : Progress) (pt : Point) (p t n : List Float) (c s
 abbrev pub atTexture : Progress → Progress
 atTexture x = record { at = x .at + 20; number = x .number; ended = x .ended; positions = x .positions; textures = x .textures + 1; normals = x .normals; corners = x .corners; faces = x .faces }
 
-module _ (file : List ℕ) (x : Progress) (tx : Texel) (p t n : List Float) (c s : List ℕ) (a : Able (length file) (Texture tx) x) (l : length t ≡ 4096) where
-  pub texture-over : 2048 ≤ x .textures → Stepped file (Texture tx) x (stoppedWith x 1) p p t t n n c c s s
+module _ (file : List ℕ) (x : Progress) (tx : Texel) (p t n : List Float) (c s : List ℕ) (a : Able (length file) (Texture tx) x) (l : length t ≡ texelNumbers) where
+  pub texture-over : entryLimit ≤ x .textures → Stepped file (Texture tx) x (stoppedWith x 1) p p t t n n c c s s
   unfolding take1
   texture-over h =
       stepped-stop file (Texture tx) x 1 p t n c s a (λ e. omega arith)
-      (λ z k. over-limit _ z _ (lt-ltb 4096 (length (z .drawn .textures) + 2) (omega (arith, length-of (2 * x .textures) t (z .drawn .textures) (omega (arith, a .within .textures)) (k .textures)))))
+      (λ z k. over-limit _ z _ (lt-ltb texelNumbers (length (z .drawn .textures) + 2) (omega (arith, length-of (2 * x .textures) t (z .drawn .textures) (omega (arith, a .within .textures)) (k .textures)))))
 
-  pub texture-taken : x .textures < 2048 → Stepped file (Texture tx) x (atTexture x) p p t (sets t (2 * x .textures) (tx .u ∷ tx .v ∷ [])) n n c c s s
+  pub texture-taken : x .textures < entryLimit → Stepped file (Texture tx) x (atTexture x) p p t (sets t (2 * x .textures) (tx .u ∷ tx .v ∷ [])) n n c c s s
   unfolding take1
   texture-taken h = record {
     within = record { positions = a .within .positions; textures = omega arith; normals = a .within .normals; corners = a .within .corners; faces = a .within .faces; place = a .fits };
     moved = λ e i. omega arith;
     taken = λ z k.
-        let e : ltb 4096 (length (z .drawn .textures) + 2) ≡ false =
-        le-ltb 4096 (length (z .drawn .textures) + 2) (omega (arith, length-of (2 * x .textures) t (z .drawn .textures) (omega arith) (k .textures))) in
+        let e : ltb texelNumbers (length (z .drawn .textures) + 2) ≡ false =
+        le-ltb texelNumbers (length (z .drawn .textures) + 2) (omega (arith, length-of (2 * x .textures) t (z .drawn .textures) (omega arith) (k .textures))) in
         subst⁻¹ (λ (b : Bool). Holds (limited b z (reader (z .at + 20) 0 false (withTexture (tx .u ∷ tx .v ∷ []) (z .drawn)))) (atTexture x) p (sets t (2 * x .textures) (tx .u ∷ tx .v ∷ [])) n c s) e
         (record {
           place = ap (λ (i : ℕ). i + 20) (k .place);
@@ -139,21 +139,21 @@ module _ (file : List ℕ) (x : Progress) (tx : Texel) (p t n : List Float) (c s
 abbrev pub atNormal : Progress → Progress
 atNormal x = record { at = x .at + 28; number = x .number; ended = x .ended; positions = x .positions; textures = x .textures; normals = x .normals + 1; corners = x .corners; faces = x .faces }
 
-module _ (file : List ℕ) (x : Progress) (pt : Point) (p t n : List Float) (c s : List ℕ) (a : Able (length file) (Normal pt) x) (l : length n ≡ 6144) where
-  pub normal-over : 2048 ≤ x .normals → Stepped file (Normal pt) x (stoppedWith x 1) p p t t n n c c s s
+module _ (file : List ℕ) (x : Progress) (pt : Point) (p t n : List Float) (c s : List ℕ) (a : Able (length file) (Normal pt) x) (l : length n ≡ pointNumbers) where
+  pub normal-over : entryLimit ≤ x .normals → Stepped file (Normal pt) x (stoppedWith x 1) p p t t n n c c s s
   unfolding take1
   normal-over h =
       stepped-stop file (Normal pt) x 1 p t n c s a (λ e. omega arith)
-      (λ z k. over-limit _ z _ (lt-ltb 6144 (length (z .drawn .normals) + 3) (omega (arith, length-of (3 * x .normals) n (z .drawn .normals) (omega (arith, a .within .normals)) (k .normals)))))
+      (λ z k. over-limit _ z _ (lt-ltb pointNumbers (length (z .drawn .normals) + 3) (omega (arith, length-of (3 * x .normals) n (z .drawn .normals) (omega (arith, a .within .normals)) (k .normals)))))
 
-  pub normal-taken : x .normals < 2048 → Stepped file (Normal pt) x (atNormal x) p p t t n (sets n (3 * x .normals) (coordinates pt)) c c s s
+  pub normal-taken : x .normals < entryLimit → Stepped file (Normal pt) x (atNormal x) p p t t n (sets n (3 * x .normals) (coordinates pt)) c c s s
   unfolding take1
   normal-taken h = record {
     within = record { positions = a .within .positions; textures = a .within .textures; normals = omega arith; corners = a .within .corners; faces = a .within .faces; place = a .fits };
     moved = λ e i. omega arith;
     taken = λ z k.
-        let e : ltb 6144 (length (z .drawn .normals) + 3) ≡ false =
-        le-ltb 6144 (length (z .drawn .normals) + 3) (omega (arith, length-of (3 * x .normals) n (z .drawn .normals) (omega arith) (k .normals))) in
+        let e : ltb pointNumbers (length (z .drawn .normals) + 3) ≡ false =
+        le-ltb pointNumbers (length (z .drawn .normals) + 3) (omega (arith, length-of (3 * x .normals) n (z .drawn .normals) (omega arith) (k .normals))) in
         subst⁻¹ (λ (b : Bool). Holds (limited b z (reader (z .at + 28) 0 false (withNormal (coordinates pt) (z .drawn)))) (atNormal x) p t (sets n (3 * x .normals) (coordinates pt)) c s) e
         (record {
           place = ap (λ (i : ℕ). i + 28) (k .place);
@@ -220,16 +220,16 @@ module _ (file : List ℕ) (x : Progress) (i m : ℕ) (p t n : List Float) (c s 
         (record { place = refl; refusal = a .unrefused; end = a .unended; positions = k .positions; textures = k .textures; normals = k .normals; corners = k .corners; sizes = k .sizes; counted = k .counted });
   }
 
-  pub face-over : 3 ≤ m → 4096 < x .corners + m → Stepped file (Face i m) x (stoppedWith x 1) p p t t n n c c s s
+  pub face-over : 3 ≤ m → cornerLimit < x .corners + m → Stepped file (Face i m) x (stoppedWith x 1) p p t t n n c c s s
   unfolding take1
   face-over g h =
       stepped-stop file (Face i m) x 1 p t n c s a (λ e. omega arith)
       (λ z k.
-      over-limit (ltb 4096 (cornerCount (z .drawn .faces) + m)) z _ (lt-ltb 4096 (cornerCount (z .drawn .faces) + m) (omega (arith, k .counted)))
+      over-limit (ltb cornerLimit (cornerCount (z .drawn .faces) + m)) z _ (lt-ltb cornerLimit (cornerCount (z .drawn .faces) + m) (omega (arith, k .counted)))
       ∙ ap (λ (b : Bool). takeFace b file i m z) (sym (le-ltb m 3 g)))
 
   pub face-taken :
-      3 ≤ m → x .corners + m ≤ 4096 → length c ≡ 12288 → length s ≡ 1365
+      3 ≤ m → x .corners + m ≤ cornerLimit → length c ≡ cornerNumbers → length s ≡ faceLimit
       → Stepped file (Face i m) x (atFace x i m) p p t t n n c (sets c (width * x .corners) (joined (ringFrom file m i))) s (set s (x .faces) m)
   unfolding take1
   face-taken g h lc ls = record {
@@ -237,7 +237,7 @@ module _ (file : List ℕ) (x : Progress) (i m : ℕ) (p t n : List Float) (c s 
     moved = λ e j. omega (arith, a .placed .0);
     taken = λ z k.
         let ring = ringFrom file m i in
-        let u : ltb 4096 (cornerCount (z .drawn .faces) + m) ≡ false = le-ltb 4096 (cornerCount (z .drawn .faces) + m) (omega (arith, k .counted)) in
+        let u : ltb cornerLimit (cornerCount (z .drawn .faces) + m) ≡ false = le-ltb cornerLimit (cornerCount (z .drawn .faces) + m) (omega (arith, k .counted)) in
         subst⁻¹ (λ (b : Bool). Holds (takeFace b file i m z) (atFace x i m) p t n (sets c (width * x .corners) (joined ring)) (set s (x .faces) m)) (le-ltb m 3 g)
         (subst⁻¹ (λ (b : Bool). Holds (limited b z (reader (i + 12 * m) 0 false (withFace ring (z .drawn)))) (atFace x i m) p t n (sets c (width * x .corners) (joined ring)) (set s (x .faces) m)) u
         (record {
@@ -317,38 +317,38 @@ module _ (file : List ℕ) (r : Record) (x : Progress) (p t n : List Float) (c s
       rw (i, f) (refusal-taken file x k p t n c s (rw (i, ← l) at a))
 
   module _ (a : Able (length file) r x) where
-    pub position-stop : (pt : Point) → r ≡ Position pt → length p ≡ 6144 → 2048 ≤ x .positions → (y : Progress) → y ≡ stoppedWith x 1 → Stepped file r x y p p t t n n c c s s
+    pub position-stop : (pt : Point) → r ≡ Position pt → length p ≡ pointNumbers → entryLimit ≤ x .positions → (y : Progress) → y ≡ stoppedWith x 1 → Stepped file r x y p p t t n n c c s s
     position-stop pt e l h y f = rw (e, f) (position-over file x pt p t n c s (rw e at a) l h)
 
     pub position-step :
-        (pt : Point) → r ≡ Position pt → length p ≡ 6144 → x .positions < 2048 → (p' : List Float) → p' ≡ sets p (3 * x .positions) (coordinates pt)
+        (pt : Point) → r ≡ Position pt → length p ≡ pointNumbers → x .positions < entryLimit → (p' : List Float) → p' ≡ sets p (3 * x .positions) (coordinates pt)
         → Stepped file r x (atPosition x) p p' t t n n c c s s
     position-step pt e l h p' f = rw (e, f) (position-taken file x pt p t n c s (rw e at a) l h)
 
-    pub texture-stop : (tx : Texel) → r ≡ Texture tx → length t ≡ 4096 → 2048 ≤ x .textures → (y : Progress) → y ≡ stoppedWith x 1 → Stepped file r x y p p t t n n c c s s
+    pub texture-stop : (tx : Texel) → r ≡ Texture tx → length t ≡ texelNumbers → entryLimit ≤ x .textures → (y : Progress) → y ≡ stoppedWith x 1 → Stepped file r x y p p t t n n c c s s
     texture-stop tx e l h y f = rw (e, f) (texture-over file x tx p t n c s (rw e at a) l h)
 
     pub texture-step :
-        (tx : Texel) → r ≡ Texture tx → length t ≡ 4096 → x .textures < 2048
+        (tx : Texel) → r ≡ Texture tx → length t ≡ texelNumbers → x .textures < entryLimit
         → Stepped file r x (atTexture x) p p t (set (set t (2 * x .textures) (tx .u)) (2 * x .textures + 1) (tx .v)) n n c c s s
     texture-step tx e l h = rw (e, add-one (2 * x .textures)) (texture-taken file x tx p t n c s (rw e at a) l h)
 
-    pub normal-stop : (pt : Point) → r ≡ Normal pt → length n ≡ 6144 → 2048 ≤ x .normals → (y : Progress) → y ≡ stoppedWith x 1 → Stepped file r x y p p t t n n c c s s
+    pub normal-stop : (pt : Point) → r ≡ Normal pt → length n ≡ pointNumbers → entryLimit ≤ x .normals → (y : Progress) → y ≡ stoppedWith x 1 → Stepped file r x y p p t t n n c c s s
     normal-stop pt e l h y f = rw (e, f) (normal-over file x pt p t n c s (rw e at a) l h)
 
     pub normal-step :
-        (pt : Point) → r ≡ Normal pt → length n ≡ 6144 → x .normals < 2048 → (n' : List Float) → n' ≡ sets n (3 * x .normals) (coordinates pt)
+        (pt : Point) → r ≡ Normal pt → length n ≡ pointNumbers → x .normals < entryLimit → (n' : List Float) → n' ≡ sets n (3 * x .normals) (coordinates pt)
         → Stepped file r x (atNormal x) p p t t n n' c c s s
     normal-step pt e l h n' f = rw (e, f) (normal-taken file x pt p t n c s (rw e at a) l h)
 
     pub face-drop : (i m : ℕ) → r ≡ Face i m → m < 3 → Stepped file r x (pastFace x i m) p p t t n n c c s s
     face-drop i m e h = rw e (face-dropped file x i m p t n c s (rw e at a) h)
 
-    pub face-stop : (i m : ℕ) → r ≡ Face i m → 3 ≤ m → 4096 < x .corners + m → (y : Progress) → y ≡ stoppedWith x 1 → Stepped file r x y p p t t n n c c s s
+    pub face-stop : (i m : ℕ) → r ≡ Face i m → 3 ≤ m → cornerLimit < x .corners + m → (y : Progress) → y ≡ stoppedWith x 1 → Stepped file r x y p p t t n n c c s s
     face-stop i m e g h y f = rw (e, f) (face-over file x i m p t n c s (rw e at a) g h)
 
     pub face-step :
-        (i m : ℕ) → r ≡ Face i m → 3 ≤ m → x .corners + m ≤ 4096 → length c ≡ 12288 → length s ≡ 1365
+        (i m : ℕ) → r ≡ Face i m → 3 ≤ m → x .corners + m ≤ cornerLimit → length c ≡ cornerNumbers → length s ≡ faceLimit
         → (c' : List ℕ) → c' ≡ sets c (width * x .corners) (joined (ringFrom file m i)) → Stepped file r x (atFace x i m) p p t t n n c c' s (set s (x .faces) m)
     face-step i m e g h lc ls c' f = rw (e, f) (face-taken file x i m p t n c s (rw e at a) g h lc ls)
 

@@ -8,7 +8,7 @@ use lib.Seq.{sets}
 use lib.Dec.{ltb, eqb}
 use lib.Ieee.{Float}
 use Rattle.lists.specs.Lists.{some, joined, each, sum}
-use Rattle.mesh.specs.Limits.{width}
+use Rattle.mesh.specs.Limits.{width, entryLimit, cornerLimit, faceLimit}
 use Rattle.mesh.specs.Mesh.{Mesh, Ring, meshOf}
 use Rattle.mesh.specs.Table.{when, firstOf, astrayAt, Lent, lent, short, after}
 use Rattle.grouping.specs.Push.{pushed, cornerCount}
@@ -62,13 +62,13 @@ withFace f d = record { positions = d .positions; textures = d .textures; normal
 abbrev pub takeFace : Bool → List ℕ → ℕ → ℕ → Reader → Reader
 takeFace true s a n x = reader (a + 12 * n) 0 false (x .drawn)
 takeFace false s a n x =
-    limited (ltb 4096 (cornerCount (x .drawn .faces) + n)) x (reader (a + 12 * n) 0 false (withFace (ringFrom s n a) (x .drawn)))
+    limited (ltb cornerLimit (cornerCount (x .drawn .faces) + n)) x (reader (a + 12 * n) 0 false (withFace (ringFrom s n a) (x .drawn)))
 
 -- one record is taken, with its values; a refusal stops the reading there, with its number
 unfoldable pub take1 : List ℕ → Reader → Record → Reader
-take1 s x (Position p) = limited (ltb (2048 * 3) (length (x .drawn .positions) + 3)) x (reader (x .at + 28) 0 false (withPosition (valuesOf (Position p)) (x .drawn)))
-take1 s x (Texture t) = limited (ltb (2048 * 2) (length (x .drawn .textures) + 2)) x (reader (x .at + 20) 0 false (withTexture (valuesOf (Texture t)) (x .drawn)))
-take1 s x (Normal p) = limited (ltb (2048 * 3) (length (x .drawn .normals) + 3)) x (reader (x .at + 28) 0 false (withNormal (valuesOf (Normal p)) (x .drawn)))
+take1 s x (Position p) = limited (ltb (entryLimit * 3) (length (x .drawn .positions) + 3)) x (reader (x .at + 28) 0 false (withPosition (valuesOf (Position p)) (x .drawn)))
+take1 s x (Texture t) = limited (ltb (entryLimit * 2) (length (x .drawn .textures) + 2)) x (reader (x .at + 20) 0 false (withTexture (valuesOf (Texture t)) (x .drawn)))
+take1 s x (Normal p) = limited (ltb (entryLimit * 3) (length (x .drawn .normals) + 3)) x (reader (x .at + 28) 0 false (withNormal (valuesOf (Normal p)) (x .drawn)))
 take1 s x (Face a n) = takeFace (ltb n 3) s a n x
 take1 s x End = reader (x .at + 4) 0 true (x .drawn)
 take1 s x (Refused n) = reader (x .at) (numberOf (Refused n)) false (x .drawn)
@@ -96,7 +96,7 @@ finish s x =
 
 -- 9 first: room must be at the full limits
 unfoldable pub fullRoom : ℕ → ℕ → ℕ → ℕ → ℕ → List Lent
-fullRoom p t n c s = lent p (2048 * 3) ∷ lent t (2048 * 2) ∷ lent n (2048 * 3) ∷ lent c (4096 * width) ∷ lent s 1365 ∷ []
+fullRoom p t n c s = lent p (entryLimit * 3) ∷ lent t (entryLimit * 2) ∷ lent n (entryLimit * 3) ∷ lent c (cornerLimit * width) ∷ lent s faceLimit ∷ []
 
 unfoldable pub panelNumber : List Lent → List ℕ → ℕ
 panelNumber rooms s = firstOf (when (short rooms) 9 ∷ finish s (readAll s) ∷ [])

@@ -6,7 +6,7 @@ use mathlib.Core.List.{List, map}
 use lib.ListN.{length, take}
 use lib.Ieee.{Float}
 use Rattle.lists.specs.Lists.{joined, each}
-use Rattle.mesh.specs.Limits.{width, ringLimit}
+use Rattle.mesh.specs.Limits.{width, ringLimit, entryLimit, cornerLimit, faceLimit, pointNumbers, texelNumbers, cornerNumbers}
 use Rattle.grouping.specs.Push.{cornerCount}
 use Rattle.panelfile.specs.declared.Record.{Record}
 use Rattle.panelfile.specs.declared.Record.the-variants.{Position, Texture, Normal, Face, End, Refused}
@@ -42,10 +42,10 @@ Placed at (Refused n) = n ≡ 0 → ⊥
 
 -- the counts are within the limits, and the place within the file
 pub record Within (size : ℕ) (y : Progress) : Type 0 where
-  pub positions : y .positions ≤ 2048
-  pub textures : y .textures ≤ 2048
-  pub normals : y .normals ≤ 2048
-  pub corners : y .corners ≤ 4096
+  pub positions : y .positions ≤ entryLimit
+  pub textures : y .textures ≤ entryLimit
+  pub normals : y .normals ≤ entryLimit
+  pub corners : y .corners ≤ cornerLimit
   pub faces : 3 * y .faces ≤ y .corners
   pub place : y .at ≤ size
 
@@ -72,11 +72,11 @@ stoppedWith x n = record {
 
 -- the lists are at the full limits
 pub record Long (p t n : List Float) (c s : List ℕ) : Type 0 where
-  pub positions : length p ≡ 6144
-  pub textures : length t ≡ 4096
-  pub normals : length n ≡ 6144
-  pub corners : length c ≡ 12288
-  pub sizes : length s ≡ 1365
+  pub positions : length p ≡ pointNumbers
+  pub textures : length t ≡ texelNumbers
+  pub normals : length n ≡ pointNumbers
+  pub corners : length c ≡ cornerNumbers
+  pub sizes : length s ≡ faceLimit
 
 -- the counts and the fronts of the lists are what the reader z has drawn
 pub record Holds (z : Reader) (y : Progress) (p t n : List Float) (c s : List ℕ) : Type 0 where
@@ -98,11 +98,11 @@ pub record Stepped (file : List ℕ) (r : Record) (x y : Progress) (p p' t t' n 
 
 -- lent lists at the full limits at least
 pub record Full (p t n : List Float) (c s : List ℕ) : Type 0 where
-  pub positions : 6144 ≤ length p
-  pub textures : 4096 ≤ length t
-  pub normals : 6144 ≤ length n
-  pub corners : 12288 ≤ length c
-  pub sizes : 1365 ≤ length s
+  pub positions : pointNumbers ≤ length p
+  pub textures : texelNumbers ≤ length t
+  pub normals : pointNumbers ≤ length n
+  pub corners : cornerNumbers ≤ length c
+  pub sizes : faceLimit ≤ length s
 
 -- the reader's own lists hold what the whole file draws
 pub record Drawing (file : List ℕ) (x : Progress) (p t n : List Float) (c s : List ℕ) : Type 0 where

@@ -72,11 +72,11 @@ pub fn read_panel(
     ) {
         return reading::refused(9);
     }
-    let mut p = [0.0f64; 6144];
-    let mut t = [0.0f64; 4096];
-    let mut n = [0.0f64; 6144];
-    let mut c = [0u32; 12288];
-    let mut s = [0u32; 1365];
+    let mut p = [0.0f64; mesh::POINT_NUMBERS];
+    let mut t = [0.0f64; mesh::TEXEL_NUMBERS];
+    let mut n = [0.0f64; mesh::POINT_NUMBERS];
+    let mut c = [0u32; mesh::CORNER_NUMBERS];
+    let mut s = [0u32; mesh::FACES];
     let x = reading::read_records(file, &mut p, &mut t, &mut n, &mut c, &mut s);
     let number = reading::number_at_end(file, x, &p, &t, &n, &c, &s);
     if number != 0 {

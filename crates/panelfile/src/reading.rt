@@ -54,19 +54,19 @@ fn goes_on(x: Progress) -> bool
 pub fn is_short(p: usize, t: usize, n: usize, c: usize, s: usize) -> bool
     ensures { λ r. ⌜ r ≡ short (fullRoom p t n c s) ⌝ }
 {
-    if p < 6144 {
+    if p < mesh::POINT_NUMBERS {
         return true;
     }
-    if t < 4096 {
+    if t < mesh::TEXEL_NUMBERS {
         return true;
     }
-    if n < 6144 {
+    if n < mesh::POINT_NUMBERS {
         return true;
     }
-    if c < 12288 {
+    if c < mesh::CORNER_NUMBERS {
         return true;
     }
-    s < 1365
+    s < mesh::FACES
 }
 
 // A refusal: its number, and counts of 0.

@@ -7,7 +7,7 @@ ghost use lib.ListN.{length};
 ghost use lib.Seq.{sets};
 ghost use lib.Ieee.{Float};
 ghost use Rattle.lists.specs.Lists.{joined};
-ghost use Rattle.mesh.specs.Limits.{width};
+ghost use Rattle.mesh.specs.Limits.{width, faceLimit, pointNumbers, texelNumbers, cornerNumbers};
 ghost use Rattle.panelfile.specs.Records.{recordFrom};
 ghost use Rattle.panelfile.specs.Reading.{ringFrom};
 ghost use Rattle.panelfile.specs.Working.{caseOf, stoppedWith, Within, Able, Long, Stepped};
@@ -33,7 +33,7 @@ pub fn step(
         return step_texture(file, r, textures, normals, corners, sizes, x);
     };
     let k = x.positions;
-    if 2048 <= k {
+    if mesh::ENTRIES <= k {
         return refused(x, 1);
     }
     floating::put_point(p, positions, k);
@@ -55,7 +55,7 @@ fn step_texture(
     sizes: &mut [u32],
     x: Progress,
 ) -> Progress
-    requires { ⌜ Able (length (now file)) r x × ((1 ≤ caseOf r) × ((length (now textures) ≡ 4096) × ((length (now normals) ≡ 6144) × ((length (now corners) ≡ 12288) × (length (now sizes) ≡ 1365))))) ⌝ }
+    requires { ⌜ Able (length (now file)) r x × ((1 ≤ caseOf r) × ((length (now textures) ≡ texelNumbers) × ((length (now normals) ≡ pointNumbers) × ((length (now corners) ≡ cornerNumbers) × (length (now sizes) ≡ faceLimit))))) ⌝ }
     ensures { λ y. ⌜ ((p : List Float) → Stepped (now (file .entry)) r x y p p (now (textures .entry)) (now (textures .exit)) (now (normals .entry)) (now (normals .exit)) (now (corners .entry)) (now (corners .exit)) (now (sizes .entry)) (now (sizes .exit))) ⌝ }
 {
     let Record::Texture(t) = r else {
@@ -63,7 +63,7 @@ fn step_texture(
     };
     let at = x.at;
     let k = x.textures;
-    if 2048 <= k {
+    if mesh::ENTRIES <= k {
         return refused(x, 1);
     }
     let b = 2 * k;
@@ -86,7 +86,7 @@ fn step_normal(
     sizes: &mut [u32],
     x: Progress,
 ) -> Progress
-    requires { ⌜ Able (length (now file)) r x × ((2 ≤ caseOf r) × ((length (now normals) ≡ 6144) × ((length (now corners) ≡ 12288) × (length (now sizes) ≡ 1365)))) ⌝ }
+    requires { ⌜ Able (length (now file)) r x × ((2 ≤ caseOf r) × ((length (now normals) ≡ pointNumbers) × ((length (now corners) ≡ cornerNumbers) × (length (now sizes) ≡ faceLimit)))) ⌝ }
     ensures { λ y. ⌜ ((p t : List Float) → Stepped (now (file .entry)) r x y p p t t (now (normals .entry)) (now (normals .exit)) (now (corners .entry)) (now (corners .exit)) (now (sizes .entry)) (now (sizes .exit))) ⌝ }
 {
     let Record::Normal(p) = r else {
@@ -94,7 +94,7 @@ fn step_normal(
     };
     let at = x.at;
     let k = x.normals;
-    if 2048 <= k {
+    if mesh::ENTRIES <= k {
         return refused(x, 1);
     }
     floating::put_point(p, normals, k);
@@ -114,7 +114,7 @@ fn step_face(
     sizes: &mut [u32],
     x: Progress,
 ) -> Progress
-    requires { ⌜ Able (length (now file)) r x × ((3 ≤ caseOf r) × ((length (now corners) ≡ 12288) × (length (now sizes) ≡ 1365))) ⌝ }
+    requires { ⌜ Able (length (now file)) r x × ((3 ≤ caseOf r) × ((length (now corners) ≡ cornerNumbers) × (length (now sizes) ≡ faceLimit))) ⌝ }
     ensures { λ y. ⌜ ((p t n : List Float) → Stepped (now (file .entry)) r x y p p t t n n (now (corners .entry)) (now (corners .exit)) (now (sizes .entry)) (now (sizes .exit))) ⌝ }
 {
     let Record::Face(a, n) = r else {
@@ -130,7 +130,7 @@ fn step_face(
     if m < 3 {
         return y;
     }
-    if 4096 < more {
+    if mesh::CORNERS < more {
         return refused(x, 1);
     }
     put_ring(file, a, m, corners, c);

@@ -15,7 +15,7 @@ use Rattle.lists.specs.Lists.{span, sum}
 use Rattle.lists.proofs.Writing.{sets-append, Copying, copy-turns, copy-ends}
 use Rattle.lists.proofs.Copies.{sets-whole}
 use Rattle.lists.proofs.Buckets.{lt-or-ge, table-at, table-ext}
-use Rattle.mesh.specs.Limits.{width}
+use Rattle.mesh.specs.Limits.{width, entryLimit, cornerNumbers}
 use Rattle.mesh.specs.Mesh.{Corner, Ring, threes, rings, cornerAt}
 use Rattle.mesh.specs.Face.{offsetOf, faceOf, Sound}
 use Rattle.mesh.proofs.Corners.{length-threes, getD-threes}
@@ -199,7 +199,7 @@ module _ (normals : Bool) (which : ℕ) (cs s out₀ : List ℕ) where
       let f : width * offsetOf s k + width * getD s k 0 ≤ length cs = face-fits cs s sound k h in
       let p : at ≡ offsetOf s k = r .passed in
       let g : length out ≡ length out₀ = r .long in
-      let c : length cs ≤ 12288 = sound .fits in
+      let c : length cs ≤ cornerNumbers = sound .fits in
       record { whole = omega arith; few = omega arith; room = omega arith }
 
 -- ---- one number
@@ -236,7 +236,7 @@ pub digit-off : (normals : Bool) (n : ℕ) → normals ≡ false → 0 ≡ norma
 unfolding normalDigit
 digit-off normals n e = rw e
 
-pub digit-missing : (normals : Bool) (n : ℕ) → normals ≡ true → n ≡ 4294967295 → 2048 ≡ normalDigit (cond normals n 0)
+pub digit-missing : (normals : Bool) (n : ℕ) → normals ≡ true → n ≡ 4294967295 → entryLimit ≡ normalDigit (cond normals n 0)
 unfolding normalDigit
 digit-missing normals n e h = rw (e, eq-eqb n 4294967295 h)
 

@@ -12,7 +12,7 @@ use Rattle.lists.proofs.Bools.{by-cases, and-both, and-left, and-right, or-left
 use Rattle.lists.proofs.Cases.{iff}
 use Rattle.lists.proofs.Mapping.{every-map, every-all}
 use Rattle.lists.proofs.Parts.{every-append, every-at}
-use Rattle.mesh.specs.Limits.{width}
+use Rattle.mesh.specs.Limits.{width, entryLimit, cornerLimit, pointNumbers}
 use Rattle.mesh.specs.Mesh.{Mesh, Corner, Ring, position, normal, missing, threes, rings}
 use Rattle.mesh.proofs.Corners.{length-threes, getD-threes, threes-split}
 use Rattle.mesh.proofs.Faces.{sizes-back}
@@ -26,13 +26,13 @@ use Rattle.panels.specs.Rows.{Keyable}
 
 -- a position, and a normal, as an accepted mesh has them
 abbrev pub isNormal : ℕ → Bool
-isNormal n = eqb n missing || ltb n 2048
+isNormal n = eqb n missing || ltb n entryLimit
 
 abbrev pub goodCorner : Corner → Bool
-goodCorner c = ltb (position c) 2048 && isNormal (normal c)
+goodCorner c = ltb (position c) entryLimit && isNormal (normal c)
 
 abbrev pub goodKey : Key → Bool
-goodKey k = (ltb (k .0) 2048 && ltb (k .1) 2048) && (isNormal (k .2) && isNormal (k .3))
+goodKey k = (ltb (k .0) entryLimit && ltb (k .1) entryLimit) && (isNormal (k .2) && isNormal (k .3))
 
 -- ---- from the corners to the keys
 
@@ -42,11 +42,11 @@ normal-of false n h = refl
 
 pair-good : (normals : Bool) (a b : Corner) → goodCorner a ≡ true → goodCorner b ≡ true → goodKey (pairKey normals a b) ≡ true
 pair-good normals a b p q =
-    and-both (ltb (position a) 2048 && ltb (position b) 2048) (isNormal (cond normals (normal a) 0) && isNormal (cond normals (normal b) 0))
-    (and-both (ltb (position a) 2048) (ltb (position b) 2048) (and-left (ltb (position a) 2048) (isNormal (normal a)) p) (and-left (ltb (position b) 2048) (isNormal (normal b)) q))
+    and-both (ltb (position a) entryLimit && ltb (position b) entryLimit) (isNormal (cond normals (normal a) 0) && isNormal (cond normals (normal b) 0))
+    (and-both (ltb (position a) entryLimit) (ltb (position b) entryLimit) (and-left (ltb (position a) entryLimit) (isNormal (normal a)) p) (and-left (ltb (position b) entryLimit) (isNormal (normal b)) q))
     (and-both (isNormal (cond normals (normal a) 0)) (isNormal (cond normals (normal b) 0))
-    (normal-of normals (normal a) (and-right (ltb (position a) 2048) (isNormal (normal a)) p))
-    (normal-of normals (normal b) (and-right (ltb (position b) 2048) (isNormal (normal b)) q)))
+    (normal-of normals (normal a) (and-right (ltb (position a) entryLimit) (isNormal (normal a)) p))
+    (normal-of normals (normal b) (and-right (ltb (position b) entryLimit) (isNormal (normal b)) q)))
 
 key-good : (normals : Bool) (a b : Corner) → goodCorner a ≡ true → goodCorner b ≡ true → goodKey (keyOf normals (a, b)) ≡ true
 unfolding keyOf
@@ -95,13 +95,13 @@ faces-good cs s a =
     (λ k h.
     let l : length (threes cs) ≡ length cs / width = length-threes cs in
     subst (λ (c : Corner). goodCorner c ≡ true) (sym (getD-threes cs k (omega arith)))
-    (and-both (ltb (getD cs (width * k) 0) 2048) (isNormal (getD cs (width * k + 2) 0))
-    (lt-ltb (getD cs (width * k) 0) 2048 (a .position k (omega arith)))
+    (and-both (ltb (getD cs (width * k) 0) entryLimit) (isNormal (getD cs (width * k + 2) 0))
+    (lt-ltb (getD cs (width * k) 0) entryLimit (a .position k (omega arith)))
     (by-cases (eqb (getD cs (width * k + 2) 0) missing)
-    (λ t. or-left (eqb (getD cs (width * k + 2) 0) missing) (ltb (getD cs (width * k + 2) 0) 2048) t)
+    (λ t. or-left (eqb (getD cs (width * k + 2) 0) missing) (ltb (getD cs (width * k + 2) 0) entryLimit) t)
     (λ t.
-    or-right (eqb (getD cs (width * k + 2) 0) missing) (ltb (getD cs (width * k + 2) 0) 2048)
-    (lt-ltb (getD cs (width * k + 2) 0) 2048 (a .normal k (omega arith) (eqb-false (getD cs (width * k + 2) 0) missing t))))))))
+    or-right (eqb (getD cs (width * k + 2) 0) missing) (ltb (getD cs (width * k + 2) 0) entryLimit)
+    (lt-ltb (getD cs (width * k + 2) 0) entryLimit (a .normal k (omega arith) (eqb-false (getD cs (width * k + 2) 0) missing t))))))))
 
 pub keyable : (m : Mesh) → Accepted m → Keyable (m .corners) (m .sizes)
 keyable m a = record {
@@ -109,21 +109,21 @@ keyable m a = record {
   position = λ k h.
       let f : Found m k = a .corner k h in
       let p : getD (m .corners) (width * k) 0 < length (m .positions) / 3 = f .position in
-      let q : length (m .positions) ≤ 6144 = a .limits .positions in
+      let q : length (m .positions) ≤ pointNumbers = a .limits .positions in
       omega arith;
   normal = λ k h ne.
       let f : Found m k = a .corner k h in
       let p : getD (m .corners) (width * k + 2) 0 < length (m .normals) / 3 = f .normal ne in
-      let q : length (m .normals) ≤ 6144 = a .limits .normals in
+      let q : length (m .normals) ≤ pointNumbers = a .limits .normals in
       omega arith;
 }
 
 -- ---- digits tell normals apart
 
-below-2048 : (n : ℕ) → isNormal n ≡ true → eqb n missing ≡ false → n < 2048
-below-2048 n h t = ltb-true n 2048 (rw t at h)
+below-2048 : (n : ℕ) → isNormal n ≡ true → eqb n missing ≡ false → n < entryLimit
+below-2048 n h t = ltb-true n entryLimit (rw t at h)
 
-digit-missing : (n : ℕ) → eqb n missing ≡ true → normalDigit n ≡ 2048
+digit-missing : (n : ℕ) → eqb n missing ≡ true → normalDigit n ≡ entryLimit
 unfolding normalDigit
 digit-missing n t = rw t
 
@@ -138,14 +138,14 @@ digit-injective a b p q e =
     by-cases (eqb b missing)
     (λ t. eqb-true a missing s ∙ sym (eqb-true b missing t))
     (λ t.
-    let x : 2048 ≡ b = sym (digit-missing a s) ∙ e ∙ digit-there b t in
-    let y : b < 2048 = below-2048 b q t in
+    let x : entryLimit ≡ b = sym (digit-missing a s) ∙ e ∙ digit-there b t in
+    let y : b < entryLimit = below-2048 b q t in
     absurd (omega arith)))
     (λ s.
     by-cases (eqb b missing)
     (λ t.
-    let x : a ≡ 2048 = sym (digit-there a s) ∙ e ∙ digit-missing b t in
-    let y : a < 2048 = below-2048 a p s in
+    let x : a ≡ entryLimit = sym (digit-there a s) ∙ e ∙ digit-missing b t in
+    let y : a < entryLimit = below-2048 a p s in
     absurd (omega arith))
     (λ t. sym (digit-there a s) ∙ e ∙ digit-there b t))
 
@@ -159,7 +159,7 @@ digit-below : (n : ℕ) → isNormal n ≡ true → normalDigit n < 2049
 digit-below n h =
     by-cases (eqb n missing)
     (λ t. rw (digit-missing n t) (omega arith))
-    (λ t. rw (digit-there n t) (let l : n < 2048 = below-2048 n h t in omega arith))
+    (λ t. rw (digit-there n t) (let l : n < entryLimit = below-2048 n h t in omega arith))
 
 -- ---- the columns at a use
 
@@ -192,31 +192,31 @@ module _ (us : List Use) where
     key-at : (x : ℕ) → x < length us → goodKey (getD us x noUse .1) ≡ true
     key-at x h = every-at (λ (u : Use). goodKey (u .1)) noUse us x good h
 
-    lower-good : (x : ℕ) → x < length us → getD us x noUse .1 .0 < 2048
+    lower-good : (x : ℕ) → x < length us → getD us x noUse .1 .0 < entryLimit
     lower-good x h = let k : Key = getD us x noUse .1 in
-        ltb-true (k .0) 2048 (and-left (ltb (k .0) 2048) (ltb (k .1) 2048) (and-left (ltb (k .0) 2048 && ltb (k .1) 2048) (isNormal (k .2) && isNormal (k .3)) (key-at x h)))
+        ltb-true (k .0) entryLimit (and-left (ltb (k .0) entryLimit) (ltb (k .1) entryLimit) (and-left (ltb (k .0) entryLimit && ltb (k .1) entryLimit) (isNormal (k .2) && isNormal (k .3)) (key-at x h)))
 
-    higher-good : (x : ℕ) → x < length us → getD us x noUse .1 .1 < 2048
+    higher-good : (x : ℕ) → x < length us → getD us x noUse .1 .1 < entryLimit
     higher-good x h = let k : Key = getD us x noUse .1 in
-        ltb-true (k .1) 2048 (and-right (ltb (k .0) 2048) (ltb (k .1) 2048) (and-left (ltb (k .0) 2048 && ltb (k .1) 2048) (isNormal (k .2) && isNormal (k .3)) (key-at x h)))
+        ltb-true (k .1) entryLimit (and-right (ltb (k .0) entryLimit) (ltb (k .1) entryLimit) (and-left (ltb (k .0) entryLimit && ltb (k .1) entryLimit) (isNormal (k .2) && isNormal (k .3)) (key-at x h)))
 
     n-good : (x : ℕ) → x < length us → isNormal (getD us x noUse .1 .2) ≡ true
     n-good x h = let k : Key = getD us x noUse .1 in
-        and-left (isNormal (k .2)) (isNormal (k .3)) (and-right (ltb (k .0) 2048 && ltb (k .1) 2048) (isNormal (k .2) && isNormal (k .3)) (key-at x h))
+        and-left (isNormal (k .2)) (isNormal (k .3)) (and-right (ltb (k .0) entryLimit && ltb (k .1) entryLimit) (isNormal (k .2) && isNormal (k .3)) (key-at x h))
 
     m-good : (x : ℕ) → x < length us → isNormal (getD us x noUse .1 .3) ≡ true
     m-good x h = let k : Key = getD us x noUse .1 in
-        and-right (isNormal (k .2)) (isNormal (k .3)) (and-right (ltb (k .0) 2048 && ltb (k .1) 2048) (isNormal (k .2) && isNormal (k .3)) (key-at x h))
+        and-right (isNormal (k .2)) (isNormal (k .3)) (and-right (ltb (k .0) entryLimit && ltb (k .1) entryLimit) (isNormal (k .2) && isNormal (k .3)) (key-at x h))
 
-    pub key-columns : length us ≤ 4096 → KeyColumns (map (entryOf 0) us) (map (entryOf 1) us) (map (entryOf 2) us) (map (entryOf 3) us) (length us)
+    pub key-columns : length us ≤ cornerLimit → KeyColumns (map (entryOf 0) us) (map (entryOf 1) us) (map (entryOf 2) us) (map (entryOf 3) us) (length us)
     key-columns few = record {
       few = few;
       lower-long = length-map us (entryOf 0);
       higher-long = length-map us (entryOf 1);
       n-long = length-map us (entryOf 2);
       m-long = length-map us (entryOf 3);
-      lower-below = λ x h. subst (λ (d : ℕ). d < 2048) (sym (lower-at x)) (lower-good x h);
-      higher-below = λ x h. subst (λ (d : ℕ). d < 2048) (sym (higher-at x)) (higher-good x h);
+      lower-below = λ x h. subst (λ (d : ℕ). d < entryLimit) (sym (lower-at x)) (lower-good x h);
+      higher-below = λ x h. subst (λ (d : ℕ). d < entryLimit) (sym (higher-at x)) (higher-good x h);
       n-below = λ x h. subst (λ (d : ℕ). d < 2049) (sym (n-at x)) (digit-below (getD us x noUse .1 .2) (n-good x h));
       m-below = λ x h. subst (λ (d : ℕ). d < 2049) (sym (m-at x)) (digit-below (getD us x noUse .1 .3) (m-good x h));
     }

@@ -16,7 +16,7 @@ use Rattle.lists.proofs.Bools.{and-both, and-left, and-right}
 use Rattle.lists.proofs.Parts.{every-append, every-at}
 use Rattle.lists.proofs.Copies.{sets-whole, take-written}
 use Rattle.lists.proofs.Buckets.{length-front, length-span, span-at}
-use Rattle.mesh.specs.Limits.{width}
+use Rattle.mesh.specs.Limits.{width, cornerLimit, faceLimit, cornerNumbers}
 use Rattle.mesh.specs.Mesh.{Mesh, Ring, rings, faces}
 use Rattle.mesh.specs.Table.{when, lent, short, meshNumber, after}
 use Rattle.mesh.proofs.Numbers.{first-is, first-on, row-given, row-passed}
@@ -47,8 +47,8 @@ module _ (normals : Bool) (cs s : List ℕ) (k : Keyable cs s) where
   long : length (usesFrom normals 0 (rings s cs)) ≡ length cs / width
   long = uses-corners normals s cs (k .sound .adds)
 
-  few : length (usesFrom normals 0 (rings s cs)) ≤ 4096
-  few = let a : length (usesFrom normals 0 (rings s cs)) ≡ length cs / width = long in let b : length cs ≤ 12288 = k .sound .fits in omega arith
+  few : length (usesFrom normals 0 (rings s cs)) ≤ cornerLimit
+  few = let a : length (usesFrom normals 0 (rings s cs)) ≡ length cs / width = long in let b : length cs ≤ cornerNumbers = k .sound .fits in omega arith
 
   module _ (lower higher n m : List ℕ) (d : Digits normals (rings s cs) lower higher n m) where
     columns-uses : KeyColumns lower higher n m (length (usesFrom normals 0 (rings s cs)))
@@ -87,7 +87,7 @@ module _ (normals : Bool) (cs s : List ℕ) (k : Keyable cs s) where
           let u : length (usesFrom normals 0 (rings s cs)) ≡ length cs / width = long in
           let v : length firsts ≡ length order = r .long in
           let w : length face ≡ length cs / width = face-long in
-          let q : length cs ≤ 12288 = k .sound .fits in
+          let q : length cs ≤ cornerNumbers = k .sound .fits in
           record {
             few = omega arith;
             faces-long = omega arith;
@@ -173,7 +173,7 @@ module _ (joins : List ℕ) (f : ℕ) (flat lengths : List ℕ) (p : Divisible j
       subst (λ (t : List ℕ). Sortable f joins t order) (sym q)
       (let n : length (span 0 (length joins)) ≡ length joins = length-span 0 (length joins) in
       record {
-        few = let a : f ≤ 1365 = p .small in omega arith;
+        few = let a : f ≤ faceLimit = p .small in omega arith;
         keyed = record {
           fits = let a : length joins ≤ 8192 = p .fits in omega arith;
           named = λ t h. let a : getD (span 0 (length joins)) t 0 ≡ 0 + t = span-at 0 (length joins) t 0 (omega arith) in omega arith;
@@ -208,7 +208,7 @@ module _ (joins : List ℕ) (f : ℕ) (flat lengths : List ℕ) (p : Divisible j
           ordered = t ∙ ap (λ (n : ℕ). sortedBy n joins (span 0 (length joins))) (sym g);
           ended = s .ended ∙ ap₂ (λ (n : ℕ) (x : List ℕ). endsBy n joins x) (sym g) q;
         };
-        small = let b : f ≤ 1365 = p .small in omega arith;
+        small = let b : f ≤ faceLimit = p .small in omega arith;
         unseen = z ∙ ap (λ (n : ℕ). replicate n 0) (sym g);
         stack-long = w ∙ sym g;
         faces-room = let b : f ≤ length flat = p .faces-room in omega arith;
@@ -307,7 +307,7 @@ module _ (m : Mesh) (normals : Bool) (a : Accepted m) where
   row-few : length (flatJoins (joins normals (rings (m .sizes) (m .corners)))) ≤ 8192
   row-few =
       let b : length (flatJoins (joins normals (rings (m .sizes) (m .corners)))) ≤ 2 * length (usesFrom normals 0 (rings (m .sizes) (m .corners))) = joins-few [] (usesFrom normals 0 (rings (m .sizes) (m .corners))) in
-      let c : length (usesFrom normals 0 (rings (m .sizes) (m .corners))) ≤ 4096 = few normals (m .corners) (m .sizes) (keyable m a) in
+      let c : length (usesFrom normals 0 (rings (m .sizes) (m .corners))) ≤ cornerLimit = few normals (m .corners) (m .sizes) (keyable m a) in
       omega arith
 
   pub joins-room : (row : List ℕ) → 8192 ≤ length row → JoinRoom (m .corners) (m .sizes) row
@@ -376,18 +376,18 @@ module _ (m : Mesh) (normals : Bool) (a : Accepted m) where
 
 -- ---- the fronts of rows of fixed length
 
-pub corner-row : (cs s : List ℕ) → Keyable cs s → length (take {A = ℕ} (length cs / width) (replicate 4096 0)) ≡ length cs / width
-corner-row cs s k = length-front 0 (length cs / width) 4096 (let a : length cs ≤ 12288 = k .sound .fits in omega arith)
+pub corner-row : (cs s : List ℕ) → Keyable cs s → length (take {A = ℕ} (length cs / width) (replicate cornerLimit 0)) ≡ length cs / width
+corner-row cs s k = length-front 0 (length cs / width) cornerLimit (let a : length cs ≤ cornerNumbers = k .sound .fits in omega arith)
 
 module _ (joins : List ℕ) (f : ℕ) (flat lengths : List ℕ) (p : Divisible joins f flat lengths) where
   pub entry-row : length (take {A = ℕ} (length joins) (replicate 8192 0)) ≡ length joins
   entry-row = length-front 0 (length joins) 8192 (p .fits)
 
-  pub face-row : length (take {A = ℕ} f (replicate 1365 0)) ≡ f
-  face-row = length-front 0 f 1365 (p .small)
+  pub face-row : length (take {A = ℕ} f (replicate faceLimit 0)) ≡ f
+  face-row = length-front 0 f faceLimit (p .small)
 
-  pub clear-row : take {A = ℕ} f (replicate 1365 0) ≡ replicate (length (take {A = ℕ} f (replicate 1365 0))) 0
-  clear-row = front-row f 1365 (p .small) ∙ ap (λ (n : ℕ). replicate n 0) (sym face-row)
+  pub clear-row : take {A = ℕ} f (replicate faceLimit 0) ≡ replicate (length (take {A = ℕ} f (replicate faceLimit 0))) 0
+  clear-row = front-row f faceLimit (p .small) ∙ ap (λ (n : ℕ). replicate n 0) (sym face-row)
 
 pub whole-row : 8192 ≤ length {A = ℕ} (replicate 8192 0)
 whole-row = le-of-eq (sym (length-replicate {A = ℕ} 8192 0))

@@ -6,14 +6,14 @@ use mathlib.Core.List.{List, map}
 use Prim.Native.Nat.{ℕ, zero, suc, _+_, _/_, _%_, _≤_, _<_}
 use lib.Dec.{ltb, eqb}
 use lib.ListN.{length}
-use Rattle.mesh.specs.Limits.{width}
+use Rattle.mesh.specs.Limits.{width, entryLimit, cornerNumbers}
 use Rattle.mesh.specs.Mesh.{Corner, Ring, missing, cornerAt}
 use Rattle.mesh.specs.Face.{Sound}
 use Rattle.panels.specs.Panels.{Use, faceKeys, usesFrom}
 
 -- a normal index as a digit: missing is one more than any other
 unfoldable pub normalDigit : ℕ → ℕ
-normalDigit n = cond (eqb n missing) 2048 n
+normalDigit n = cond (eqb n missing) entryLimit n
 
 -- the columns: 0 the lower position, 1 the higher, 2 and 3 the normals there, 4 the face
 unfoldable pub chosen : ℕ → ℕ → ℕ → ℕ → ℕ → ℕ → ℕ
@@ -44,13 +44,13 @@ faceUses normals k f = map (λ key. (k, key)) (faceKeys normals f)
 -- whole corners, and corner j one of them
 pub record AtCorner (part : List ℕ) (j : ℕ) : Type 0 where
   pub whole : length part % width ≡ 0
-  pub few : length part ≤ 12288
+  pub few : length part ≤ cornerNumbers
   pub inside : j < length part / width
 
 -- whole corners, and room for one number for each from `at` on
 pub record FaceRoom (part out : List ℕ) (at : ℕ) : Type 0 where
   pub whole : length part % width ≡ 0
-  pub few : length part ≤ 12288
+  pub few : length part ≤ cornerNumbers
   pub room : at + length part / width ≤ length out
 
 -- sizes that add up to the corners, and room for one number for each corner

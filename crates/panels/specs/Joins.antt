@@ -8,6 +8,7 @@ use lib.Dec.{eqb}
 use lib.ListN.{length, getD}
 use lib.Seq.{sets}
 use Rattle.lists.specs.Lists.{each, span}
+use Rattle.mesh.specs.Limits.{cornerLimit}
 use Rattle.panels.specs.Panels.{Join}
 
 -- the joins, flat, and back
@@ -31,7 +32,7 @@ joinsBy faces firsts u = each (joinAt faces firsts) (span 0 u)
 
 -- a face and a first use for each of at most 4,096 uses, and room for two numbers for each
 pub record Joinable (faces firsts out : List ℕ) : Type 0 where
-  pub few : length firsts ≤ 4096
+  pub few : length firsts ≤ cornerLimit
   pub faces-long : length faces ≡ length firsts
   pub named : (u : ℕ) → u < length firsts → getD firsts u 0 < length firsts
   pub room : 2 * length firsts ≤ length out

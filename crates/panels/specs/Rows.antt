@@ -3,7 +3,7 @@ use mathlib.Core.Path.{_≡_}
 use mathlib.Core.List.{List}
 use Prim.Native.Nat.{ℕ, _+_, _*_, _/_, _≤_, _<_}
 use lib.ListN.{length, getD, replicate}
-use Rattle.mesh.specs.Limits.{width}
+use Rattle.mesh.specs.Limits.{width, entryLimit, faceLimit}
 use Rattle.mesh.specs.Mesh.{missing}
 use Rattle.mesh.specs.Face.{Sound}
 use Rattle.panels.specs.Joins.{flatJoins, joinsOf}
@@ -11,8 +11,8 @@ use Rattle.panels.specs.Joins.{flatJoins, joinsOf}
 -- corners whose positions are below 2,048, and whose normals are missing or below 2,048
 pub record Keyable (cs s : List ℕ) : Type 0 where
   pub sound : Sound cs s
-  pub position : (k : ℕ) → k < length cs / width → getD cs (width * k) 0 < 2048
-  pub normal : (k : ℕ) → k < length cs / width → (getD cs (width * k + 2) 0 ≡ missing → ⊥) → getD cs (width * k + 2) 0 < 2048
+  pub position : (k : ℕ) → k < length cs / width → getD cs (width * k) 0 < entryLimit
+  pub normal : (k : ℕ) → k < length cs / width → (getD cs (width * k + 2) 0 ≡ missing → ⊥) → getD cs (width * k + 2) 0 < entryLimit
 
 -- room for all joins
 pub record JoinRoom (cs s joins : List ℕ) : Type 0 where
@@ -36,7 +36,7 @@ pub record Divisible (joins : List ℕ) (f : ℕ) (flat lengths : List ℕ) : Ty
   pub whole : joins ≡ flatJoins (joinsOf joins)
   pub fits : length joins ≤ 8192
   pub below : (e : ℕ) → e < length joins → getD joins e 0 < f
-  pub small : f ≤ 1365
+  pub small : f ≤ faceLimit
   pub faces-room : f ≤ length flat
   pub panels-room : f ≤ length lengths
 

@@ -8,6 +8,7 @@ use lib.Dec.{eqb}
 use lib.ListN.{length, getD, take, drop, replicate}
 use lib.Seq.{slice, sets}
 use Rattle.lists.specs.Lists.{count, has, joined, span}
+use Rattle.mesh.specs.Limits.{faceLimit}
 use Rattle.sorting.specs.Sorting.{sortedBy, endsBy}
 use Rattle.panels.specs.Panels.{Search, panelsFrom}
 use Rattle.panels.specs.Joins.{flatJoins, joinsOf}
@@ -55,7 +56,7 @@ markOf false = 0
 
 -- of f faces, those that are listed are marked, each is listed at most once, and no more are on the stack
 pub record Listing (f : ℕ) (seen stack flat : List ℕ) (top n : ℕ) : Type 0 where
-  pub small : f ≤ 1365
+  pub small : f ≤ faceLimit
   pub seen-long : length seen ≡ f
   pub stack-long : length stack ≡ f
   pub room : f ≤ length flat
@@ -135,7 +136,7 @@ pub record PanelledMore (i : ℕ) (joins ends flat lengths : List ℕ) (n k : �
 -- what listing all panels rests on: no face is listed yet, and there is room
 pub record Partable (joins order ends seen stack flat lengths : List ℕ) : Type 0 where
   pub adjacent : Adjacent joins order ends
-  pub small : length ends ≤ 1365
+  pub small : length ends ≤ faceLimit
   pub unseen : seen ≡ replicate (length ends) 0
   pub stack-long : length stack ≡ length ends
   pub faces-room : length ends ≤ length flat

@@ -6,9 +6,13 @@ ghost use mathlib.Core.List.{map};
 ghost use Prim.Native.Nat.{ℕ, _+_, _*_, _/_, _%_, _<_, _≤_};
 ghost use lib.ListN.{length};
 ghost use lib.Seq.{sets};
+ghost use Rattle.mesh.specs.Limits.{cornerLimit};
 ghost use Rattle.mesh.specs.Mesh.{rings, threes};
 ghost use Rattle.panels.specs.Panels.{keyOf};
 ghost use Rattle.panels.specs.Columns.{normalDigit, chosen, entryOf, nextOf, edgeAt, faceUses, column, AtCorner, FaceRoom, ColumnRoom, DigitRoom, Digits};
+
+// The digit of a missing normal, behind those of all that are there.
+const NO_NORMAL: u32 = mesh::ENTRIES as u32;
 
 pub const LOWER: u32 = 0;
 
@@ -88,7 +92,7 @@ fn edge_entry(part: &[u32], j: usize, face: u32, normals: bool, which: u32) -> u
 
 // The corner behind corner `j` of `n`.
 fn behind(n: usize, j: usize) -> usize
-    requires { ⌜ (j < n) × (n ≤ 4096) ⌝ }
+    requires { ⌜ (j < n) × (n ≤ cornerLimit) ⌝ }
     ensures { λ r. ⌜ (r ≡ nextOf n j) × (r < n) ⌝ }
 {
     if j + 1 < n { j + 1 } else { 0 }
@@ -102,7 +106,7 @@ fn normal_digit(normal: u32, normals: bool) -> u32
         return 0;
     }
     if normal == mesh::MISSING {
-        return 2048;
+        return NO_NORMAL;
     }
     normal
 }

@@ -82,13 +82,13 @@ fn find_joins(corners: &[u32], sizes: &[u32], normals: bool, out: &mut [u32]) ->
     requires { ⌜ JoinRoom (now corners) (now sizes) (now out) ⌝ }
     ensures { λ r. ⌜ Wrote (flatJoins (joins normals (rings (now (sizes .entry)) (now (corners .entry))))) (now (out .entry)) 0 (now (out .exit)) r ⌝ }
 {
-    let mut lower = [0u32; 4096];
-    let mut higher = [0u32; 4096];
-    let mut n = [0u32; 4096];
-    let mut m = [0u32; 4096];
-    let mut order = [0u32; 4096];
-    let mut firsts = [0u32; 4096];
-    let mut faces = [0u32; 4096];
+    let mut lower = [0u32; mesh::CORNERS];
+    let mut higher = [0u32; mesh::CORNERS];
+    let mut n = [0u32; mesh::CORNERS];
+    let mut m = [0u32; mesh::CORNERS];
+    let mut order = [0u32; mesh::CORNERS];
+    let mut firsts = [0u32; mesh::CORNERS];
+    let mut faces = [0u32; mesh::CORNERS];
     let u = corners.len() / mesh::WIDTH;
     record_joins(
         corners,
@@ -135,9 +135,9 @@ fn part(joins: &[u32], faces: usize, flat: &mut [u32], lengths: &mut [u32]) -> s
 {
     let mut entries = [0u32; 8192];
     let mut order = [0u32; 8192];
-    let mut ends = [0u32; 1365];
-    let mut seen = [0u32; 1365];
-    let mut stack = [0u32; 1365];
+    let mut ends = [0u32; mesh::FACES];
+    let mut seen = [0u32; mesh::FACES];
+    let mut stack = [0u32; mesh::FACES];
     let n = joins.len();
     part_in(
         joins,

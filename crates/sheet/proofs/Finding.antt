@@ -13,7 +13,7 @@ use borrow.Author.Tests.{le-ltb}
 use Rattle.lists.specs.Lists.{joined, sum}
 use Rattle.lists.proofs.Bools.{by-cases}
 use Rattle.lists.proofs.Parts.{length-joined}
-use Rattle.mesh.specs.Limits.{width}
+use Rattle.mesh.specs.Limits.{width, cornerLimit, faceLimit}
 use Rattle.mesh.specs.Mesh.{Mesh, faces, positionCount, textureCount, normalCount}
 use Rattle.mesh.specs.Table.{after, short, when}
 use Rattle.mesh.proofs.Accepted.{Accepted, accepted}
@@ -59,7 +59,7 @@ module _ {m : Mesh} {flat flat₁ flat₂ lengths lengths₁ lengths₂ out : Li
   parts-count : panel ≡ length (panels false (faces m))
   parts-count = parted .panels ∙ after-done _ _ _ parts-done
 
-  pub parts-few : panel ≤ 1365
+  pub parts-few : panel ≤ faceLimit
   unfolding panels faces
   parts-few =
       omega (arith, parts-count, panels-few (length (faces m)) 0 (length (faces m)) (joins false (faces m)) [], length-rings (m .sizes) (m .corners), a .limits .sizes)
@@ -72,10 +72,10 @@ module _ {m : Mesh} {flat flat₁ flat₂ lengths lengths₁ lengths₂ out : Li
   abbrev ws : List (List ℕ)
   ws = houseWires (hems es)
 
-  long-flat : length flat₁ ≡ 4096
+  long-flat : length flat₁ ≡ cornerLimit
   long-flat = ap length (parted .flat) ∙ after-length pn flat (joined (panels false (faces m))) ∙ room .numbers
 
-  long-lengths : length lengths₁ ≡ 4096
+  long-lengths : length lengths₁ ≡ cornerLimit
   long-lengths = ap length (parted .lengths) ∙ after-length pn lengths (map length (panels false (faces m))) ∙ room .wires
 
   wires-number : number ≡ when (not (wired (verdict es))) 10

@@ -8,7 +8,7 @@ use lib.ListN.{length, take}
 use lib.Seq.{sets, length-sets}
 use lib.Ieee.{Float}
 use Rattle.lists.proofs.Copies.{take-written}
-use Rattle.mesh.specs.Limits.{width}
+use Rattle.mesh.specs.Limits.{width, faceLimit, pointNumbers, texelNumbers, cornerNumbers}
 use Rattle.mesh.specs.Mesh.{Mesh, positionCount, textureCount, normalCount}
 use Rattle.mesh.specs.Table.{meshNumber}
 use Rattle.mesh.proofs.Accepted.{Accepted, accepted}
@@ -29,17 +29,17 @@ module _ (m : Mesh) (ok : meshNumber m ≡ 0) where
   abbrev a : Accepted m
   a = accepted m ok
 
-  pub front-positions : (l : List Float) {l′ : List Float} {k : ℕ} → length l ≡ 6144 → l′ ≡ sets l 0 (m .positions) → k ≡ positionCount m → Front l′ (m .positions) (3 * k)
+  pub front-positions : (l : List Float) {l′ : List Float} {k : ℕ} → length l ≡ pointNumbers → l′ ≡ sets l 0 (m .positions) → k ≡ positionCount m → Front l′ (m .positions) (3 * k)
   front-positions l f e n = front l e (omega (arith, n, a .whole .positions)) (omega (arith, n, f, a .limits .positions))
 
-  pub front-textures : (l : List Float) {l′ : List Float} {k : ℕ} → length l ≡ 4096 → l′ ≡ sets l 0 (m .textures) → k ≡ textureCount m → Front l′ (m .textures) (2 * k)
+  pub front-textures : (l : List Float) {l′ : List Float} {k : ℕ} → length l ≡ texelNumbers → l′ ≡ sets l 0 (m .textures) → k ≡ textureCount m → Front l′ (m .textures) (2 * k)
   front-textures l f e n = front l e (omega (arith, n, a .whole .textures)) (omega (arith, n, f, a .limits .textures))
 
-  pub front-normals : (l : List Float) {l′ : List Float} {k : ℕ} → length l ≡ 6144 → l′ ≡ sets l 0 (m .normals) → k ≡ normalCount m → Front l′ (m .normals) (3 * k)
+  pub front-normals : (l : List Float) {l′ : List Float} {k : ℕ} → length l ≡ pointNumbers → l′ ≡ sets l 0 (m .normals) → k ≡ normalCount m → Front l′ (m .normals) (3 * k)
   front-normals l f e n = front l e (omega (arith, n, a .whole .normals)) (omega (arith, n, f, a .limits .normals))
 
-  pub front-corners : (l : List ℕ) {l′ : List ℕ} {k : ℕ} → length l ≡ 12288 → l′ ≡ sets l 0 (m .corners) → k ≡ length (m .corners) / width → Front l′ (m .corners) (width * k)
+  pub front-corners : (l : List ℕ) {l′ : List ℕ} {k : ℕ} → length l ≡ cornerNumbers → l′ ≡ sets l 0 (m .corners) → k ≡ length (m .corners) / width → Front l′ (m .corners) (width * k)
   front-corners l f e n = front l e (omega (arith, n, a .whole .corners)) (omega (arith, n, f, a .limits .corners))
 
-  pub front-sizes : (l : List ℕ) {l′ : List ℕ} {k : ℕ} → length l ≡ 1365 → l′ ≡ sets l 0 (m .sizes) → k ≡ length (m .sizes) → Front l′ (m .sizes) k
+  pub front-sizes : (l : List ℕ) {l′ : List ℕ} {k : ℕ} → length l ≡ faceLimit → l′ ≡ sets l 0 (m .sizes) → k ≡ length (m .sizes) → Front l′ (m .sizes) k
   front-sizes l f e n = front l e (sym n) (omega (arith, n, f, a .limits .sizes))

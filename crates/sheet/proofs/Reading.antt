@@ -6,7 +6,7 @@ use Prim.Native.Nat.{_*_, _≤_, ℕ, zero, suc}
 use native.Mathlib.Omega.{arith}
 use lib.ListN.{take}
 use lib.Ieee.{Float}
-use Rattle.mesh.specs.Limits.{width}
+use Rattle.mesh.specs.Limits.{width, entryLimit, cornerLimit}
 use Rattle.mesh.specs.Mesh.{Mesh, meshOf}
 use Rattle.mesh.specs.Table.{meshNumber, short}
 use Rattle.mesh.proofs.Accepted.{Accepted, accepted}
@@ -49,10 +49,10 @@ pub record Fronts (m : Mesh) (p t n : List Float) (c s : List ℕ) (i j k l f : 
 
 -- no more of anything than the limits
 pub record Few (r : Panel) : Type 0 where
-  pub positions : r .positions ≤ 2048
-  pub textures : r .textures ≤ 2048
-  pub normals : r .normals ≤ 2048
-  pub corners : r .corners ≤ 4096
+  pub positions : r .positions ≤ entryLimit
+  pub textures : r .textures ≤ entryLimit
+  pub normals : r .normals ≤ entryLimit
+  pub corners : r .corners ≤ cornerLimit
 
 pub fronts-are :
     {m : Mesh} {p t n : List Float} {c s : List ℕ} {i j k l f : ℕ} → Fronts m p t n c s i j k l f

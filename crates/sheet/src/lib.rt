@@ -51,11 +51,11 @@ fn from_file(file: &[u8], out: &mut [u8]) -> usize
     requires { ⌜ 65536 ≤ length (now out) ⌝ }
     ensures { λ r. ⌜ Sheeted (printed (panelNumber [] (now (file .entry))) (panelMesh (now (file .entry)))) (now (out .entry)) (now (out .exit)) r ⌝ }
 {
-    let mut positions = [0.0f64; 6144];
-    let mut textures = [0.0f64; 4096];
-    let mut normals = [0.0f64; 6144];
-    let mut corners = [0u32; 12288];
-    let mut sizes = [0u32; 1365];
+    let mut positions = [0.0f64; mesh::POINT_NUMBERS];
+    let mut textures = [0.0f64; mesh::TEXEL_NUMBERS];
+    let mut normals = [0.0f64; mesh::POINT_NUMBERS];
+    let mut corners = [0u32; mesh::CORNER_NUMBERS];
+    let mut sizes = [0u32; mesh::FACES];
     read_in(
         file,
         &mut positions[..],
@@ -112,8 +112,8 @@ fn from_mesh(
     requires { ⌜ Ready (meshOf (now positions) (now textures) (now normals) (now corners) (now sizes)) (now out) ⌝ }
     ensures { λ r. ⌜ Sheeted (sheetText (foundIn (cleaned (meshOf (now (positions .entry)) (now (textures .entry)) (now (normals .entry)) (now (corners .entry)) (now (sizes .entry)))))) (now (out .entry)) (now (out .exit)) r ⌝ }
 {
-    let mut newcorners = [0u32; 12288];
-    let mut newsizes = [0u32; 1365];
+    let mut newcorners = [0u32; mesh::CORNER_NUMBERS];
+    let mut newsizes = [0u32; mesh::FACES];
     unfold_in(
         positions,
         textures,
@@ -173,10 +173,10 @@ fn from_unfolded(
     requires { ⌜ Ready (meshOf (now positions) (now textures) (now normals) (now corners) (now sizes)) (now out) ⌝ }
     ensures { λ r. ⌜ Sheeted (sheetText (foundIn (compacted (meshOf (now (positions .entry)) (now (textures .entry)) (now (normals .entry)) (now (corners .entry)) (now (sizes .entry)))))) (now (out .entry)) (now (out .exit)) r ⌝ }
 {
-    let mut newcorners = [0u32; 12288];
-    let mut newpositions = [0.0f64; 6144];
-    let mut newtextures = [0.0f64; 4096];
-    let mut newnormals = [0.0f64; 6144];
+    let mut newcorners = [0u32; mesh::CORNER_NUMBERS];
+    let mut newpositions = [0.0f64; mesh::POINT_NUMBERS];
+    let mut newtextures = [0.0f64; mesh::TEXEL_NUMBERS];
+    let mut newnormals = [0.0f64; mesh::POINT_NUMBERS];
     compact_in(
         positions,
         textures,
@@ -244,8 +244,8 @@ fn from_clean(
     requires { ⌜ Ready (meshOf (now positions) (now textures) (now normals) (now corners) (now sizes)) (now out) ⌝ }
     ensures { λ r. ⌜ Sheeted (sheetText (foundIn (meshOf (now (positions .entry)) (now (textures .entry)) (now (normals .entry)) (now (corners .entry)) (now (sizes .entry))))) (now (out .entry)) (now (out .exit)) r ⌝ }
 {
-    let mut flat = [0u32; 4096];
-    let mut lengths = [0u32; 4096];
+    let mut flat = [0u32; mesh::CORNERS];
+    let mut lengths = [0u32; mesh::CORNERS];
     found_in(
         positions,
         textures,

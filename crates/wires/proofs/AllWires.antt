@@ -17,6 +17,7 @@ use Rattle.lists.specs.Lists.{joined, keepIf}
 use Rattle.lists.proofs.Bools.{by-cases}
 use Rattle.lists.proofs.Parts.{joined-append}
 use Rattle.lists.proofs.Writing.{sets-append, sets-snoc}
+use Rattle.mesh.specs.Limits.{cornerLimit}
 use Rattle.edges.specs.Edges.{Edge}
 use Rattle.wires.specs.Hems.{Written, outs, pairs}
 use Rattle.wires.specs.House.{leastStart, Walk}
@@ -46,7 +47,7 @@ left-length {starts} {ends} {nexts} {firsts} s =
 pub wire-small : {starts ends nexts firsts : List ℕ} → Stands starts ends nexts firsts → (f c : ℕ) → length (trace f c (left starts ends firsts) .0) ≤ 4097
 wire-small {starts} {ends} {nexts} {firsts} s f c =
     let a : length (left starts ends firsts) ≤ length starts = left-length s in
-    let b : length starts ≤ 4096 = s .edges .few in
+    let b : length starts ≤ cornerLimit = s .edges .few in
     omega (arith, trace-kept f c (left starts ends firsts) .long)
 
 -- ---- one wire more behind those that are written

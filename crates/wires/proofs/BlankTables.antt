@@ -6,6 +6,7 @@ use Prim.Native.Nat.{ℕ, _≤_, _<_}
 use native.Mathlib.Omega.{arith}
 use lib.ListN.{length, getD, length-replicate, getD-replicate}
 use lib.Seq.{sets}
+use Rattle.mesh.specs.Limits.{entryLimit, cornerLimit}
 use Rattle.wires.specs.Hems.{pairs, EdgeLists, Written}
 use Rattle.wires.specs.House.{houseWires}
 use Rattle.wires.specs.Ported.{portedWires}
@@ -35,7 +36,7 @@ written-as {ws} {ws′} {flat} {lengths} {flat′} {lengths′} {m} {k} e w = su
 
 -- ---- tables of any size that is enough
 
-module _ (n m : ℕ) (small : n ≤ 2048) (wide : 4096 ≤ m) (starts ends : List ℕ) (h : EdgeLists starts ends n) where
+module _ (n m : ℕ) (small : n ≤ entryLimit) (wide : cornerLimit ≤ m) (starts ends : List ℕ) (h : EdgeLists starts ends n) where
   startable : Startable starts (blank n)
   startable = record { few = h .few; from = λ k l. rw (blank-length n) (h .from k l) }
 
@@ -62,10 +63,10 @@ module _ (n m : ℕ) (small : n ≤ 2048) (wide : 4096 ≤ m) (starts ends : Lis
   chain-all = chain-left starts ends (blank m) n small h room
 
 -- 2,048 positions and 4,096 edges are
-positions-few : 2048 ≤ 2048
+positions-few : entryLimit ≤ entryLimit
 positions-few = omega arith
 
-edges-many : 4096 ≤ 4096
+edges-many : cornerLimit ≤ cornerLimit
 edges-many = omega arith
 
 -- ---- ported wires
@@ -73,15 +74,15 @@ edges-many = omega arith
 module _ {starts ends nexts firsts flat lengths : List ℕ} (p : PortedIn starts ends nexts firsts flat lengths) where
   pub ported-startable : Startable starts firsts
   ported-startable =
-      subst (λ (l : List ℕ). Startable starts l) (sym (p .tables .firsts-is)) (startable 2048 4096 positions-few edges-many starts ends (p .given .edges))
+      subst (λ (l : List ℕ). Startable starts l) (sym (p .tables .firsts-is)) (startable entryLimit cornerLimit positions-few edges-many starts ends (p .given .edges))
 
   module _ {firsts′ : List ℕ} (e : firsts′ ≡ numbered 0 firsts starts) where
-    as-numbered : firsts′ ≡ numbered 0 (blank 2048) starts
+    as-numbered : firsts′ ≡ numbered 0 (blank entryLimit) starts
     as-numbered = e ∙ ap (λ (l : List ℕ). numbered 0 l starts) (p .tables .firsts-is)
 
     ported-stands : Stands starts ends nexts firsts′
     ported-stands =
-        let s : Stands starts ends (blank 4096) (numbered 0 (blank 2048) starts) = last-fit 2048 4096 positions-few edges-many starts ends (p .given .edges) in
+        let s : Stands starts ends (blank cornerLimit) (numbered 0 (blank entryLimit) starts) = last-fit entryLimit cornerLimit positions-few edges-many starts ends (p .given .edges) in
         rw (as-numbered, p .tables .nexts-is) s
 
     pub ported-left : AllLeft starts ends nexts firsts′ flat lengths
@@ -96,32 +97,32 @@ module _ {starts ends nexts firsts flat lengths : List ℕ} (p : PortedIn starts
     pub ported-traced : traces (left starts ends firsts′) ≡ portedWires (pairs starts ends)
     ported-traced =
         ap (λ (l : List ℕ). traces (left starts ends l)) as-numbered
-        ∙ sym (last-wires 2048 4096 positions-few edges-many starts ends (p .given .edges))
+        ∙ sym (last-wires entryLimit cornerLimit positions-few edges-many starts ends (p .given .edges))
 
 -- ---- house wires
 
 module _ {starts ends nexts firsts flat lengths : List ℕ} (p : HouseIn starts ends nexts firsts flat lengths) where
   pub house-linkable : Linkable starts nexts firsts
   house-linkable =
-      let s : Startable starts (blank 2048) = startable 2048 4096 positions-few edges-many starts ends (p .given .edges) in
+      let s : Startable starts (blank entryLimit) = startable entryLimit cornerLimit positions-few edges-many starts ends (p .given .edges) in
       record {
         startable = rw (p .tables .firsts-is) s;
-        room = rw (p .tables .nexts-is) (room 2048 4096 positions-few edges-many starts ends (p .given .edges));
+        room = rw (p .tables .nexts-is) (room entryLimit cornerLimit positions-few edges-many starts ends (p .given .edges));
       }
 
   module _ {nexts′ firsts′ : List ℕ} (c : LinkedAll starts nexts firsts nexts′ firsts′) where
-    as-chained : firsts′ ≡ chained 0 (blank 2048) starts
+    as-chained : firsts′ ≡ chained 0 (blank entryLimit) starts
     as-chained = c .firsts-is ∙ ap (λ (l : List ℕ). chained 0 l starts) (p .tables .firsts-is)
 
-    as-nexts : nexts′ ≡ sets (blank 4096) 0 (nextsFrom 0 (blank 2048) starts)
+    as-nexts : nexts′ ≡ sets (blank cornerLimit) 0 (nextsFrom 0 (blank entryLimit) starts)
     as-nexts = c .nexts-is ∙ ap₂ (λ (a b : List ℕ). sets a 0 (nextsFrom 0 b starts)) (p .tables .nexts-is) (p .tables .firsts-is)
 
     house-stands : Stands starts ends nexts′ firsts′
-    house-stands = rw (as-chained, as-nexts) (chain-fit 2048 4096 positions-few edges-many starts ends (p .given .edges))
+    house-stands = rw (as-chained, as-nexts) (chain-fit entryLimit cornerLimit positions-few edges-many starts ends (p .given .edges))
 
     pub house-wires-are : traces (left starts ends firsts′) ≡ houseWires (pairs starts ends)
     house-wires-are =
-        ap traces (ap (left starts ends) as-chained ∙ chain-all 2048 4096 positions-few edges-many starts ends (p .given .edges))
+        ap traces (ap (left starts ends) as-chained ∙ chain-all entryLimit cornerLimit positions-few edges-many starts ends (p .given .edges))
         ∙ sym (house-traced (pairs starts ends) (p .given .rises) (p .given .balanced))
 
     pub house-left : AllLeft starts ends nexts′ firsts′ flat lengths

@@ -12,6 +12,7 @@ use lib.Seq.{sets, length-sets, getD-set-same, getD-set-other, getD-drop}
 use borrow.Author.Tests.{le-leb, eqb-true, eqb-false}
 use Rattle.lists.proofs.Bools.{by-cases}
 use Rattle.lists.proofs.Writing.{sets-front}
+use Rattle.mesh.specs.Limits.{entryLimit}
 use Rattle.edges.specs.Edges.{Edge}
 use Rattle.wires.specs.Hems.{EdgeLists, pairs}
 use Rattle.wires.specs.Tables.{leftFrom, left, Next, Stands, chained, nextsFrom, nobody}
@@ -106,7 +107,7 @@ all-left firsts i (e ∷ h) f =
     (ap (λ (g : List Edge). e ∷ g)
     (all-left firsts (suc i) h (λ j l. let m : getD firsts (edgeAt h j .0) 0 ≤ i + suc j = f (suc j) (omega arith) in omega arith)))
 
-module _ (starts ends nexts : List ℕ) (n : ℕ) (small : n ≤ 2048) (h : EdgeLists starts ends n) (room : length starts ≤ length nexts) where
+module _ (starts ends nexts : List ℕ) (n : ℕ) (small : n ≤ entryLimit) (h : EdgeLists starts ends n) (room : length starts ≤ length nexts) where
   abbrev table : List ℕ
   table = chained 0 (replicate n nobody) starts
 

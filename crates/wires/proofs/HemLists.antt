@@ -12,7 +12,7 @@ use Rattle.lists.specs.Lists.{every}
 use Rattle.lists.proofs.Bools.{and-left, and-right}
 use Rattle.lists.proofs.Parts.{every-at}
 use Rattle.lists.proofs.Writing.{sets-front}
-use Rattle.mesh.specs.Limits.{width}
+use Rattle.mesh.specs.Limits.{width, entryLimit, cornerLimit}
 use Rattle.mesh.specs.Mesh.{Ring, position, rings}
 use Rattle.edges.specs.Edges.{Edge, edgesOf, Verdict, Irregular, Regular, verdict, hems}
 use Rattle.wires.specs.Hems.{pairs, EdgeLists, Balanced, Portable, Houseable}
@@ -43,7 +43,7 @@ module _ {k : ℕ} (l : List ℕ) {l′ : List ℕ} (vs : List ℕ) (e : l′ �
 
 -- ---- the hem edges as lists of starts and ends
 
-pub edge-lists : (n : ℕ) (h : List Edge) → n ≤ 2048 → length h ≤ 4096 → every (inside n) h ≡ true → EdgeLists (startsOf h) (endsOf h) 2048
+pub edge-lists : (n : ℕ) (h : List Edge) → n ≤ entryLimit → length h ≤ cornerLimit → every (inside n) h ≡ true → EdgeLists (startsOf h) (endsOf h) entryLimit
 edge-lists n h small few q =
     let a : length (startsOf h) ≡ length h = length-map h (λ (e : Edge). e .0) in
     let b : length (endsOf h) ≡ length h = length-map h (λ (e : Edge). e .1) in
@@ -86,10 +86,10 @@ module _ {cs s : List ℕ} {n : ℕ} (e : Edged cs s n) where
       let b : length (edgesOf (rings s cs)) ≡ length cs / width = length-uses cs s (e .sound) in
       omega arith
 
-  hem-few : length (hems (edgesOf (rings s cs))) ≤ 4096
+  hem-few : length (hems (edgesOf (rings s cs))) ≤ cornerLimit
   hem-few = omega (arith, hem-count, e .sound .fits)
 
-  hem-lists : EdgeLists (startsOf (hems (edgesOf (rings s cs)))) (endsOf (hems (edgesOf (rings s cs)))) 2048
+  hem-lists : EdgeLists (startsOf (hems (edgesOf (rings s cs)))) (endsOf (hems (edgesOf (rings s cs)))) entryLimit
   hem-lists =
       edge-lists n (hems (edgesOf (rings s cs))) (e .few) hem-few (hems-every (inside n) (edgesOf (rings s cs)) (uses-inside cs s n e))
 
@@ -97,7 +97,7 @@ module _ {cs s : List ℕ} {n : ℕ} (e : Edged cs s n) where
 
 module _
     {cs s : List ℕ} {n : ℕ} (e : Edged cs s n) {starts₀ ends₀ starts′ ends′ : List ℕ} {r : Hems}
-    (starts-blank : starts₀ ≡ replicate 4096 0) (ends-blank : ends₀ ≡ replicate 4096 0)
+    (starts-blank : starts₀ ≡ replicate cornerLimit 0) (ends-blank : ends₀ ≡ replicate cornerLimit 0)
     (g : Hemmed (edgesOf (rings s cs)) starts₀ ends₀ starts′ ends′ r) where
   abbrev h : List Edge
   h = hems (edgesOf (rings s cs))
@@ -109,10 +109,10 @@ module _
   ends-count = length-map h (λ (x : Edge). x .1)
 
   starts-room : length (startsOf h) ≤ length starts₀
-  starts-room = let a : length starts₀ ≡ 4096 = ap length starts-blank ∙ length-replicate {A = ℕ} 4096 0 in omega (arith, starts-count, hem-few e)
+  starts-room = let a : length starts₀ ≡ cornerLimit = ap length starts-blank ∙ length-replicate {A = ℕ} cornerLimit 0 in omega (arith, starts-count, hem-few e)
 
   ends-room : length (endsOf h) ≤ length ends₀
-  ends-room = let a : length ends₀ ≡ 4096 = ap length ends-blank ∙ length-replicate {A = ℕ} 4096 0 in omega (arith, ends-count, hem-few e)
+  ends-room = let a : length ends₀ ≡ cornerLimit = ap length ends-blank ∙ length-replicate {A = ℕ} cornerLimit 0 in omega (arith, ends-count, hem-few e)
 
   pub starts-fit : r .count ≤ length starts′
   starts-fit = part-fits starts₀ (startsOf h) (g .starting) (g .count ∙ sym starts-count) starts-room

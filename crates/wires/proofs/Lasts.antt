@@ -15,6 +15,7 @@ use borrow.Author.Tests.{leb-true, le-leb, ltb-true, ltb-false, eqb-true, eqb-fa
 use Rattle.lists.specs.Lists.{keepIf, only}
 use Rattle.lists.proofs.Bools.{by-cases}
 use Rattle.lists.proofs.Only.{only-append}
+use Rattle.mesh.specs.Limits.{entryLimit}
 use Rattle.edges.specs.Edges.{Edge}
 use Rattle.wires.specs.Hems.{EdgeLists, pairs}
 use Rattle.wires.specs.Ported.{put, fill, portedWires}
@@ -288,7 +289,7 @@ lasts-all n d (e ∷ h) firsts r f =
 -- ---- ported wires are the wires of what the table stands for
 
 module _
-    (starts ends nexts : List ℕ) (n : ℕ) (small : n ≤ 2048) (h : EdgeLists starts ends n) (room : length starts ≤ length nexts)
+    (starts ends nexts : List ℕ) (n : ℕ) (small : n ≤ entryLimit) (h : EdgeLists starts ends n) (room : length starts ≤ length nexts)
     (free : (k : ℕ) → k < length starts → getD nexts k 0 ≡ nobody) where
   abbrev edges : List Edge
   edges = pairs starts ends

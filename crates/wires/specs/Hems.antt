@@ -6,6 +6,7 @@ use lib.Dec.{eqb}
 use lib.ListN.{length, getD}
 use lib.Seq.{sets}
 use Rattle.lists.specs.Lists.{count, joined}
+use Rattle.mesh.specs.Limits.{entryLimit, cornerLimit}
 use Rattle.edges.specs.Edges.{Edge}
 
 -- the edges from each start to its end
@@ -17,7 +18,7 @@ pairs (s ∷ ss) (e ∷ es) = (s, e) ∷ pairs ss es
 -- as many starts as ends, few enough, and each of them a position below n
 pub record EdgeLists (starts ends : List ℕ) (n : ℕ) : Type 0 where
   pub paired : length starts ≡ length ends
-  pub few : length starts ≤ 4096
+  pub few : length starts ≤ cornerLimit
   pub from : (k : ℕ) → k < length starts → getD starts k 0 < n
   pub into : (k : ℕ) → k < length starts → getD ends k 0 < n
 
@@ -43,13 +44,13 @@ Rises (e ∷ h) = Lowest e h × Rises h
 
 -- what ported wires are given: room for two numbers and one wire per edge
 pub record Portable (starts ends flat lengths : List ℕ) : Type 0 where
-  pub edges : EdgeLists starts ends 2048
+  pub edges : EdgeLists starts ends entryLimit
   pub numbers : 2 * length starts ≤ length flat
   pub wires : length starts ≤ length lengths
 
 -- what house wires are given: balanced edges whose ends rise, and room for one number and one wire per edge
 pub record Houseable (starts ends flat lengths : List ℕ) : Type 0 where
-  pub edges : EdgeLists starts ends 2048
+  pub edges : EdgeLists starts ends entryLimit
   pub balanced : Balanced (pairs starts ends)
   pub rises : Rises (pairs starts ends)
   pub numbers : length starts ≤ length flat

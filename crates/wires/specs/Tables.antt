@@ -7,6 +7,7 @@ use lib.Dec.{leb}
 use lib.ListN.{length, getD, set, replicate}
 use lib.Seq.{sets}
 use Rattle.lists.specs.Lists.{keepIf}
+use Rattle.mesh.specs.Limits.{entryLimit, cornerLimit}
 use Rattle.edges.specs.Edges.{Edge}
 use Rattle.wires.specs.Hems.{pairs, EdgeLists}
 
@@ -33,7 +34,7 @@ pub record Linked (starts nexts firsts : List ℕ) : Type 0 where
 
 -- the hem edges and their tables, over at most 2,048 positions
 pub record Stands (starts ends nexts firsts : List ℕ) : Type 0 where
-  pub low : length firsts ≤ 2048
+  pub low : length firsts ≤ entryLimit
   pub edges : EdgeLists starts ends (length firsts)
   pub linked : Linked starts nexts firsts
 
@@ -54,7 +55,7 @@ nextsFrom k firsts (s ∷ ss) = getD (chained (suc k) firsts ss) s 0 ∷ nextsFr
 
 -- what both are given, and what the second gives
 pub record Startable (starts firsts : List ℕ) : Type 0 where
-  pub few : length starts ≤ 4096
+  pub few : length starts ≤ cornerLimit
   pub from : (k : ℕ) → k < length starts → getD starts k 0 < length firsts
 
 pub record Linkable (starts nexts firsts : List ℕ) : Type 0 where
@@ -73,5 +74,5 @@ unfoldable pub blank : ℕ → List ℕ
 blank n = replicate n nobody
 
 pub record BothBlank (nexts firsts : List ℕ) : Type 0 where
-  pub nexts-is : nexts ≡ blank 4096
-  pub firsts-is : firsts ≡ blank 2048
+  pub nexts-is : nexts ≡ blank cornerLimit
+  pub firsts-is : firsts ≡ blank entryLimit

@@ -129,8 +129,8 @@ fn ported_of(
     requires { ⌜ PortedOf (now corners) (now sizes) positions (now flat) (now lengths) ⌝ }
     ensures { λ r. ⌜ Written (portedWires (hems (edgesOf (rings (now (sizes .entry)) (now (corners .entry)))))) (now (flat .entry)) (now (lengths .entry)) (now (flat .exit)) (now (lengths .exit)) (r .flat) (r .wires) ⌝ }
 {
-    let mut starts = [0u32; 4096];
-    let mut ends = [0u32; 4096];
+    let mut starts = [0u32; mesh::CORNERS];
+    let mut ends = [0u32; mesh::CORNERS];
     let found = edges::hems_of(corners, sizes, positions, &mut starts[..], &mut ends[..]);
     let n = found.count;
     trace_ported(&starts[..n], &ends[..n], flat, lengths)
@@ -147,8 +147,8 @@ fn house_of(
     requires { ⌜ HouseOf (now corners) (now sizes) positions (now flat) (now lengths) ⌝ }
     ensures { λ r. ⌜ HouseDone (edgesOf (rings (now (sizes .entry)) (now (corners .entry)))) (now (flat .entry)) (now (lengths .entry)) (now (flat .exit)) (now (lengths .exit)) (r .number) (r .flat) (r .wires) ⌝ }
 {
-    let mut starts = [0u32; 4096];
-    let mut ends = [0u32; 4096];
+    let mut starts = [0u32; mesh::CORNERS];
+    let mut ends = [0u32; mesh::CORNERS];
     let found = edges::hems_of(corners, sizes, positions, &mut starts[..], &mut ends[..]);
     let verdict = found.verdict;
     if !is_wired(verdict) {
@@ -168,8 +168,8 @@ pub fn trace_ported(starts: &[u32], ends: &[u32], flat: &mut [u32], lengths: &mu
     requires { ⌜ Portable (now starts) (now ends) (now flat) (now lengths) ⌝ }
     ensures { λ r. ⌜ Written (portedWires (pairs (now (starts .entry)) (now (ends .entry)))) (now (flat .entry)) (now (lengths .entry)) (now (flat .exit)) (now (lengths .exit)) (r .flat) (r .wires) ⌝ }
 {
-    let mut firsts = [NOBODY; 2048];
-    let nexts = [NOBODY; 4096];
+    let mut firsts = [NOBODY; mesh::ENTRIES];
+    let nexts = [NOBODY; mesh::CORNERS];
     ported_in(starts, ends, &nexts[..], &mut firsts[..], flat, lengths)
 }
 
@@ -178,8 +178,8 @@ pub fn trace_house(starts: &[u32], ends: &[u32], flat: &mut [u32], lengths: &mut
     requires { ⌜ Houseable (now starts) (now ends) (now flat) (now lengths) ⌝ }
     ensures { λ r. ⌜ Written (houseWires (pairs (now (starts .entry)) (now (ends .entry)))) (now (flat .entry)) (now (lengths .entry)) (now (flat .exit)) (now (lengths .exit)) (r .flat) (r .wires) ⌝ }
 {
-    let mut firsts = [NOBODY; 2048];
-    let mut nexts = [NOBODY; 4096];
+    let mut firsts = [NOBODY; mesh::ENTRIES];
+    let mut nexts = [NOBODY; mesh::CORNERS];
     house_in(starts, ends, &mut nexts[..], &mut firsts[..], flat, lengths)
 }
 

@@ -5,7 +5,7 @@ use Prim.Native.Nat.{ℕ, _/_, _≤_}
 use lib.ListN.{length}
 use native.Mathlib.Omega.{arith}
 use borrow.Author.Needs.{needs}
-use Rattle.mesh.specs.Limits.{width}
+use Rattle.mesh.specs.Limits.{width, cornerLimit}
 use Rattle.edges.proofs.hems_of.Statement.{statement}
 use Rattle.edges.proofs.hems_of.Tie as tie
 
@@ -13,36 +13,36 @@ array-borrow-prefix-lowers : tie.Need-array-borrow-prefix-lowers
 array-borrow-prefix-lowers c = search needs
 
 slice-aggregate-hem : tie.Need-slice-aggregate-hem
-slice-aggregate-hem c = let h : length (c .before .before .before .before .before .args .corners .now) / width ≤ 4096 = omega (arith, c .before .before .before .before .before .pre .0 .sound .fits) in sym (length-front 0 (length (c .before .before .before .before .before .args .corners .now) / width) 4096 h)
+slice-aggregate-hem c = let h : length (c .before .before .before .before .before .args .corners .now) / width ≤ cornerLimit = omega (arith, c .before .before .before .before .before .pre .0 .sound .fits) in sym (length-front 0 (length (c .before .before .before .before .before .args .corners .now) / width) cornerLimit h)
 
 array-borrow-prefix-highers : tie.Need-array-borrow-prefix-highers
 array-borrow-prefix-highers c = search needs
 
 slice-aggregate-hem-2 : tie.Need-slice-aggregate-hem-2
-slice-aggregate-hem-2 c = let h : length (c .before .before .before .before .before .before .args .corners .now) / width ≤ 4096 = omega (arith, c .before .before .before .before .before .before .pre .0 .sound .fits) in sym (length-front 0 (length (c .before .before .before .before .before .before .args .corners .now) / width) 4096 h)
+slice-aggregate-hem-2 c = let h : length (c .before .before .before .before .before .before .args .corners .now) / width ≤ cornerLimit = omega (arith, c .before .before .before .before .before .before .pre .0 .sound .fits) in sym (length-front 0 (length (c .before .before .before .before .before .before .args .corners .now) / width) cornerLimit h)
 
 array-borrow-prefix-downs : tie.Need-array-borrow-prefix-downs
 array-borrow-prefix-downs c = search needs
 
 slice-aggregate-hem-3 : tie.Need-slice-aggregate-hem-3
-slice-aggregate-hem-3 c = let h : length (c .before .before .before .before .before .before .before .args .corners .now) / width ≤ 4096 = omega (arith, c .before .before .before .before .before .before .before .pre .0 .sound .fits) in sym (length-front 0 (length (c .before .before .before .before .before .before .before .args .corners .now) / width) 4096 h)
+slice-aggregate-hem-3 c = let h : length (c .before .before .before .before .before .before .before .args .corners .now) / width ≤ cornerLimit = omega (arith, c .before .before .before .before .before .before .before .pre .0 .sound .fits) in sym (length-front 0 (length (c .before .before .before .before .before .before .before .args .corners .now) / width) cornerLimit h)
 
 array-borrow-prefix-first : tie.Need-array-borrow-prefix-first
 array-borrow-prefix-first c = search needs
 
 slice-aggregate-hem-4 : tie.Need-slice-aggregate-hem-4
-slice-aggregate-hem-4 c = let h : length (c .before .before .before .before .before .before .before .before .args .corners .now) / width ≤ 4096 = omega (arith, c .before .before .before .before .before .before .before .before .pre .0 .sound .fits) in sym (length-front 0 (length (c .before .before .before .before .before .before .before .before .args .corners .now) / width) 4096 h)
+slice-aggregate-hem-4 c = let h : length (c .before .before .before .before .before .before .before .before .args .corners .now) / width ≤ cornerLimit = omega (arith, c .before .before .before .before .before .before .before .before .pre .0 .sound .fits) in sym (length-front 0 (length (c .before .before .before .before .before .before .before .before .args .corners .now) / width) cornerLimit h)
 
 array-borrow-prefix-order : tie.Need-array-borrow-prefix-order
 array-borrow-prefix-order c = search needs
 
 slice-aggregate-hem-5 : tie.Need-slice-aggregate-hem-5
-slice-aggregate-hem-5 c = let h : length (c .before .before .before .before .before .before .before .before .before .args .corners .now) / width ≤ 4096 = omega (arith, c .before .before .before .before .before .before .before .before .before .pre .0 .sound .fits) in sym (length-front 0 (length (c .before .before .before .before .before .before .before .before .before .args .corners .now) / width) 4096 h)
+slice-aggregate-hem-5 c = let h : length (c .before .before .before .before .before .before .before .before .before .args .corners .now) / width ≤ cornerLimit = omega (arith, c .before .before .before .before .before .before .before .before .before .pre .0 .sound .fits) in sym (length-front 0 (length (c .before .before .before .before .before .before .before .before .before .args .corners .now) / width) cornerLimit h)
 
 hem-requires : tie.Need-hem-requires
 hem-requires c κs =
-    let h : length (c .before .before .before .before .before .before .before .before .before .before .before .args .corners .now) / width ≤ 4096 = omega (arith, c .before .before .before .before .before .before .before .before .before .before .before .pre .0 .sound .fits) in
-    let l = length-front {B = ℕ} 0 (length (c .before .before .before .before .before .before .before .before .before .before .before .args .corners .now) / width) 4096 h in
+    let h : length (c .before .before .before .before .before .before .before .before .before .before .before .args .corners .now) / width ≤ cornerLimit = omega (arith, c .before .before .before .before .before .before .before .before .before .before .before .pre .0 .sound .fits) in
+    let l = length-front {B = ℕ} 0 (length (c .before .before .before .before .before .before .before .before .before .before .before .args .corners .now) / width) cornerLimit h in
     (c .before .before .before .before .before .before .before .before .before .before .before .pre .0, record { lower = l; higher = l; down = l; earlier = l; later = l }, c .before .before .before .before .before .before .before .before .before .before .before .pre .1, c .before .before .before .before .before .before .before .before .before .before .before .pre .2)
 
 same-length : tie.Need-same-length

@@ -5,7 +5,7 @@ use Prim.Native.Nat.{ℕ, _/_, _≤_}
 use lib.ListN.{length}
 use native.Mathlib.Omega.{arith}
 use borrow.Author.Needs.{needs}
-use Rattle.mesh.specs.Limits.{width}
+use Rattle.mesh.specs.Limits.{width, cornerLimit}
 use Rattle.edges.proofs.verdict_of.Statement.{statement}
 use Rattle.edges.proofs.verdict_of.Tie as tie
 
@@ -13,36 +13,36 @@ array-borrow-prefix-lowers : tie.Need-array-borrow-prefix-lowers
 array-borrow-prefix-lowers c = search needs
 
 slice-aggregate-judge : tie.Need-slice-aggregate-judge
-slice-aggregate-judge c = let h : length (c .before .before .before .args .corners .now) / width ≤ 4096 = omega (arith, c .before .before .before .pre .sound .fits) in sym (length-front 0 (length (c .before .before .before .args .corners .now) / width) 4096 h)
+slice-aggregate-judge c = let h : length (c .before .before .before .args .corners .now) / width ≤ cornerLimit = omega (arith, c .before .before .before .pre .sound .fits) in sym (length-front 0 (length (c .before .before .before .args .corners .now) / width) cornerLimit h)
 
 array-borrow-prefix-highers : tie.Need-array-borrow-prefix-highers
 array-borrow-prefix-highers c = search needs
 
 slice-aggregate-judge-2 : tie.Need-slice-aggregate-judge-2
-slice-aggregate-judge-2 c = let h : length (c .before .before .before .before .args .corners .now) / width ≤ 4096 = omega (arith, c .before .before .before .before .pre .sound .fits) in sym (length-front 0 (length (c .before .before .before .before .args .corners .now) / width) 4096 h)
+slice-aggregate-judge-2 c = let h : length (c .before .before .before .before .args .corners .now) / width ≤ cornerLimit = omega (arith, c .before .before .before .before .pre .sound .fits) in sym (length-front 0 (length (c .before .before .before .before .args .corners .now) / width) cornerLimit h)
 
 array-borrow-prefix-downs : tie.Need-array-borrow-prefix-downs
 array-borrow-prefix-downs c = search needs
 
 slice-aggregate-judge-3 : tie.Need-slice-aggregate-judge-3
-slice-aggregate-judge-3 c = let h : length (c .before .before .before .before .before .args .corners .now) / width ≤ 4096 = omega (arith, c .before .before .before .before .before .pre .sound .fits) in sym (length-front 0 (length (c .before .before .before .before .before .args .corners .now) / width) 4096 h)
+slice-aggregate-judge-3 c = let h : length (c .before .before .before .before .before .args .corners .now) / width ≤ cornerLimit = omega (arith, c .before .before .before .before .before .pre .sound .fits) in sym (length-front 0 (length (c .before .before .before .before .before .args .corners .now) / width) cornerLimit h)
 
 array-borrow-prefix-first : tie.Need-array-borrow-prefix-first
 array-borrow-prefix-first c = search needs
 
 slice-aggregate-judge-4 : tie.Need-slice-aggregate-judge-4
-slice-aggregate-judge-4 c = let h : length (c .before .before .before .before .before .before .args .corners .now) / width ≤ 4096 = omega (arith, c .before .before .before .before .before .before .pre .sound .fits) in sym (length-front 0 (length (c .before .before .before .before .before .before .args .corners .now) / width) 4096 h)
+slice-aggregate-judge-4 c = let h : length (c .before .before .before .before .before .before .args .corners .now) / width ≤ cornerLimit = omega (arith, c .before .before .before .before .before .before .pre .sound .fits) in sym (length-front 0 (length (c .before .before .before .before .before .before .args .corners .now) / width) cornerLimit h)
 
 array-borrow-prefix-order : tie.Need-array-borrow-prefix-order
 array-borrow-prefix-order c = search needs
 
 slice-aggregate-judge-5 : tie.Need-slice-aggregate-judge-5
-slice-aggregate-judge-5 c = let h : length (c .before .before .before .before .before .before .before .args .corners .now) / width ≤ 4096 = omega (arith, c .before .before .before .before .before .before .before .pre .sound .fits) in sym (length-front 0 (length (c .before .before .before .before .before .before .before .args .corners .now) / width) 4096 h)
+slice-aggregate-judge-5 c = let h : length (c .before .before .before .before .before .before .before .args .corners .now) / width ≤ cornerLimit = omega (arith, c .before .before .before .before .before .before .before .pre .sound .fits) in sym (length-front 0 (length (c .before .before .before .before .before .before .before .args .corners .now) / width) cornerLimit h)
 
 judge-requires : tie.Need-judge-requires
 judge-requires c κs =
-    let h : length (c .before .before .before .before .before .before .before .args .corners .now) / width ≤ 4096 = omega (arith, c .before .before .before .before .before .before .before .pre .sound .fits) in
-    let l = length-front {B = ℕ} 0 (length (c .before .before .before .before .before .before .before .args .corners .now) / width) 4096 h in
+    let h : length (c .before .before .before .before .before .before .before .args .corners .now) / width ≤ cornerLimit = omega (arith, c .before .before .before .before .before .before .before .pre .sound .fits) in
+    let l = length-front {B = ℕ} 0 (length (c .before .before .before .before .before .before .before .args .corners .now) / width) cornerLimit h in
     (c .before .before .before .before .before .before .before .pre, record { lower = l; higher = l; down = l; earlier = l; later = l })
 
 returns : tie.Need-returns

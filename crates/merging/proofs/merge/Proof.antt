@@ -5,6 +5,7 @@ use native.Mathlib.Omega.{arith}
 use lib.ListN.{length-replicate}
 use denote.Ref.{now}
 use borrow.Author.Needs.{needs}
+use Rattle.mesh.specs.Limits.{entryLimit}
 use Rattle.mesh.specs.Mesh.{Mesh, meshOf}
 use Rattle.merging.proofs.Whole.{positions-ready, positions-few, textures-ready, normals-ready, corners-ready, accepted-call}
 use Rattle.merging.proofs.merge.Statement.{statement}
@@ -17,31 +18,31 @@ slice-aggregate-merge-positions : tie.Need-slice-aggregate-merge-positions
 slice-aggregate-merge-positions c = search needs
 
 merge-positions-requires : tie.Need-merge-positions-requires
-merge-positions-requires c κs = (positions-ready (whole (c .before .before .before .before .before .before .before)) (c .before .before .before .before .before .before .before .args .t) (now (c .before .before .before .before .before .before .before .args .out)) (c .before .before .before .before .before .before .before .pre), omega (arith, positions-few (whole (c .before .before .before .before .before .before .before)) (c .before .before .before .before .before .before .before .args .t) (now (c .before .before .before .before .before .before .before .args .out)) (c .before .before .before .before .before .before .before .pre), length-replicate {A = ℕ} 2048 0))
+merge-positions-requires c κs = (positions-ready (whole (c .before .before .before .before .before .before .before)) (c .before .before .before .before .before .before .before .args .t) (now (c .before .before .before .before .before .before .before .args .out)) (c .before .before .before .before .before .before .before .pre), omega (arith, positions-few (whole (c .before .before .before .before .before .before .before)) (c .before .before .before .before .before .before .before .args .t) (now (c .before .before .before .before .before .before .before .args .out)) (c .before .before .before .before .before .before .before .pre), length-replicate {A = ℕ} entryLimit 0))
 
 slice-aggregate-merge-list : tie.Need-slice-aggregate-merge-list
 slice-aggregate-merge-list c = search needs
 
 merge-list-requires : tie.Need-merge-list-requires
-merge-list-requires c κs = textures-ready (whole (c .before .before .before .before .before .before .before .before .before .before)) (c .before .before .before .before .before .before .before .before .before .before .args .t) (now (c .before .before .before .before .before .before .before .before .before .before .args .out)) (c .before .before .before .before .before .before .before .before .before .before .pre) _ (length-replicate {A = ℕ} 2048 0)
+merge-list-requires c κs = textures-ready (whole (c .before .before .before .before .before .before .before .before .before .before)) (c .before .before .before .before .before .before .before .before .before .before .args .t) (now (c .before .before .before .before .before .before .before .before .before .before .args .out)) (c .before .before .before .before .before .before .before .before .before .before .pre) _ (length-replicate {A = ℕ} entryLimit 0)
 
 slice-aggregate-merge-list-2 : tie.Need-slice-aggregate-merge-list-2
 slice-aggregate-merge-list-2 c = search needs
 
 merge-list-requires-2 : tie.Need-merge-list-requires-2
-merge-list-requires-2 c κs = normals-ready (whole (c .before .before .before .before .before .before .before .before .before .before .before .before .before)) (c .before .before .before .before .before .before .before .before .before .before .before .before .before .args .t) (now (c .before .before .before .before .before .before .before .before .before .before .before .before .before .args .out)) (c .before .before .before .before .before .before .before .before .before .before .before .before .before .pre) _ (length-replicate {A = ℕ} 2048 0)
+merge-list-requires-2 c κs = normals-ready (whole (c .before .before .before .before .before .before .before .before .before .before .before .before .before)) (c .before .before .before .before .before .before .before .before .before .before .before .before .before .args .t) (now (c .before .before .before .before .before .before .before .before .before .before .before .before .before .args .out)) (c .before .before .before .before .before .before .before .before .before .before .before .before .before .pre) _ (length-replicate {A = ℕ} entryLimit 0)
 
 slice-aggregate-send-corners : tie.Need-slice-aggregate-send-corners
-slice-aggregate-send-corners c = sym (c .before .before .before .before .before .before .before .before .merge-positions .kept .1 .1 .0 ∙ length-replicate {A = ℕ} 2048 0)
+slice-aggregate-send-corners c = sym (c .before .before .before .before .before .before .before .before .merge-positions .kept .1 .1 .0 ∙ length-replicate {A = ℕ} entryLimit 0)
 
 slice-aggregate-send-corners-2 : tie.Need-slice-aggregate-send-corners-2
-slice-aggregate-send-corners-2 c = sym (c .before .before .before .before .before .before .merge-list .kept .1 .1 .1 .1 .0 ∙ length-replicate {A = ℕ} 2048 0)
+slice-aggregate-send-corners-2 c = sym (c .before .before .before .before .before .before .merge-list .kept .1 .1 .1 .1 .0 ∙ length-replicate {A = ℕ} entryLimit 0)
 
 slice-aggregate-send-corners-3 : tie.Need-slice-aggregate-send-corners-3
-slice-aggregate-send-corners-3 c = sym (c .before .before .before .before .merge-list2 .kept .1 .1 .1 .1 .0 ∙ length-replicate {A = ℕ} 2048 0)
+slice-aggregate-send-corners-3 c = sym (c .before .before .before .before .merge-list2 .kept .1 .1 .1 .1 .0 ∙ length-replicate {A = ℕ} entryLimit 0)
 
 send-corners-requires : tie.Need-send-corners-requires
-send-corners-requires c κs = corners-ready (whole (c .before .before .before .before .before .before .before .before .before .before .before .before .before .before .before .before .before .before .before)) (c .before .before .before .before .before .before .before .before .before .before .before .before .before .before .before .before .before .before .before .args .t) (now (c .before .before .before .before .before .before .before .before .before .before .before .before .before .before .before .before .before .before .before .args .out)) (c .before .before .before .before .before .before .before .before .before .before .before .before .before .before .before .before .before .before .before .pre) _ _ _ (c .before .before .before .before .before .before .before .before .before .before .before .merge-positions .kept .1 .1 .0 ∙ length-replicate {A = ℕ} 2048 0) (c .before .before .before .before .before .before .before .before .merge-list .kept .1 .1 .1 .1 .0 ∙ length-replicate {A = ℕ} 2048 0) (c .before .before .before .before .before .merge-list2 .kept .1 .1 .1 .1 .0 ∙ length-replicate {A = ℕ} 2048 0)
+send-corners-requires c κs = corners-ready (whole (c .before .before .before .before .before .before .before .before .before .before .before .before .before .before .before .before .before .before .before)) (c .before .before .before .before .before .before .before .before .before .before .before .before .before .before .before .before .before .before .before .args .t) (now (c .before .before .before .before .before .before .before .before .before .before .before .before .before .before .before .before .before .before .before .args .out)) (c .before .before .before .before .before .before .before .before .before .before .before .before .before .before .before .before .before .before .before .pre) _ _ _ (c .before .before .before .before .before .before .before .before .before .before .before .merge-positions .kept .1 .1 .0 ∙ length-replicate {A = ℕ} entryLimit 0) (c .before .before .before .before .before .before .before .before .merge-list .kept .1 .1 .1 .1 .0 ∙ length-replicate {A = ℕ} entryLimit 0) (c .before .before .before .before .before .merge-list2 .kept .1 .1 .1 .1 .0 ∙ length-replicate {A = ℕ} entryLimit 0)
 
 same-length : tie.Need-same-length
 same-length c = search needs

@@ -6,25 +6,26 @@ use lib.Seq.{length-take-le}
 use lib.ListN.{length, take, replicate, length-replicate}
 use denote.Ref.{now}
 use borrow.Author.Needs.{needs}
+use Rattle.mesh.specs.Limits.{pointNumbers}
 use Rattle.merging.proofs.OneList.{fits, cells-are, listed, pairs-are, settled-are}
 use Rattle.nearby.specs.Engine.{cellsOf}
 use Rattle.merging.proofs.merge_list.Statement.{statement}
 use Rattle.merging.proofs.merge_list.Tie as tie
 
 cells : (c : tie.After-fill-cells) → take (length (now (c .before .before .before .before .args .s))) (c .fill-cells .last .1 .1 .0) ≡ cellsOf (c .before .before .before .before .args .t) (now (c .before .before .before .before .args .s))
-cells c = cells-are (c .before .before .before .before .pre) (replicate 6144 0) _ (length-replicate {A = ℕ} 6144 0) (c .fill-cells .ensures)
+cells c = cells-are (c .before .before .before .before .pre) (replicate pointNumbers 0) _ (length-replicate {A = ℕ} pointNumbers 0) (c .fill-cells .ensures)
 
 slice-aggregate-fill-cells : tie.Need-slice-aggregate-fill-cells
 slice-aggregate-fill-cells c = search needs
 
 fill-cells-requires : tie.Need-fill-cells-requires
-fill-cells-requires c κs = (c .before .before .before .pre .near, omega (arith, fits (c .before .before .before .pre), length-replicate {A = ℕ} 6144 0))
+fill-cells-requires c κs = (c .before .before .before .pre .near, omega (arith, fits (c .before .before .before .pre), length-replicate {A = ℕ} pointNumbers 0))
 
 array-share-prefix-room : tie.Need-array-share-prefix-room
-array-share-prefix-room c = omega (arith, fits (c .before .before .before .before .before .pre), c .before .fill-cells .kept .1 .1 .0, length-replicate {A = ℕ} 6144 0)
+array-share-prefix-room c = omega (arith, fits (c .before .before .before .before .before .pre), c .before .fill-cells .kept .1 .1 .0, length-replicate {A = ℕ} pointNumbers 0)
 
 slice-aggregate-cells : tie.Need-slice-aggregate-cells
-slice-aggregate-cells c = sym (length-take-le _ _ (omega (arith, fits (c .before .before .before .before .before .before .pre), c .before .before .fill-cells .kept .1 .1 .0, length-replicate {A = ℕ} 6144 0)))
+slice-aggregate-cells c = sym (length-take-le _ _ (omega (arith, fits (c .before .before .before .before .before .before .pre), c .before .before .fill-cells .kept .1 .1 .0, length-replicate {A = ℕ} pointNumbers 0)))
 
 merge-groups-requires : tie.Need-merge-groups-requires
 merge-groups-requires c κs = (listed (c .before .before .before .before .before .before .before .pre) _ (cells (c .before .before .before)), c .before .before .before .before .before .before .before .pre .room)

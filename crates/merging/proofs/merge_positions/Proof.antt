@@ -7,13 +7,14 @@ use lib.ListN.{length, take, replicate, length-replicate}
 use lib.Seq.{length-take-le}
 use denote.Ref.{now}
 use borrow.Author.Needs.{needs}
+use Rattle.mesh.specs.Limits.{pointNumbers}
 use Rattle.floating.specs.Scaling.{scaledList}
 use Rattle.merging.proofs.Scaling.{none-merged, whole, scaled-are, mergeable, merged-are}
 use Rattle.merging.proofs.merge_positions.Statement.{statement}
 use Rattle.merging.proofs.merge_positions.Tie as tie
 
 scaled : (c : tie.After-scale) → take (length (now (c .before .before .before .before .before .args .positions))) (c .scale .last .1 .0) ≡ scaledList (now (c .before .before .before .before .before .args .positions))
-scaled c = scaled-are _ _ (c .before .before .before .before .before .pre .0) (replicate 6144 (ofBits binary64 0)) _ (length-replicate {A = Float} 6144 (ofBits binary64 0)) (c .scale .ensures)
+scaled c = scaled-are _ _ (c .before .before .before .before .before .pre .0) (replicate pointNumbers (ofBits binary64 0)) _ (length-replicate {A = Float} pointNumbers (ofBits binary64 0)) (c .scale .ensures)
 
 returns : tie.Need-returns
 returns c = none-merged (c .before .before .before .args .t) _ _ _ (c .if1 .taken)
