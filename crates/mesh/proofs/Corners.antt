@@ -1,82 +1,108 @@
--- The corners of a flat list: one more of what is left, the one at a place, flat again, and those of two lists. Assumes nothing.
+-- The corners of a flat list: one more of what is left, the one at a place, flat again, and those of two parts. How many numbers a
+-- corner has matters to one law alone, that of the numbers of one corner. Assumes nothing.
 use mathlib.Core.Path.{_≡_, refl, ap, sym, _∙_}
 use mathlib.Core.Bool.{Bool, true}
-use mathlib.Core.List.{List, [], _∷_, _++_}
-use Prim.Native.Nat.{ℕ, zero, suc, _+_, _*_, _/_, _%_, _≤_, _<_}
-use native.Mathlib.Nat.{not-suc-le-zero}
+use mathlib.Core.List.{List, [], _∷_, _++_, append-assoc}
+use Prim.Native.Nat.{ℕ, zero, suc, _+_, _*_, _-_, _/_, _%_, _≤_, _<_}
+use native.Mathlib.Nat.{not-suc-le-zero, le-of-suc-le-suc}
 use native.Mathlib.Numerals.{towards-suc}
 use native.Mathlib.Omega.{arith}
-use lib.ListN.{length, getD, take, drop, length-append, take-append-drop}
-use lib.Seq.{drop-cons, length-take-le}
+use lib.ListN.{length, getD, take, drop, length-append, length-drop, take-append-drop}
+use lib.Seq.{drop-cons, drop-drop, take-at, drop-at, length-take-le}
 use lib.Dec.{eqb}
-use borrow.Author.Tests.{eqb-true}
+use borrow.Author.Tests.{eq-eqb, eqb-true}
 use Rattle.lists.specs.Lists.{every, joined}
-use Rattle.lists.proofs.Bools.{and-left, and-right}
+use Rattle.lists.proofs.Bools.{and-both, and-left, and-right}
 use Rattle.mesh.specs.Limits.{width}
-use Rattle.mesh.specs.Mesh.{Corner, Ring, threes, cornerAt}
+use Rattle.mesh.specs.Mesh.{Corner, Ring, firstCorners, threes, cornerAt}
 
--- one more corner of what is left
-pub threes-cons : (cs : List ℕ) (i : ℕ) → i + width ≤ length cs → threes (drop i cs) ≡ (getD cs i 0 ∷ getD cs (i + 1) 0 ∷ getD cs (i + 2) 0 ∷ []) ∷ threes (drop (i + width) cs)
-threes-cons cs i h =
+-- the numbers of one corner
+corner-of : (cs : List ℕ) (i : ℕ) → i + width ≤ length cs → take width (drop i cs) ≡ getD cs i 0 ∷ getD cs (i + 1) 0 ∷ getD cs (i + 2) 0 ∷ []
+corner-of cs i h =
     let a : i < length cs = omega arith in
     let b : suc i < length cs = omega arith in
     let c : suc (suc i) < length cs = omega arith in
     simp towards-suc (rw (drop-cons cs i 0 a, drop-cons cs (suc i) 0 b, drop-cons cs (suc (suc i)) 0 c))
 
+-- one more corner of what is left
 pub threes-step : (cs : List ℕ) (k : ℕ) → width * (k + 1) ≤ length cs → threes (drop (width * k) cs) ≡ cornerAt cs k ∷ threes (drop (width * (k + 1)) cs)
 threes-step cs k h =
+    let l = drop (width * k) cs in
+    let r = drop (width * (k + 1)) cs in
+    let x : length (drop (width * k) cs) ≡ length cs - width * k = length-drop (width * k) cs in
+    let y : length (drop (width * (k + 1)) cs) ≡ length cs - width * (k + 1) = length-drop (width * (k + 1)) cs in
+    let n : length (drop (width * k) cs) / width ≡ suc (length (drop (width * (k + 1)) cs) / width) = omega arith in
     let e : width * k + width ≡ width * (k + 1) = omega arith in
-    threes-cons cs (width * k) (omega arith) ∙ ap (λ (n : ℕ). cornerAt cs k ∷ threes (drop n cs)) e
+    ap (λ (i : ℕ). firstCorners i l) n
+    ∙ ap (λ (c : Corner). c ∷ firstCorners (length r / width) (drop width l)) (corner-of cs (width * k) (omega arith))
+    ∙ ap (λ (t : List ℕ). cornerAt cs k ∷ firstCorners (length r / width) t) (drop-drop width (width * k) cs ∙ ap (λ (i : ℕ). drop i cs) e)
 
--- there are a third as many corners as numbers
+-- there are as many corners as their width goes into the numbers
+length-first : (n : ℕ) (cs : List ℕ) → length (firstCorners n cs) ≡ n
+length-first zero cs = refl
+length-first (suc n) cs = ap suc (length-first n (drop width cs))
+
 pub length-threes : (cs : List ℕ) → length (threes cs) ≡ length cs / width
-length-threes [] = refl
-length-threes (p ∷ []) = refl
-length-threes (p ∷ t ∷ []) = refl
-length-threes (p ∷ t ∷ n ∷ cs) = let e : length (threes cs) ≡ length cs / width = length-threes cs in omega arith
+length-threes cs = length-first (length cs / width) cs
 
 -- the corner at a place
-pub getD-threes : (cs : List ℕ) (k : ℕ) → k < length cs / width → getD (threes cs) k [] ≡ cornerAt cs k
-getD-threes [] k h = absurd (not-suc-le-zero h)
-getD-threes (p ∷ []) k h = absurd (not-suc-le-zero h)
-getD-threes (p ∷ t ∷ []) k h = absurd (not-suc-le-zero h)
-getD-threes (p ∷ t ∷ n ∷ cs) zero h = refl
-getD-threes (p ∷ t ∷ n ∷ cs) (suc k) h =
-    let l : k < length cs / width = omega arith in
-    let a : width * suc k ≡ suc (suc (suc (width * k))) = omega arith in
-    let b : width * suc k + 1 ≡ suc (suc (suc (width * k + 1))) = omega arith in
-    let c : width * suc k + 2 ≡ suc (suc (suc (width * k + 2))) = omega arith in
-    rw (c, b, a) (getD-threes cs k l)
+getD-first : (n : ℕ) (cs : List ℕ) (k : ℕ) → k < n → getD (firstCorners n cs) k [] ≡ take width (drop (width * k) cs)
+getD-first zero cs k h = absurd (not-suc-le-zero h)
+getD-first (suc n) cs zero h = refl
+getD-first (suc n) cs (suc k) h =
+    let e : width + width * k ≡ width * suc k = omega arith in
+    getD-first n (drop width cs) k (le-of-suc-le-suc h)
+    ∙ ap (take width) (drop-drop (width * k) width cs ∙ ap (λ (i : ℕ). drop i cs) e)
 
--- a corner is three numbers
+pub getD-threes : (cs : List ℕ) (k : ℕ) → k < length cs / width → getD (threes cs) k [] ≡ cornerAt cs k
+getD-threes cs k h = getD-first (length cs / width) cs k h ∙ corner-of cs (width * k) (omega arith)
+
+-- how long a corner is
 abbrev pub isCorner : Corner → Bool
 isCorner c = eqb (length c) width
 
+corners-first : (n : ℕ) (cs : List ℕ) → width * n ≤ length cs → every isCorner (firstCorners n cs) ≡ true
+corners-first zero cs h = refl
+corners-first (suc n) cs h =
+    let z : length (drop width cs) ≡ length cs - width = length-drop width cs in
+    and-both (isCorner (take width cs)) (every isCorner (firstCorners n (drop width cs)))
+    (eq-eqb (length (take width cs)) width (length-take-le width cs (omega arith)))
+    (corners-first n (drop width cs) (omega arith))
+
 pub corners-threes : (cs : List ℕ) → every isCorner (threes cs) ≡ true
-corners-threes [] = refl
-corners-threes (p ∷ []) = refl
-corners-threes (p ∷ t ∷ []) = refl
-corners-threes (p ∷ t ∷ n ∷ cs) = corners-threes cs
+corners-threes cs = corners-first (length cs / width) cs (omega arith)
 
 -- flat and back: whole corners are what they were
-three-of : (c : List ℕ) → length c ≡ width → (r : List ℕ) → threes (c ++ r) ≡ c ∷ threes r
-three-of [] h r = absurd (let z : _≡_ {A = ℕ} 0 width = h in omega arith)
-three-of (p ∷ []) h r = absurd (let z : _≡_ {A = ℕ} 1 width = h in omega arith)
-three-of (p ∷ t ∷ []) h r = absurd (let z : _≡_ {A = ℕ} 2 width = h in omega arith)
-three-of (p ∷ t ∷ n ∷ []) h r = refl
-three-of (p ∷ t ∷ n ∷ x ∷ c) h r = absurd (let z : suc (suc (suc (suc (length c)))) ≡ width = h in omega arith)
+corner-then : (c : List ℕ) → length c ≡ width → (r : List ℕ) → threes (c ++ r) ≡ c ∷ threes r
+corner-then c h r =
+    let n : length (c ++ r) / width ≡ suc (length r / width) = omega (arith, length-append c r) in
+    ap (λ (i : ℕ). firstCorners i (c ++ r)) n
+    ∙ ap (λ (d : Corner). d ∷ firstCorners (length r / width) (drop width (c ++ r))) (take-at c r width h)
+    ∙ ap (λ (l : List ℕ). c ∷ firstCorners (length r / width) l) (drop-at c r width h)
+
+corners-then : (r : Ring) (b : List ℕ) → every isCorner r ≡ true → threes (joined r ++ b) ≡ r ++ threes b
+corners-then [] b h = refl
+corners-then (c ∷ r) b h =
+    ap threes (append-assoc c (joined r) b)
+    ∙ corner-then c (eqb-true (length c) width (and-left (isCorner c) (every isCorner r) h)) (joined r ++ b)
+    ∙ ap (λ (t : Ring). c ∷ t) (corners-then r b (and-right (isCorner c) (every isCorner r) h))
 
 pub threes-joined : (r : Ring) → every isCorner r ≡ true → threes (joined r) ≡ r
 threes-joined [] h = refl
 threes-joined (c ∷ r) h =
-    three-of c (eqb-true (length c) width (and-left (isCorner c) (every isCorner r) h)) (joined r)
+    corner-then c (eqb-true (length c) width (and-left (isCorner c) (every isCorner r) h)) (joined r)
     ∙ ap (λ (t : Ring). c ∷ t) (threes-joined r (and-right (isCorner c) (every isCorner r) h))
 
+joined-first : (n : ℕ) (cs : List ℕ) → length cs ≡ width * n → joined (firstCorners n cs) ≡ cs
+joined-first zero [] h = refl
+joined-first zero (c ∷ cs) h = absurd (let z : suc (length cs) ≡ 0 = h in omega arith)
+joined-first (suc n) cs h =
+    let z : length (drop width cs) ≡ length cs - width = length-drop width cs in
+    ap (λ (l : List ℕ). take width cs ++ l) (joined-first n (drop width cs) (omega arith))
+    ∙ take-append-drop width cs
+
 pub joined-threes : (cs : List ℕ) → length cs % width ≡ 0 → joined (threes cs) ≡ cs
-joined-threes [] h = refl
-joined-threes (p ∷ []) h = absurd (let z : _≡_ {A = ℕ} 1 0 = h in omega arith)
-joined-threes (p ∷ t ∷ []) h = absurd (let z : _≡_ {A = ℕ} 2 0 = h in omega arith)
-joined-threes (p ∷ t ∷ n ∷ cs) h = ap (λ (l : List ℕ). p ∷ t ∷ n ∷ l) (joined-threes cs (let z : suc (suc (suc (length cs))) % width ≡ 0 = h in omega arith))
+joined-threes cs h = joined-first (length cs / width) cs (omega arith)
 
 pub length-corners : (r : Ring) → every isCorner r ≡ true → length (joined r) ≡ width * length r
 length-corners [] h = refl
@@ -85,16 +111,12 @@ length-corners (c ∷ r) h =
     let b : length (joined r) ≡ width * length r = length-corners r (and-right (isCorner c) (every isCorner r) h) in
     omega (arith, length-append c (joined r))
 
--- the corners of two lists, one behind the other, the first of whole corners
-pub threes-append : (a b : List ℕ) → length a % width ≡ 0 → threes (a ++ b) ≡ threes a ++ threes b
-threes-append [] b h = refl
-threes-append (p ∷ []) b h = absurd (let z : _≡_ {A = ℕ} 1 0 = h in omega arith)
-threes-append (p ∷ t ∷ []) b h = absurd (let z : _≡_ {A = ℕ} 2 0 = h in omega arith)
-threes-append (p ∷ t ∷ n ∷ a) b h =
-    ap (λ (r : Ring). (p ∷ t ∷ n ∷ []) ∷ r) (threes-append a b (let z : suc (suc (suc (length a))) % width ≡ 0 = h in omega arith))
-
 -- the first n corners and the others
 pub threes-split : (n : ℕ) (cs : List ℕ) → width * n ≤ length cs → threes cs ≡ threes (take (width * n) cs) ++ threes (drop (width * n) cs)
 threes-split n cs h =
+    let a = take (width * n) cs in
     let l : length (take (width * n) cs) ≡ width * n = length-take-le (width * n) cs h in
-    ap threes (sym (take-append-drop (width * n) cs)) ∙ threes-append (take (width * n) cs) (drop (width * n) cs) (omega arith)
+    let whole : joined (threes a) ≡ a = joined-threes a (omega arith) in
+    ap threes (sym (take-append-drop (width * n) cs))
+    ∙ ap (λ (f : List ℕ). threes (f ++ drop (width * n) cs)) (sym whole)
+    ∙ corners-then (threes a) (drop (width * n) cs) (corners-threes a)

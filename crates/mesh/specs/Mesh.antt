@@ -37,16 +37,17 @@ normal c = getD c 2 0
 abbrev pub Ring : Type 0
 Ring = List Corner
 
--- the corners of a flat list, three numbers each
-abbrev pub threes : List ℕ → Ring
-threes [] = []
-threes (p ∷ []) = []
-threes (p ∷ t ∷ []) = []
-threes (p ∷ t ∷ n ∷ cs) = (p ∷ t ∷ n ∷ []) ∷ threes cs
-
 -- corner k of a flat list
 abbrev pub cornerAt : List ℕ → ℕ → Corner
 cornerAt cs k = getD cs (width * k) 0 ∷ getD cs (width * k + 1) 0 ∷ getD cs (width * k + 2) 0 ∷ []
+
+-- the first n corners of a flat list, and all that are whole
+abbrev pub firstCorners : ℕ → List ℕ → Ring
+firstCorners zero cs = []
+firstCorners (suc n) cs = take width cs ∷ firstCorners n (drop width cs)
+
+abbrev pub threes : List ℕ → Ring
+threes cs = firstCorners (length cs / width) cs
 
 -- the faces of a flat list of corners: each takes as many corners as its size says
 abbrev pub rings : List ℕ → List ℕ → List Ring
