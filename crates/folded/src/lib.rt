@@ -268,11 +268,10 @@ fn tri_of(face: &[u32]) -> [[u32; WIDTH]; 3]
     requires { ⌜ length (now face) ≡ width * 3 ⌝ }
     ensures { λ r. ⌜ r ≡ threes (now (face .entry)) ⌝ }
 {
-    [
-        [face[0], face[1], face[2]],
-        [face[3], face[4], face[5]],
-        [face[6], face[7], face[8]],
-    ]
+    let a = mesh::corner_at(face, 0);
+    let b = mesh::corner_at(face, 1);
+    let c = mesh::corner_at(face, 2);
+    [a, b, c]
 }
 
 // A quadrangle's corners, by value.
@@ -280,12 +279,11 @@ fn quad_of(face: &[u32]) -> [[u32; WIDTH]; 4]
     requires { ⌜ length (now face) ≡ width * 4 ⌝ }
     ensures { λ r. ⌜ r ≡ threes (now (face .entry)) ⌝ }
 {
-    [
-        [face[0], face[1], face[2]],
-        [face[3], face[4], face[5]],
-        [face[6], face[7], face[8]],
-        [face[9], face[10], face[11]],
-    ]
+    let a = mesh::corner_at(face, 0);
+    let b = mesh::corner_at(face, 1);
+    let c = mesh::corner_at(face, 2);
+    let d = mesh::corner_at(face, 3);
+    [a, b, c, d]
 }
 
 // The positions of a face's corners.
@@ -310,8 +308,7 @@ fn row_of(face: &[u32], n: usize) -> [[u32; WIDTH]; RING]
     let mut row = [[0u32; WIDTH]; RING];
     let mut k: usize = 0;
     while k < n {
-        let at = WIDTH * k;
-        row[k] = [face[at], face[at + 1], face[at + 2]];
+        row[k] = mesh::corner_at(face, k);
         k += 1;
     }
     row

@@ -9,8 +9,8 @@ ghost use mathlib.Core.List.{map};
 ghost use Prim.Native.Nat.{ℕ, _+_, _*_, _-_, _<_, _≤_, _/_, _%_};
 ghost use lib.ListN.{length, getD, take, drop};
 ghost use Rattle.lists.specs.Lists.{some, sum};
-ghost use Rattle.mesh.specs.Limits.{width, faceLimit};
-ghost use Rattle.mesh.specs.Mesh.{meshOf, threes};
+ghost use Rattle.mesh.specs.Limits.{width, faceLimit, cornerNumbers};
+ghost use Rattle.mesh.specs.Mesh.{meshOf, threes, cornerAt};
 ghost use Rattle.mesh.specs.Table as table;
 ghost use Rattle.mesh.specs.Face as part;
 
@@ -86,6 +86,15 @@ pub fn face_at<'a>(corners: &'a [u32], sizes: &[u32], k: usize, at: usize) -> &'
     let a = WIDTH * at;
     let e = a + WIDTH * n;
     &corners[a..e]
+}
+
+// Corner k of a list of corners, by value.
+pub fn corner_at(corners: &[u32], k: usize) -> [u32; WIDTH]
+    requires { ⌜ (width * (k + 1) ≤ length (now corners)) × (length (now corners) ≤ cornerNumbers) ⌝ }
+    ensures { λ r. ⌜ r ≡ cornerAt (now (corners .entry)) k ⌝ }
+{
+    let at = WIDTH * k;
+    [corners[at], corners[at + 1], corners[at + 2]]
 }
 
 // How many corners stand before face k.

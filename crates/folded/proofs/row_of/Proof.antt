@@ -18,32 +18,9 @@ abbrev μ-loop : tie.MeasureT-loop
 loop-holds : tie.Need-loop-holds Inv-loop μ-loop
 loop-holds c = copy-begins [] _ _ _
 
-mul-at : tie.Need-mul-at Inv-loop μ-loop
-mul-at c = search needs
-
-mul-t8 : tie.Need-mul-t8 Inv-loop μ-loop
-mul-t8 c = search needs
-
-shared-slice-read-t10 : tie.Need-shared-slice-read-t10 Inv-loop μ-loop
-shared-slice-read-t10 c = search needs
-
-add-t11 : tie.Need-add-t11 Inv-loop μ-loop
-add-t11 c = search needs
-
-mul-t12 : tie.Need-mul-t12 Inv-loop μ-loop
-mul-t12 c = search needs
-
-shared-slice-read-t14 : tie.Need-shared-slice-read-t14 Inv-loop μ-loop
-shared-slice-read-t14 c = search needs
-
-add-t15 : tie.Need-add-t15 Inv-loop μ-loop
-add-t15 c = search needs
-
-mul-t16 : tie.Need-mul-t16 Inv-loop μ-loop
-mul-t16 c = search needs
-
-shared-slice-read-t18 : tie.Need-shared-slice-read-t18 Inv-loop μ-loop
-shared-slice-read-t18 c = search needs
+corner-at-requires : tie.Need-corner-at-requires Inv-loop μ-loop
+corner-at-requires c κs =
+    (omega (arith, c .before .before .before .pre .wide, c .loop-test .taken), omega (arith, c .before .before .before .pre .wide, c .before .before .before .pre .small))
 
 mul-row : tie.Need-mul-row Inv-loop μ-loop
 mul-row c = search needs
@@ -58,10 +35,12 @@ loop-less : tie.Need-loop-less Inv-loop μ-loop
 loop-less c = search needs
 
 loop-again : tie.Need-loop-again Inv-loop μ-loop
-loop-again c = row-turn (c .before .before .before .before .before .args .face .now) (c .before .before .before .before .before .args .n) (c .before .before .before .before .before .pre .wide) _ _ _ (c .before .before .before .loop-test .taken) (c .before .before .before .before .loop .inv)
+loop-again c =
+    rw (c .corner-at .ensures)
+    (row-turn (c .before .before .before .before .args .face .now) (c .before .before .before .before .args .n) (c .before .before .before .before .pre .wide) _ _ _ (c .before .loop-test .taken) (c .before .before .loop .inv))
 
 returns : tie.Need-returns Inv-loop μ-loop
-returns c = row-end (c .before .before .args .face .now) (c .before .before .args .n) (c .before .before .pre .wide) _ _ _ (omega arith) (c .loop-test .left) (c .before .loop .inv)
+returns c = row-end (c .before .before .before .args .face .now) (c .before .before .before .args .n) (c .before .before .before .pre .wide) _ _ _ (omega arith) (c .loop-test .left) (c .before .loop .inv)
 
 pub row-of-spec : {M : Type 1} → statement M
 row-of-spec =
@@ -70,15 +49,7 @@ row-of-spec =
     Inv-loop
     μ-loop
     loop-holds
-    mul-at
-    mul-t8
-    shared-slice-read-t10
-    add-t11
-    mul-t12
-    shared-slice-read-t14
-    add-t15
-    mul-t16
-    shared-slice-read-t18
+    corner-at-requires
     mul-row
     array-set-from-row
     add-k
