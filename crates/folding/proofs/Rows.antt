@@ -1,10 +1,10 @@
--- Rows of 32 corners of three numbers each: that owning one tells so, and what is written of one. Assumes nothing.
+-- Rows of corners: that owning one tells so, and what is written of one. Assumes nothing.
 use mathlib.Core.Path.{_≡_, refl, sym, ap, _∙_}
 use mathlib.Core.Bool.{true}
 use mathlib.Core.List.{List, [], _∷_, _++_, map}
-use Prim.Native.Nat.{ℕ, suc, _+_, _-_, _*_, _≤_, _<_}
+use Prim.Native.Nat.{ℕ, _+_, _-_, _*_, _≤_, _<_}
 use native.Mathlib.Nat.{zero-add}
-use native.Mathlib.Numerals.{add-one, add-two}
+use native.Mathlib.Numerals.{add-one}
 use native.Mathlib.Omega.{arith}
 use lib.ListN.{length, getD, take, drop, set, length-append, length-map, List·getD-map}
 use lib.Seq.{sets, take-suc, take-take, length-take-le, length-sets}
@@ -36,15 +36,6 @@ row-threes (x ∷ xs) (u ∷ us) s =
 pub length-front-corners : (r : Ring) (n : ℕ) → every isCorner r ≡ true → n ≤ length r → length (joined (take n r)) ≡ width * n
 length-front-corners r n e h =
     length-corners (take n r) (every-take isCorner n r e) ∙ ap (λ (k : ℕ). width * k) (length-take-le n r h)
-
--- three numbers are written one by one
-pub corner-written : (l c : List ℕ) (b : ℕ) → length c ≡ width
-    → set (set (set l b (getD c 0 0)) (b + 1) (getD c 1 0)) (b + 2) (getD c 2 0) ≡ sets l b c
-corner-written l [] b e = absurd (let z : _≡_ {A = ℕ} 0 width = e in omega arith)
-corner-written l (x ∷ []) b e = absurd (let z : _≡_ {A = ℕ} 1 width = e in omega arith)
-corner-written l (x ∷ y ∷ []) b e = absurd (let z : _≡_ {A = ℕ} 2 width = e in omega arith)
-corner-written l (x ∷ y ∷ z ∷ []) b e = rw (add-one b, add-two b)
-corner-written l (x ∷ y ∷ z ∷ w ∷ c) b e = absurd (let q : suc (suc (suc (suc (length c)))) ≡ width = e in omega arith)
 
 -- The positions of a row under way: the first k are read.
 abbrev pub Reading : Ring → List ℕ → List ℕ → ℕ → Type 0

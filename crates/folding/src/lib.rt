@@ -179,14 +179,12 @@ fn ring_two(poly: [[u32; WIDTH]; RING], n: usize, i: usize, j: usize) -> [[u32; 
     copied(poly, 0, i, row, n - j)
 }
 
-// A corner's three numbers go to the list.
+// A corner's numbers go to the list.
 pub fn put_corner(corner: [u32; WIDTH], out: &mut [u32], at: usize)
     requires { ⌜ at + width ≤ length (now out) ⌝ }
     ensures { λ _. ⌜ now (out .exit) ≡ sets (now (out .entry)) at corner ⌝ }
 {
-    out[at] = corner[0];
-    out[at + 1] = corner[1];
-    out[at + 2] = corner[2];
+    lists::put(&corner[..], out, at);
 }
 
 // The first n corners of a row go to the list.
