@@ -1,0 +1,10 @@
+pub mod Moved
+pub mod Joining
+pub mod Joined
+pub mod Counted
+pub mod Hems
+pub mod Renumbered
+pub mod Normals
+pub mod Compacted
+pub mod Used
+pub mod Sheets
