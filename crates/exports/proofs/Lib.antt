@@ -1,10 +1,11 @@
+pub mod Edgewise
 pub mod Moved
 pub mod Joining
+pub mod Normals
 pub mod Joined
 pub mod Counted
 pub mod Hems
 pub mod Renumbered
-pub mod Normals
 pub mod Compacted
 pub mod Used
 pub mod Sheets

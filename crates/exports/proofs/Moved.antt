@@ -3,15 +3,14 @@
 use mathlib.Core.Path.{_≡_, refl, sym, ap, ap₂, _∙_}
 use mathlib.Core.Logic.{⊎-elim}
 use mathlib.Core.Bool.{Bool, true, false, cond, _&&_, _||_}
-use mathlib.Core.List.{List, [], _∷_, _++_, map, map-append}
+use mathlib.Core.List.{List, [], _∷_, map}
 use Prim.Native.Nat.{ℕ}
 use lib.Dec.{leb, eqb}
 use Rattle.lists.specs.Lists.{has, some, every, count, bump}
 use Rattle.lists.proofs.Bools.{by-cases, true-false, and-both, and-left, and-right, or-left, or-right}
 use Rattle.lists.proofs.Cases.{iff}
 use Rattle.lists.proofs.Counting.{or-either, count-none}
-use Rattle.lists.proofs.Parts.{every-append}
-use Rattle.edges.specs.Edges.{Edge, ringEdges, runEdges, meshEdges, same, flip, key, uses, runs, thrice, alike, once, verdict, Irregular, Regular, Oriented, Closed, odd, lastOr, hems}
+use Rattle.edges.specs.Edges.{Edge, same, flip, key, uses, runs, thrice, alike, once, verdict, Irregular, Regular, Oriented, Closed, odd, lastOr, hems}
 use Rattle.edges.proofs.SameEdge.{same-true, same-of}
 use Rattle.edges.proofs.HemUses.{key-flip, key-same}
 use Rattle.edges.proofs.OnlyHems.{isHem, hems-member}
@@ -148,42 +147,3 @@ module _ (g : ℕ → ℕ) (ps : List ℕ) (one : OneToOne g ps) where
 
     pub hems-moved : some (same (moved g e)) (hems (map (moved g) es)) ≡ some (same e) (hems es)
     hems-moved = hems-member (map (moved g) es) (moved g e) ∙ is-hem-moved ∙ sym (hems-member es e)
-
--- ---- the edges of faces
-
-module _ (g : ℕ → ℕ) where
-  run-moved : (a : ℕ) (r : List ℕ) (z : ℕ) → runEdges (g a) (map (λ i. g i) r) (g z) ≡ map (moved g) (runEdges a r z)
-  run-moved a [] z = refl
-  run-moved a (b ∷ r) z = ap (λ (l : List Edge). (g a, g b) ∷ l) (run-moved b r z)
-
-  pub ring-moved : (r : List ℕ) → ringEdges (map (λ i. g i) r) ≡ map (moved g) (ringEdges r)
-  ring-moved [] = refl
-  ring-moved (a ∷ r) = run-moved a r a
-
-  pub edges-moved : (fs : List (List ℕ)) → meshEdges (map (map (λ i. g i)) fs) ≡ map (moved g) (meshEdges fs)
-  edges-moved [] = refl
-  edges-moved (f ∷ fs) =
-      ap₂ (λ (a b : List Edge). a ++ b) (ring-moved f) (edges-moved fs) ∙ sym (map-append (moved g) (ringEdges f) (meshEdges fs))
-
--- both ends of each are positions of the faces
-run-between : (ps : List ℕ) (a : ℕ) (r : List ℕ) (z : ℕ) → has a ps ≡ true → has z ps ≡ true → every (λ x. has x ps) r ≡ true → every (between ps) (runEdges a r z) ≡ true
-run-between ps a [] z h k l = and-both (between ps (a, z)) true (and-both (has a ps) (has z ps) h k) refl
-run-between ps a (b ∷ r) z h k l =
-    let m = and-left (has b ps) (every (λ x. has x ps) r) l in
-    and-both (between ps (a, b)) (every (between ps) (runEdges b r z))
-    (and-both (has a ps) (has b ps) h m)
-    (run-between ps b r z m k (and-right (has b ps) (every (λ x. has x ps) r) l))
-
-pub ring-between : (ps r : List ℕ) → every (λ x. has x ps) r ≡ true → every (between ps) (ringEdges r) ≡ true
-ring-between ps [] l = refl
-ring-between ps (a ∷ r) l =
-    let m = and-left (has a ps) (every (λ x. has x ps) r) l in
-    run-between ps a r a m m (and-right (has a ps) (every (λ x. has x ps) r) l)
-
-pub edges-between : (ps : List ℕ) (fs : List (List ℕ)) → every (every (λ x. has x ps)) fs ≡ true → every (between ps) (meshEdges fs) ≡ true
-edges-between ps [] l = refl
-edges-between ps (f ∷ fs) l =
-    every-append (between ps) (ringEdges f) (meshEdges fs)
-    ∙ and-both (every (between ps) (ringEdges f)) (every (between ps) (meshEdges fs))
-    (ring-between ps f (and-left (every (λ x. has x ps) f) (every (every (λ x. has x ps)) fs) l))
-    (edges-between ps fs (and-right (every (λ x. has x ps) f) (every (every (λ x. has x ps)) fs) l))

@@ -18,12 +18,13 @@ use Rattle.lists.proofs.Others.{has-every}
 use Rattle.lists.proofs.Parts.{every-append, every-joined}
 use Rattle.mesh.specs.Mesh.{Mesh, Corner, Ring, position, normal, threes, faces}
 use Rattle.mesh.specs.Table.{meshNumber}
-use Rattle.edges.specs.Edges.{ringEdges, runEdges, same}
+use Rattle.edges.specs.Edges.{ringEdges, same}
 use Rattle.edges.proofs.SameEdge.{same-true, same-of}
 use Rattle.panels.specs.Panels.{Key, keyOf, sameKey, Use, usesFrom, joinsFrom, joins, panelsFrom, panels}
 use Rattle.panels.proofs.Sharing.{sameKey-true, sameKey-refl}
 use Rattle.compaction.specs.Compaction.{renumbered, compacted}
 use Rattle.compaction.proofs.Laws.{face-order, faces-compacted, position-same, normal-same}
+use Rattle.exports.proofs.Edgewise.{both, ring-changed, bothPass, ring-passes}
 use Rattle.exports.proofs.Joining.{keyed, joins-agree, numbered-passes}
 
 -- ---- an edge's key, by what its two ends have: a position, and a normal or 0
@@ -108,32 +109,6 @@ module _ (a b : End) where
 
 -- ---- the edges of faces whose corners are changed
 
-abbrev both : {A B : Type 0} → (A → B) → A × A → B × B
-both f e = (f (e .0), f (e .1))
-
-module _ {A B : Type 0} (f : A → B) where
-  run-changed : (a : A) (r : List A) (z : A) → runEdges (f a) (map f r) (f z) ≡ map (both f) (runEdges a r z)
-  run-changed a [] z = refl
-  run-changed a (b ∷ r) z = ap (λ (l : List (B × B)). (f a, f b) ∷ l) (run-changed b r z)
-
-  ring-changed : (r : List A) → ringEdges (map f r) ≡ map (both f) (ringEdges r)
-  ring-changed [] = refl
-  ring-changed (a ∷ r) = run-changed a r a
-
-module _ {A : Type 0} (p : A → Bool) where
-  abbrev bothPass : A × A → Bool
-  bothPass e = p (e .0) && p (e .1)
-
-  run-passes : (a : A) (r : List A) (z : A) → p a ≡ true → p z ≡ true → every p r ≡ true → every bothPass (runEdges a r z) ≡ true
-  run-passes a [] z h k l = and-both (bothPass (a, z)) true (and-both (p a) (p z) h k) refl
-  run-passes a (b ∷ r) z h k l =
-      let m = and-left (p b) (every p r) l in
-      and-both (bothPass (a, b)) (every bothPass (runEdges b r z)) (and-both (p a) (p b) h m) (run-passes b r z m k (and-right (p b) (every p r) l))
-
-  ring-passes : (r : List A) → every p r ≡ true → every bothPass (ringEdges r) ≡ true
-  ring-passes [] l = refl
-  ring-passes (a ∷ r) l = let m = and-left (p a) (every p r) l in run-passes a r a m m (and-right (p a) (every p r) l)
-
 -- each edge of corners with the number of its face, in order
 abbrev cornerEdges : ℕ → List Ring → List (ℕ × (Corner × Corner))
 cornerEdges i [] = []
@@ -162,14 +137,14 @@ faces-own : (fs : List Ring) → map (map (λ (c : Corner). c)) fs ≡ fs
 faces-own [] = refl
 faces-own (r ∷ fs) = ap₂ (λ (a : Ring) (b : List Ring). a ∷ b) (map-own r) (faces-own fs)
 
-edges-pass : (p : Corner → Bool) (i : ℕ) (fs : List Ring) → every (every p) fs ≡ true → every (λ (u : ℕ × (Corner × Corner)). bothPass p (u .1)) (cornerEdges i fs) ≡ true
-edges-pass p i [] h = refl
-edges-pass p i (r ∷ fs) h =
+numbered-pass : (p : Corner → Bool) (i : ℕ) (fs : List Ring) → every (every p) fs ≡ true → every (λ (u : ℕ × (Corner × Corner)). bothPass p (u .1)) (cornerEdges i fs) ≡ true
+numbered-pass p i [] h = refl
+numbered-pass p i (r ∷ fs) h =
     let test : ℕ × (Corner × Corner) → Bool = λ u. bothPass p (u .1) in
     every-append test (map (λ e. (i, e)) (ringEdges r)) (cornerEdges (suc i) fs)
     ∙ and-both (every test (map (λ e. (i, e)) (ringEdges r))) (every test (cornerEdges (suc i) fs))
     (numbered-passes (bothPass p) i (ringEdges r) (ring-passes p r (and-left (every p r) (every (every p) fs) h)))
-    (edges-pass p (suc i) fs (and-right (every p r) (every (every p) fs) h))
+    (numbered-pass p (suc i) fs (and-right (every p r) (every (every p) fs) h))
 
 -- f changes corners; of corners that pass p it keeps which positions are equal, and which normals
 module _ (f : Corner → Corner) (p : Corner → Bool)
@@ -201,7 +176,7 @@ module _ (f : Corner → Corner) (p : Corner → Bool)
     joins-changed : (fs : List Ring) → every (every p) fs ≡ true → joins normals (map (map f) fs) ≡ joins normals fs
     joins-changed fs h =
         ap (joinsFrom []) (uses-changed normals f 0 fs)
-        ∙ joins-agree (λ e. keyOf normals (both f e)) (keyOf normals) (bothPass p) key-agrees [] (cornerEdges 0 fs) refl (edges-pass p 0 fs h)
+        ∙ joins-agree (λ e. keyOf normals (both f e)) (keyOf normals) (bothPass p) key-agrees [] (cornerEdges 0 fs) refl (numbered-pass p 0 fs h)
         ∙ ap (joinsFrom []) (sym (uses-changed normals (λ c. c) 0 fs) ∙ ap (usesFrom normals 0) (faces-own fs))
 
     pub panels-changed : (fs : List Ring) → every (every p) fs ≡ true → panels normals (map (map f) fs) ≡ panels normals fs

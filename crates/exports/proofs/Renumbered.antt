@@ -13,7 +13,8 @@ use Rattle.edges.specs.Edges.{edgesOf, meshEdges, verdict}
 use Rattle.compaction.specs.Compaction.{renumber, usedPositions, compacted}
 use Rattle.compaction.proofs.Laws.{face-order, face-positions, position-same}
 use Rattle.exports.specs.Renumbered.{positionsOf, Renumbers, moved, Kept, NumbersDoNotMatter}
-use Rattle.exports.proofs.Moved.{between, verdict-moved, edges-moved, edges-between}
+use Rattle.exports.proofs.Edgewise.{edges-changed, edges-pass}
+use Rattle.exports.proofs.Moved.{between, verdict-moved}
 use Rattle.exports.proofs.Hems.{hems-are-moved}
 use Rattle.exports.proofs.Joined.{panels-moved}
 
@@ -22,10 +23,10 @@ module _ (g : ℕ → ℕ) (fs gs : List Ring) (r : Renumbers g fs gs) where
   inside = sym (every-joined (λ x. has x (positionsOf fs)) (map (map position) fs)) ∙ has-every (λ x. has x (positionsOf fs)) (positionsOf fs) (λ x h. h)
 
   edges-are : edgesOf gs ≡ map (moved g) (edgesOf fs)
-  edges-are = ap meshEdges (r .positions) ∙ edges-moved g (map (map position) fs)
+  edges-are = ap meshEdges (r .positions) ∙ edges-changed (λ i. g i) (map (map position) fs)
 
   ends-inside : every (between (positionsOf fs)) (edgesOf fs) ≡ true
-  ends-inside = edges-between (positionsOf fs) (map (map position) fs) inside
+  ends-inside = edges-pass (λ x. has x (positionsOf fs)) (map (map position) fs) inside
 
   kept : Kept g fs gs
   kept = record {
@@ -40,7 +41,7 @@ numbers-do-not-matter = kept
 
 -- ---- compaction
 
-joined-positions : (fs : List Ring) → positionsOf fs ≡ map position (joined fs)
+pub joined-positions : (fs : List Ring) → positionsOf fs ≡ map position (joined fs)
 joined-positions [] = refl
 joined-positions (f ∷ fs) = ap (λ (l : List ℕ). map position f ++ l) (joined-positions fs) ∙ sym (map-append position f (joined fs))
 

@@ -1,41 +1,77 @@
--- Two files whose faces, after removal of the folded ones, are the same, put in another order, each begun at any corner of its ring:
--- their sheets begin with the same three lines. The hems that follow have other numbers where the first uses come in another order
--- (calls' specs/Begun.antt has an example). Assumes nothing.
+-- The sheets of two files, from the files' bytes. Where the faces that are left after removal are the same, put in another order, each
+-- begun at any corner of its ring, the sheets begin with the same three lines. The hems that follow have other numbers where the first
+-- uses come in another order, and may be another number of hems (calls' specs/Begun.antt). Assumes nothing.
 use mathlib.Core.Path.{_≡_}
 use mathlib.Core.Bool.{false}
 use mathlib.Core.List.{List, _++_}
-use Prim.Native.Nat.{ℕ}
+use Prim.Native.Nat.{ℕ, _≤_}
+use lib.ListN.{length, take}
 use Rattle.lists.specs.Lists.{some}
-use Rattle.mesh.specs.Mesh.{Mesh, faces}
+use Rattle.mesh.specs.Mesh.{faces}
 use Rattle.folding.specs.Folding.{folded}
 use Rattle.folded.specs.Folded.{unfoldedMesh}
 use Rattle.order.specs.Same.{Same}
+use Rattle.order.specs.Demand.{byPosition}
 use Rattle.panelfile.specs.Reading.{panelMesh}
 use Rattle.lines.specs.Lines.{Found, meshLine, verdictLine, panelsLine, hemLines}
-use Rattle.sheet.specs.Sheet.{cleaned, foundIn, fileNumber, sheetOf}
+use Rattle.sheet.specs.Sheet.{cleaned, foundIn, fileNumber, Printed}
+use Rattle.sheet.specs.declared.Answer.{Answer}
 
--- the first three lines: mesh, verdict, panels
-abbrev pub firstLines : Found → List ℕ
-firstLines f = meshLine (f .positions) (f .textures) (f .normals) (f .faces) ++ verdictLine (f .verdict) ++ panelsLine (f .panels)
+-- ---- a call of `sheet::sheet` on a file's bytes: what was lent, with its room, what is there afterwards and what was answered, any of
+-- it that the contract allows
+
+pub record SheetCall (file : List ℕ) : Type 0 where
+  pub out : List ℕ
+  pub out′ : List ℕ
+  pub answer : Answer
+  pub contract : Printed file out out′ answer
+  pub room : 65536 ≤ length out
+
+-- what is written at the front of the list
+abbrev pub written : {file : List ℕ} → SheetCall file → List ℕ
+written r = take (r .answer .length) (r .out′)
+
+-- ---- what two sheets have in common
 
 -- what the sheet of a file says
 abbrev pub found : List ℕ → Found
 found file = foundIn (cleaned (panelMesh file))
 
--- both sheets begin with the first three lines of the one; behind them stand the hems of each
-pub record SameFirstLines (a b : List ℕ) : Type 0 where
-  pub of-the-one : sheetOf a ≡ firstLines (found a) ++ hemLines (found a .wires)
-  pub of-the-other : sheetOf b ≡ firstLines (found a) ++ hemLines (found b .wires)
+-- the first three lines: mesh, verdict, panels
+abbrev pub firstLines : Found → List ℕ
+firstLines f = meshLine (f .positions) (f .textures) (f .normals) (f .faces) ++ verdictLine (f .verdict) ++ panelsLine (f .panels)
 
--- the same faces after removal
-abbrev pub SameLeft : Mesh → Mesh → Type 0
-SameLeft m n = Same (faces (unfoldedMesh m)) (faces (unfoldedMesh n))
+-- both calls answer 0, and both sheets begin with the first three lines of the one; after them stand the hems of each
+pub record SameFirstLines {a b : List ℕ} (r : SheetCall a) (q : SheetCall b) : Type 0 where
+  pub done : (r .answer .number ≡ 0) × (q .answer .number ≡ 0)
+  pub of-the-one : written r ≡ firstLines (found a) ++ hemLines (found a .wires)
+  pub of-the-other : written q ≡ firstLines (found a) ++ hemLines (found b .wires)
 
+-- two files that are read, whose faces after removal are the same
 abbrev pub FirstLinesAreFree : Type 0
-FirstLinesAreFree = (a b : List ℕ) → fileNumber a ≡ 0 → fileNumber b ≡ 0 → SameLeft (panelMesh a) (panelMesh b) → SameFirstLines a b
+FirstLinesAreFree =
+    (a b : List ℕ) → fileNumber a ≡ 0 → fileNumber b ≡ 0
+    → Same (faces (unfoldedMesh (panelMesh a))) (faces (unfoldedMesh (panelMesh b)))
+    → (r : SheetCall a) (q : SheetCall b) → SameFirstLines r q
 
 -- where no face is folded it is enough that the files have the same faces
 abbrev pub FirstLinesOfUnfolded : Type 0
 FirstLinesOfUnfolded =
-    (a b : List ℕ) → fileNumber a ≡ 0 → fileNumber b ≡ 0 → Same (faces (panelMesh a)) (faces (panelMesh b))
-    → some folded (faces (panelMesh a)) ≡ false → SameFirstLines a b
+    (a b : List ℕ) → fileNumber a ≡ 0 → fileNumber b ≡ 0
+    → Same (faces (panelMesh a)) (faces (panelMesh b)) → some folded (faces (panelMesh a)) ≡ false
+    → (r : SheetCall a) (q : SheetCall b) → SameFirstLines r q
+
+-- ---- exporters that number texture points and normals anew: how many of those are left may differ, and nothing else of the three lines
+
+pub record SameButAttributes (a b : Found) : Type 0 where
+  pub same-positions : a .positions ≡ b .positions
+  pub same-faces : a .faces ≡ b .faces
+  pub same-verdict : a .verdict ≡ b .verdict
+  pub same-panels : a .panels ≡ b .panels
+
+-- two files that are read, without folded faces, whose faces have the same positions
+abbrev pub PositionsAreEnoughForSheets : Type 0
+PositionsAreEnoughForSheets =
+    (a b : List ℕ) → fileNumber a ≡ 0 → fileNumber b ≡ 0
+    → Same (byPosition (faces (panelMesh a))) (byPosition (faces (panelMesh b))) → some folded (faces (panelMesh a)) ≡ false
+    → SameButAttributes (found a) (found b)
