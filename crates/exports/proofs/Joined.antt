@@ -16,7 +16,7 @@ use Rattle.exports.proofs.Normals.{panels-changed}
 
 module _ (g : ℕ → ℕ) where
   -- a corner with its position renumbered
-  abbrev repositioned : Corner → Corner
+  abbrev pub repositioned : Corner → Corner
   repositioned c = g (position c) ∷ texture c ∷ normal c ∷ []
 
   ring-repositioned : (r : List ℕ) → map bare (map (λ n. g n) r) ≡ map repositioned (map bare r)

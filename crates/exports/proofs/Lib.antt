@@ -6,6 +6,7 @@ pub mod Joined
 pub mod Counted
 pub mod Hems
 pub mod Renumbered
+pub mod Covers
 pub mod Compacted
 pub mod Used
 pub mod Sheets

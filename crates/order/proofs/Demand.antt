@@ -68,7 +68,7 @@ same-faces {m} {n} f g s =
     }
 
 -- a face of an accepted mesh has three corners or more
-accepted-full : (m : Mesh) → meshNumber m ≡ 0 → Full (faces m)
+pub accepted-full : (m : Mesh) → meshNumber m ≡ 0 → Full (faces m)
 unfolding faces
 accepted-full m e x l =
     let a : Accepted m = accepted m e in
