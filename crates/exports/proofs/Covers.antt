@@ -1,49 +1,37 @@
 -- Two exports of one cover: first the positions of the one are renumbered, then the faces are put in the other's order. Assumes nothing.
-use mathlib.Core.Path.{_≡_, refl, sym, ap, ap₂, _∙_, subst}
+use mathlib.Core.Path.{_≡_, sym, ap, _∙_, subst}
 use mathlib.Core.Bool.{false}
-use mathlib.Core.List.{List, [], _∷_, map}
+use mathlib.Core.List.{List, [], map}
 use Prim.Native.Nat.{ℕ, _<_}
 use native.Mathlib.Omega.{arith}
 use lib.ListN.{length, getD, length-map, List·getD-map}
 use Rattle.lists.specs.Lists.{count}
-use Rattle.mesh.specs.Mesh.{Ring, position}
-use Rattle.edges.specs.Edges.{Edge, Irregular, verdict, edgesOf, hems}
-use Rattle.panels.specs.Panels.{panels, together}
-use Rattle.order.specs.Same.{Same, Matching}
+use Rattle.mesh.specs.Mesh.{Ring}
+use Rattle.panels.specs.Panels.{together}
+use Rattle.order.specs.Same.{Matching}
 use Rattle.order.specs.Demand.{byPosition, SameTogether, SameByPosition}
 use Rattle.order.proofs.Panelwise.{Full}
 use Rattle.order.proofs.Demand.{accepted-full, same-positions}
-use Rattle.exports.specs.Renumbered.{Renumbers, Kept}
+use Rattle.exports.specs.Renumbered.{Kept}
 use Rattle.exports.specs.Covers.{renumberedBy, OneCover, CoverKept, CoversAgree}
 use Rattle.exports.proofs.Joined.{repositioned}
 use Rattle.exports.proofs.Renumbered.{numbers-do-not-matter}
+use Rattle.exports.proofs.Rewritten.{rewritten, rewritten-by}
 
 module _ (g : ℕ → ℕ) where
-  -- the faces with their positions renumbered
-  abbrev pub rewritten : List Ring → List Ring
-  rewritten fs = map (map (repositioned g)) fs
-
-  ring-rewritten : (f : Ring) → map position (map (repositioned g) f) ≡ map (λ i. g i) (map position f)
-  ring-rewritten [] = refl
-  ring-rewritten (c ∷ f) = ap (λ (l : List ℕ). g (position c) ∷ l) (ring-rewritten f)
-
-  pub rewritten-by : (fs : List Ring) → byPosition (rewritten fs) ≡ renumberedBy g fs
-  rewritten-by [] = refl
-  rewritten-by (f ∷ fs) = ap₂ (λ (l : List ℕ) (ls : List (List ℕ)). l ∷ ls) (ring-rewritten f) (rewritten-by fs)
-
-  full-rewritten : (fs : List Ring) → Full fs → Full (rewritten fs)
+  full-rewritten : (fs : List Ring) → Full fs → Full (rewritten g fs)
   full-rewritten fs full x l =
-      let a : length (getD (rewritten fs) x []) ≡ length (getD fs x []) =
+      let a : length (getD (rewritten g fs) x []) ≡ length (getD fs x []) =
       ap length (List·getD-map (map (repositioned g)) fs x []) ∙ length-map (getD fs x []) (repositioned g) in
       let b : 0 < length (getD fs x []) = full x (omega (arith, length-map fs (map (repositioned g)))) in
       omega arith
 
   module _ (m n : List Ring) (f : Full m) (h : Full n) (c : OneCover g m n) where
-    kept : Kept g m (rewritten m)
-    kept = numbers-do-not-matter g m (rewritten m) (record { positions = rewritten-by m; one-to-one = c .one-to-one })
+    kept : Kept g m (rewritten g m)
+    kept = numbers-do-not-matter g m (rewritten g m) (record { positions = rewritten-by g m; one-to-one = c .one-to-one })
 
-    by : SameByPosition (rewritten m) n
-    by = same-positions (full-rewritten m f) h (rw (rewritten-by m) (c .same-positions))
+    by : SameByPosition (rewritten g m) n
+    by = same-positions (full-rewritten m f) h (rw (rewritten-by g m) (c .same-positions))
 
     -- the panels, by the rings of the rewritten faces and so by the renumbered rings
     abbrev Panelled : List (List ℕ) → Type 0
@@ -51,7 +39,7 @@ module _ (g : ℕ → ℕ) where
 
     panelled : Panelled (renumberedBy g m)
     panelled =
-        subst Panelled (rewritten-by m) (
+        subst Panelled (rewritten-by g m) (
           by .matching,
           record {
             matched = λ a b la lb. ap (together a b) (sym (kept .same-panels)) ∙ by .same-panels .matched a b la lb;

@@ -2,7 +2,7 @@
 -- every edge pass it. Assumes nothing.
 use mathlib.Core.Path.{_≡_, refl, sym, ap, ap₂, _∙_}
 use mathlib.Core.Bool.{Bool, true, _&&_}
-use mathlib.Core.List.{List, [], _∷_, _++_, map, map-append}
+use mathlib.Core.List.{List, [], _∷_, _++_, map, map-append, map-id}
 use Rattle.lists.specs.Lists.{every}
 use Rattle.lists.proofs.Bools.{and-left, and-right, and-both}
 use Rattle.lists.proofs.Parts.{every-append}
@@ -46,3 +46,8 @@ module _ {A : Type 0} (p : A → Bool) where
       ∙ and-both (every bothPass (ringEdges r)) (every bothPass (meshEdges fs))
       (ring-passes r (and-left (every p r) (every (every p) fs) l))
       (edges-pass fs (and-right (every p r) (every (every p) fs) l))
+
+-- rings whose elements are left alone
+pub rings-own : {A : Type 0} (ls : List (List A)) → map (map (λ x. x)) ls ≡ ls
+rings-own [] = refl
+rings-own (l ∷ ls) = λ i. map-id l i ∷ rings-own ls i

@@ -4,16 +4,17 @@ use mathlib.Core.Bool.{Bool, true, false, cond}
 use mathlib.Core.List.{List, [], _∷_, map}
 use Prim.Native.Nat.{ℕ}
 use Rattle.lists.specs.Lists.{some, every, bump}
-use Rattle.lists.proofs.Bools.{by-cases, and-left, and-right, or-left, or-right}
+use Rattle.lists.proofs.Bools.{by-cases, and-left, and-right}
 use Rattle.lists.proofs.Counting.{clash, pos, some-count, count-none}
 use Rattle.lists.proofs.Alike.{Alike}
 use Rattle.edges.specs.Edges.{Edge, same, key, uses, runs, odd, lastOr, hems}
-use Rattle.edges.proofs.SameEdge.{same-true, same-refl, same-of}
+use Rattle.edges.proofs.SameEdge.{same-true, same-refl}
 use Rattle.edges.proofs.HemUses.{hem-count}
 use Rattle.edges.proofs.OfHems.{hems-used, hems-every}
 use Rattle.exports.specs.Renumbered.{OneToOne, moved}
 use Rattle.exports.proofs.Moved.{between, same-moved, count-moved, hems-moved}
 use Rattle.exports.proofs.Counted.{counts-alike}
+use Rattle.exports.proofs.Images.{Telling, image-in, in-image}
 
 -- each hem edge stands there once
 hem-once : (es : List Edge) (d : Edge) → runs d (hems es) ≡ bump (some (same d) (hems es)) 0
@@ -37,22 +38,10 @@ every-member p e (x ∷ es) h m =
     (λ t. ap p (same-true e x t) ∙ and-left (p x) (every p es) h)
     (λ t. every-member p e es (and-right (p x) (every p es) h) (rw t at m))
 
+edges-told : Telling same
+edges-told = record { told = same-true; itself = same-refl }
+
 module _ (g : ℕ → ℕ) where
-  -- a moved edge stands in the moved list where it stood in the list; and any that stands there is a moved one
-  member-moved : (e : Edge) (es : List Edge) → some (same e) es ≡ true → some (same (moved g e)) (map (moved g) es) ≡ true
-  member-moved e [] m = clash m refl
-  member-moved e (x ∷ es) m =
-      by-cases (same e x)
-      (λ t. or-left (same (moved g e) (moved g x)) (some (same (moved g e)) (map (moved g) es)) (same-of (moved g e) (moved g x) (ap (moved g) (same-true e x t))))
-      (λ t. or-right (same (moved g e) (moved g x)) (some (same (moved g e)) (map (moved g) es)) (member-moved e es (rw t at m)))
-
-  moved-member : (d : Edge) (es : List Edge) → some (same d) (map (moved g) es) ≡ true → (e : Edge) × (d ≡ moved g e) × (some (same e) es ≡ true)
-  moved-member d [] m = clash m refl
-  moved-member d (x ∷ es) m =
-      by-cases (same d (moved g x))
-      (λ t. (x, same-true d (moved g x) t, or-left (same x x) (some (same x) es) (same-refl x)))
-      (λ t. let r = moved-member d es (rw t at m) in (r .0, r .1, or-right (same (r .0) x) (some (same (r .0)) es) (r .2)))
-
   module _ (ps : List ℕ) (one : OneToOne g ps) (es : List Edge) (h : every (between ps) es ≡ true) where
     -- of a moved edge
     runs-of-moved : (e : Edge) → some (same e) es ≡ true → runs (moved g e) (hems (map (moved g) es)) ≡ runs (moved g e) (map (moved g) (hems es))
@@ -71,8 +60,8 @@ module _ (g : ℕ → ℕ) where
         ∙ sym (count-none (same d) (map (moved g) (hems es))
         (by-cases (some (same d) (map (moved g) (hems es)))
         (λ t.
-        let r = moved-member d (hems es) t in
-        clash (ap (λ (x : Edge). some (same x) (map (moved g) es)) (r .1) ∙ member-moved (r .0) es (hems-used es (r .0) (r .2))) m)
+        let r = in-image (moved g) edges-told edges-told d (hems es) t in
+        clash (ap (λ (x : Edge). some (same x) (map (moved g) es)) (r .1) ∙ image-in (moved g) edges-told edges-told (r .0) es (hems-used es (r .0) (r .2))) m)
         (λ t. t)))
 
     pub hems-are-moved : Alike (hems (map (moved g) es)) (map (moved g) (hems es))
@@ -81,7 +70,7 @@ module _ (g : ℕ → ℕ) where
         (λ d.
         by-cases (some (same d) (map (moved g) es))
         (λ t.
-        let r = moved-member d es t in
+        let r = in-image (moved g) edges-told edges-told d es t in
         ap (λ (x : Edge). runs x (hems (map (moved g) es))) (r .1)
         ∙ runs-of-moved (r .0) (r .2)
         ∙ ap (λ (x : Edge). runs x (map (moved g) (hems es))) (sym (r .1)))

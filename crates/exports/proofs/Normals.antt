@@ -24,7 +24,7 @@ use Rattle.panels.specs.Panels.{Key, keyOf, sameKey, Use, usesFrom, joinsFrom, 
 use Rattle.panels.proofs.Sharing.{sameKey-true, sameKey-refl}
 use Rattle.compaction.specs.Compaction.{renumbered, compacted}
 use Rattle.compaction.proofs.Laws.{face-order, faces-compacted, position-same, normal-same}
-use Rattle.exports.proofs.Edgewise.{both, ring-changed, bothPass, ring-passes}
+use Rattle.exports.proofs.Edgewise.{both, ring-changed, bothPass, ring-passes, rings-own}
 use Rattle.exports.proofs.Joining.{keyed, joins-agree, numbered-passes}
 
 -- ---- an edge's key, by what its two ends have: a position, and a normal or 0
@@ -129,14 +129,6 @@ module _ (normals : Bool) (f : Corner → Corner) where
       (uses-changed (suc i) fs)
       ∙ sym (map-append (keyed (λ e. keyOf normals (both f e))) (map (λ e. (i, e)) (ringEdges r)) (cornerEdges (suc i) fs))
 
-map-own : {A : Type 0} (l : List A) → map (λ x. x) l ≡ l
-map-own [] = refl
-map-own (x ∷ l) = ap (λ t. x ∷ t) (map-own l)
-
-faces-own : (fs : List Ring) → map (map (λ (c : Corner). c)) fs ≡ fs
-faces-own [] = refl
-faces-own (r ∷ fs) = ap₂ (λ (a : Ring) (b : List Ring). a ∷ b) (map-own r) (faces-own fs)
-
 numbered-pass : (p : Corner → Bool) (i : ℕ) (fs : List Ring) → every (every p) fs ≡ true → every (λ (u : ℕ × (Corner × Corner)). bothPass p (u .1)) (cornerEdges i fs) ≡ true
 numbered-pass p i [] h = refl
 numbered-pass p i (r ∷ fs) h =
@@ -177,7 +169,7 @@ module _ (f : Corner → Corner) (p : Corner → Bool)
     joins-changed fs h =
         ap (joinsFrom []) (uses-changed normals f 0 fs)
         ∙ joins-agree (λ e. keyOf normals (both f e)) (keyOf normals) (bothPass p) key-agrees [] (cornerEdges 0 fs) refl (numbered-pass p 0 fs h)
-        ∙ ap (joinsFrom []) (sym (uses-changed normals (λ c. c) 0 fs) ∙ ap (usesFrom normals 0) (faces-own fs))
+        ∙ ap (joinsFrom []) (sym (uses-changed normals (λ c. c) 0 fs) ∙ ap (usesFrom normals 0) (rings-own fs))
 
     pub panels-changed : (fs : List Ring) → every (every p) fs ≡ true → panels normals (map (map f) fs) ≡ panels normals fs
     unfolding panels

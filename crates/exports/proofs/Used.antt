@@ -62,7 +62,7 @@ once-count l o x =
     (λ h. once-in l o x h ∙ sym (ap (λ (b : Bool). bump b 0) h))
     (λ h. count-none (eqb x) l h ∙ sym (ap (λ (b : Bool). bump b 0) h))
 
-as-long : (l k : List ℕ) → Once l → Once k → ((x : ℕ) → has x l ≡ has x k) → length l ≡ length k
+pub as-long : (l k : List ℕ) → Once l → Once k → ((x : ℕ) → has x l ≡ has x k) → length l ≡ length k
 as-long l k o q h =
     sym (count-all l)
     ∙ counts-alike eqb eqb-true eqb-self l k (λ x. once-count l o x ∙ ap (λ (b : Bool). bump b 0) (h x) ∙ sym (once-count k q x)) .agree (λ x. true)

@@ -16,6 +16,7 @@ use Rattle.panelfile.specs.Reading.{panelMesh}
 use Rattle.lines.specs.Lines.{Found, meshLine, verdictLine, panelsLine, hemLines}
 use Rattle.sheet.specs.Sheet.{cleaned, foundIn, fileNumber, Printed}
 use Rattle.sheet.specs.declared.Answer.{Answer}
+use Rattle.exports.specs.Covers.{OneCover}
 
 -- ---- a call of `sheet::sheet` on a file's bytes: what was lent, with its room, what is there afterwards and what was answered, any of
 -- it that the contract allows
@@ -31,15 +32,23 @@ pub record SheetCall (file : List ℕ) : Type 0 where
 abbrev pub written : {file : List ℕ} → SheetCall file → List ℕ
 written r = take (r .answer .length) (r .out′)
 
--- ---- what two sheets have in common
+-- ---- what one sheet says, and what two have in common
 
--- what the sheet of a file says
+-- what is found in a file after cleaning
 abbrev pub found : List ℕ → Found
 found file = foundIn (cleaned (panelMesh file))
 
 -- the first three lines: mesh, verdict, panels
 abbrev pub firstLines : Found → List ℕ
 firstLines f = meshLine (f .positions) (f .textures) (f .normals) (f .faces) ++ verdictLine (f .verdict) ++ panelsLine (f .panels)
+
+-- a call on a file that is read answers 0 and writes them, and then the hems
+pub record SheetSays {file : List ℕ} (r : SheetCall file) : Type 0 where
+  pub done : r .answer .number ≡ 0
+  pub says : written r ≡ firstLines (found file) ++ hemLines (found file .wires)
+
+abbrev pub SheetsSay : Type 0
+SheetsSay = (file : List ℕ) → fileNumber file ≡ 0 → (r : SheetCall file) → SheetSays r
 
 -- both calls answer 0, and both sheets begin with the first three lines of the one; after them stand the hems of each
 pub record SameFirstLines {a b : List ℕ} (r : SheetCall a) (q : SheetCall b) : Type 0 where
@@ -61,7 +70,7 @@ FirstLinesOfUnfolded =
     → Same (faces (panelMesh a)) (faces (panelMesh b)) → some folded (faces (panelMesh a)) ≡ false
     → (r : SheetCall a) (q : SheetCall b) → SameFirstLines r q
 
--- ---- exporters that number texture points and normals anew: how many of those are left may differ, and nothing else of the three lines
+-- ---- exporters that number anew: how many texture points and normals are left may differ, and nothing else of the three lines
 
 pub record SameButAttributes (a b : Found) : Type 0 where
   pub same-positions : a .positions ≡ b .positions
@@ -69,7 +78,14 @@ pub record SameButAttributes (a b : Found) : Type 0 where
   pub same-verdict : a .verdict ≡ b .verdict
   pub same-panels : a .panels ≡ b .panels
 
--- two files that are read, without folded faces, whose faces have the same positions
+-- two files that are read, without folded faces: exports of one cover, whose positions g renumbers one-to-one
+abbrev pub SheetsOfOneCover : Type 0
+SheetsOfOneCover =
+    (g : ℕ → ℕ) (a b : List ℕ) → fileNumber a ≡ 0 → fileNumber b ≡ 0
+    → OneCover g (faces (panelMesh a)) (faces (panelMesh b)) → some folded (faces (panelMesh a)) ≡ false
+    → SameButAttributes (found a) (found b)
+
+-- or whose positions keep their numbers
 abbrev pub PositionsAreEnoughForSheets : Type 0
 PositionsAreEnoughForSheets =
     (a b : List ℕ) → fileNumber a ≡ 0 → fileNumber b ≡ 0
