@@ -14,3 +14,4 @@ pub mod Used
 pub mod Distinct
 pub mod Compactions
 pub mod Sheets
+pub mod Touching

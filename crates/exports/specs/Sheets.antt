@@ -3,7 +3,8 @@
 -- uses come in another order, and may be another number of hems (calls' specs/Begun.antt). Assumes nothing.
 use mathlib.Core.Path.{_≡_}
 use mathlib.Core.Bool.{false}
-use mathlib.Core.List.{List, _++_}
+use mathlib.Core.Option.{Option}
+use mathlib.Core.List.{List, [], _∷_, _++_}
 use Prim.Native.Nat.{ℕ, _≤_}
 use lib.ListN.{length, take}
 use Rattle.lists.specs.Lists.{some}
@@ -12,6 +13,7 @@ use Rattle.folding.specs.Folding.{folded}
 use Rattle.folded.specs.Folded.{unfoldedMesh}
 use Rattle.order.specs.Same.{Same}
 use Rattle.order.specs.Demand.{byPosition}
+use Rattle.calls.specs.Begun.{touching, touchingLater}
 use Rattle.panelfile.specs.Reading.{panelMesh}
 use Rattle.lines.specs.Lines.{Found, meshLine, verdictLine, panelsLine, hemLines}
 use Rattle.sheet.specs.Sheet.{cleaned, foundIn, fileNumber, Printed}
@@ -91,3 +93,10 @@ PositionsAreEnoughForSheets =
     (a b : List ℕ) → fileNumber a ≡ 0 → fileNumber b ≡ 0
     → Same (byPosition (faces (panelMesh a))) (byPosition (faces (panelMesh b))) → some folded (faces (panelMesh a)) ≡ false
     → SameButAttributes (found a) (found b)
+
+-- ---- the hems are not among it
+
+-- after cleaning, the cover of calls' specs/Begun.antt has two hems to print, and with its faces in another order one
+pub record OtherHemLines : Type 0 where
+  pub two-lines : foundIn (cleaned touching) .wires ≡ Option.some ((0 ∷ 1 ∷ 2 ∷ 3 ∷ []) ∷ (2 ∷ 4 ∷ 5 ∷ []) ∷ [])
+  pub one-line : foundIn (cleaned touchingLater) .wires ≡ Option.some ((0 ∷ 1 ∷ 2 ∷ 3 ∷ 4 ∷ 2 ∷ 5 ∷ []) ∷ [])
