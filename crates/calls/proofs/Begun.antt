@@ -1,5 +1,5 @@
--- What demand 3 does not say, by computation: of a folded ring that is begun elsewhere other faces are left, and after compaction the
--- same hem has other numbers. Assumes nothing.
+-- What demand 3 does not say, by computation: of a folded ring that is begun elsewhere other faces are left, after compaction the same
+-- hem has other numbers, and there may be another number of hems. Assumes nothing.
 use mathlib.Core.Path.{_≡_, refl, ap}
 use mathlib.Core.Bool.{false}
 use mathlib.Core.List.{List, [], _∷_, map}
@@ -14,10 +14,10 @@ use Rattle.grouping.specs.Push.{pushed}
 use Rattle.folding.specs.Folding.{folded, trianglePieces, foldOf, quadranglePieces, mateOf, firstOf, splitIn, split, ringPieces, pieces}
 use Rattle.folded.specs.Folded.{removed}
 use Rattle.compaction.specs.Compaction.{firstUses, place, renumber, entries, usedPositions, usedTextures, usedNormals, renumbered, compacted}
-use Rattle.edges.specs.Edges.{edgesOf, key, hems}
+use Rattle.edges.specs.Edges.{key, verdict, hems}
 use Rattle.wires.specs.House.{walk, wiresIn, houseWires}
 use Rattle.order.specs.Same.{Same, none, face, swap}
-use Rattle.calls.specs.Begun.{asDrawn, oneLater, twoPanels, otherFirst}
+use Rattle.calls.specs.Begun.{hemsOf, asDrawn, oneLater, twoPanels, otherFirst, touching, touchingLater, OtherHems, AsManyHems}
 use Rattle.calls.proofs.Counts.{same-length}
 
 -- ---- the ring (0,1,2,0,3,1), and the same ring begun one corner later
@@ -62,16 +62,44 @@ pub exchanged-same : Same (faces twoPanels) (faces otherFirst)
 unfolding faces
 exchanged-same = swap
 
-abbrev wiresOf : Mesh → List (List ℕ)
-wiresOf m = houseWires (hems (edgesOf (faces m)))
-
 -- the hem in the file's own numbers, which is one
-pub own-numbers : (wiresOf twoPanels ≡ (0 ∷ 1 ∷ 2 ∷ 3 ∷ []) ∷ []) × (wiresOf otherFirst ≡ (0 ∷ 1 ∷ 2 ∷ 3 ∷ []) ∷ [])
+pub own-numbers : (hemsOf twoPanels ≡ (0 ∷ 1 ∷ 2 ∷ 3 ∷ []) ∷ []) × (hemsOf otherFirst ≡ (0 ∷ 1 ∷ 2 ∷ 3 ∷ []) ∷ [])
 unfolding faces hems key houseWires wiresIn walk
 own-numbers = (refl, refl)
 
 -- and in the numbers by first use
 pub numbers-by-first-use :
-    (wiresOf (compacted twoPanels) ≡ (0 ∷ 1 ∷ 2 ∷ 3 ∷ []) ∷ []) × (wiresOf (compacted otherFirst) ≡ (0 ∷ 3 ∷ 1 ∷ 2 ∷ []) ∷ [])
+    (hemsOf (compacted twoPanels) ≡ (0 ∷ 1 ∷ 2 ∷ 3 ∷ []) ∷ []) × (hemsOf (compacted otherFirst) ≡ (0 ∷ 3 ∷ 1 ∷ 2 ∷ []) ∷ [])
 unfolding faces hems key houseWires wiresIn walk compacted renumbered usedPositions usedTextures usedNormals entries renumber place firstUses
 numbers-by-first-use = (refl, refl)
+
+-- ---- two triangles and a third that touches them, and the last two exchanged
+
+touching-accepted : (meshNumber touching ≡ 0) × (meshNumber touchingLater ≡ 0)
+unfolding meshNumber shapeNumber overLimits uneven misfit ungrouped astray
+touching-accepted = (refl, refl)
+
+two-then-one :
+    (hemsOf (compacted touching) ≡ (0 ∷ 1 ∷ 2 ∷ 3 ∷ []) ∷ (2 ∷ 4 ∷ 5 ∷ []) ∷ []) × (hemsOf (compacted touchingLater) ≡ (0 ∷ 1 ∷ 2 ∷ 3 ∷ 4 ∷ 2 ∷ 5 ∷ []) ∷ [])
+unfolding faces hems key houseWires wiresIn walk compacted renumbered usedPositions usedTextures usedNormals entries renumber place firstUses
+two-then-one = (refl, refl)
+
+pub other-hems : OtherHems
+unfolding folded faces verdict hems key houseWires wiresIn walk
+other-hems = record {
+  both-accepted = touching-accepted;
+  both-unfolded = (refl, refl);
+  same-faces = face (0, refl) swap;
+  both-oriented = (refl, refl);
+  own-hems = refl;
+  own-hems-later = refl;
+  two-hems = two-then-one .0;
+  one-hem = two-then-one .1;
+}
+
+-- so it is not true that there are as many hems
+pub hems-not-as-many : AsManyHems → ⊥
+hems-not-as-many kept =
+    let e : length (hemsOf (compacted touching)) ≡ length (hemsOf (compacted touchingLater)) =
+    kept touching touchingLater (other-hems .both-accepted .0) (other-hems .both-accepted .1) (other-hems .same-faces) (other-hems .both-unfolded .0) in
+    omega (arith, ap length (other-hems .two-hems), ap length (other-hems .one-hem))

@@ -4,7 +4,7 @@
 use mathlib.Core.Path.{_≡_, refl, sym, ap, _∙_}
 use mathlib.Core.Logic.{⊎-elim}
 use mathlib.Core.Bool.{true, false, _||_}
-use mathlib.Core.List.{List, [], _∷_}
+use mathlib.Core.List.{List, [], _∷_, map}
 use Prim.Native.Nat.{ℕ, _+_, _≤_, _<_}
 use native.Mathlib.Omega.{arith}
 use lib.Dec.{eqb}
@@ -12,6 +12,7 @@ use Rattle.lists.specs.Lists.{count, has, some}
 use Rattle.lists.proofs.Bools.{by-cases, or-left, or-right}
 use Rattle.lists.proofs.Cases.{iff, or-swap}
 use Rattle.lists.proofs.Counting.{clash, or-either, count-append, count-some, some-counted, bump-plus}
+use Rattle.lists.proofs.Alike.{some-map}
 use Rattle.lists.proofs.Others.{eqb-self}
 use borrow.Author.Tests.{eqb-true}
 use Rattle.mesh.specs.Mesh.{Mesh, Ring, position, faces}
@@ -22,9 +23,11 @@ use Rattle.folded.proofs.Accepted.{faces-unfolded, removed-accepted}
 use Rattle.folded.proofs.Answer.{given}
 use Rattle.folded.proofs.Unfolded.{removed-same}
 use Rattle.order.specs.Same.{Turned, Same, none, face, swap, then}
-use Rattle.order.proofs.Turning.{Halves, halves, turned-map}
-use Rattle.calls.specs.Order.{CallsAgree}
-use Rattle.calls.proofs.Order.{demand3-of-the-calls}
+use Rattle.order.specs.Demand.{byPosition}
+use Rattle.order.proofs.Turning.{Halves, halves}
+use Rattle.order.proofs.Matched.{same-map}
+use Rattle.calls.specs.Order.{CallsAgree, CallsAgreeByPosition}
+use Rattle.calls.proofs.Order.{demand3-of-the-calls, positions-enough-for-the-calls}
 
 -- ---- a number that stands in a list twice
 
@@ -62,16 +65,19 @@ twice-turned {f} {g} t = iff (twice f) (twice g) (λ h. over f g same h) (λ h. 
     over : (s l : List ℕ) → ((x : ℕ) → count (eqb x) s ≡ count (eqb x) l) → twice s ≡ true → twice l ≡ true
     over s l e h = let t : (x : ℕ) × (2 ≤ count (eqb x) s) = twice-count s h in count-twice (t .0) l (omega (arith, t .1, e (t .0)))
 
-folded-turned : {f g : Ring} → Turned f g → folded f ≡ folded g
-unfolding folded
-folded-turned t = twice-turned (turned-map position t)
+twice-same : {m n : List (List ℕ)} → Same m n → some twice m ≡ some twice n
+twice-same none = refl
+twice-same (face t s) = λ i. twice-turned t i || twice-same s i
+twice-same (swap {f = f} {g = g} {m = m}) = or-swap (twice f) (twice g) (some twice m)
+twice-same (then s t) = twice-same s ∙ twice-same t
 
--- the same faces
+-- the same positions, and so the same faces
+pub folded-by-position : (m n : List Ring) → Same (byPosition m) (byPosition n) → some folded m ≡ some folded n
+unfolding folded
+folded-by-position m n s = sym (some-map twice (map position) m) ∙ twice-same s ∙ some-map twice (map position) n
+
 pub folded-same : {m n : List Ring} → Same m n → some folded m ≡ some folded n
-folded-same none = refl
-folded-same (face t s) = λ i. folded-turned t i || folded-same s i
-folded-same (swap {f = f} {g = g} {m = m}) = or-swap (folded f) (folded g) (some folded m)
-folded-same (then s t) = folded-same s ∙ folded-same t
+folded-same {m} {n} s = folded-by-position m n (same-map position s)
 
 -- ---- after removal
 
@@ -87,3 +93,10 @@ pub unfolded-calls :
 unfolded-calls m n a b s h =
     demand3-of-the-calls (unfoldedMesh m) (unfoldedMesh n) (removed-accepted m a) (removed-accepted n b)
     (rw (faces-stay m a h, faces-stay n b (sym (folded-same s) ∙ h)) s)
+
+pub unfolded-calls-by-position :
+    (m n : Mesh) → meshNumber m ≡ 0 → meshNumber n ≡ 0 → Same (byPosition (faces m)) (byPosition (faces n)) → some folded (faces m) ≡ false
+    → CallsAgreeByPosition (unfoldedMesh m) (unfoldedMesh n)
+unfolded-calls-by-position m n a b s h =
+    positions-enough-for-the-calls (unfoldedMesh m) (unfoldedMesh n) (removed-accepted m a) (removed-accepted n b)
+    (rw (faces-stay m a h, faces-stay n b (sym (folded-by-position (faces m) (faces n) s) ∙ h)) s)

@@ -1,17 +1,18 @@
 -- The same faces are as many, with as many corners: so two calls ask for the same room. Assumes nothing.
 use mathlib.Core.Path.{_≡_, refl, sym, ap, _∙_}
-use mathlib.Core.List.{List, map}
+use mathlib.Core.List.{List, [], _∷_, map}
 use Prim.Native.Nat.{suc, _+_, _*_, _/_, _≤_}
 use native.Mathlib.Omega.{arith}
-use lib.ListN.{length, length-append}
+use lib.ListN.{length, length-append, length-map}
 use Rattle.lists.specs.Lists.{sum}
 use Rattle.mesh.specs.Limits.{width}
-use Rattle.mesh.specs.Mesh.{Mesh, faces}
+use Rattle.mesh.specs.Mesh.{Mesh, Ring, position, faces}
 use Rattle.mesh.specs.Table.{meshNumber}
 use Rattle.mesh.proofs.Faces.{length-rings, sizes-back}
 use Rattle.mesh.proofs.Accepted.{Accepted, accepted}
 use Rattle.panels.proofs.Whole.{sizes-count}
 use Rattle.order.specs.Same.{Turned, Same, none, face, swap, then}
+use Rattle.order.specs.Demand.{byPosition}
 use Rattle.order.proofs.Turning.{Halves, halves}
 
 module _ {A : Type 0} where
@@ -39,11 +40,18 @@ sizes-are : (m : Mesh) → meshNumber m ≡ 0 → map length (faces m) ≡ m .si
 unfolding faces
 sizes-are m e = let a : Accepted m = accepted m e in sizes-back (m .sizes) (m .corners) (omega (arith, a .whole .adds))
 
-pub corners-count : (m n : Mesh) → meshNumber m ≡ 0 → meshNumber n ≡ 0 → Same (faces m) (faces n) → length (m .corners) ≡ length (n .corners)
+-- and of their rings of positions
+sizes-by-position : (fs : List Ring) → map length (byPosition fs) ≡ map length fs
+sizes-by-position [] = refl
+sizes-by-position (f ∷ fs) = λ i. length-map f position i ∷ sizes-by-position fs i
+
+pub corners-count :
+    (m n : Mesh) → meshNumber m ≡ 0 → meshNumber n ≡ 0 → Same (byPosition (faces m)) (byPosition (faces n)) → length (m .corners) ≡ length (n .corners)
 corners-count m n a b s =
     let p : width * sum (m .sizes) ≡ length (m .corners) = accepted m a .whole .adds in
     let q : width * sum (n .sizes) ≡ length (n .corners) = accepted n b .whole .adds in
-    let e : sum (m .sizes) ≡ sum (n .sizes) = sym (ap sum (sizes-are m a)) ∙ same-sizes s ∙ ap sum (sizes-are n b) in
+    let e : sum (m .sizes) ≡ sum (n .sizes) =
+    sym (ap sum (sizes-by-position (faces m) ∙ sizes-are m a)) ∙ same-sizes s ∙ ap sum (sizes-by-position (faces n) ∙ sizes-are n b) in
     omega arith
 
 -- no more faces than corners

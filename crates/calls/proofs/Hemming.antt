@@ -11,7 +11,7 @@ use Rattle.edges.specs.Answers.{meshEdgesOf, start, end, hemNumber}
 use Rattle.edges.proofs.OfHems.{mesh-hems-within}
 use Rattle.wires.specs.Hems.{pairs}
 use Rattle.wires.proofs.Tables.{pairs-of}
-use Rattle.order.specs.Demand.{Demand3}
+use Rattle.order.specs.Demand.{SameEdges}
 use Rattle.calls.specs.Calls.{cornersOf, VerdictCall, HemCall, startsWritten, endsWritten, edgesWritten}
 use Rattle.calls.specs.Order.{SameHems}
 use Rattle.calls.proofs.Numbers.{roomy-zero}
@@ -47,7 +47,7 @@ module _ (m : Mesh) (z : meshNumber m ≡ 0) (r : HemCall m) where
 
 -- two of them
 pub hems-agree :
-    (m n : Mesh) → meshNumber m ≡ 0 → meshNumber n ≡ 0 → Demand3 (faces m) (faces n)
+    (m n : Mesh) → meshNumber m ≡ 0 → meshNumber n ≡ 0 → SameEdges (faces m) (faces n)
     → (v : VerdictCall m) (r : HemCall m) (q : HemCall n) → SameHems v r q
 hems-agree m n a b d v r q = record {
   done = (done-is m a r, done-is n b q);

@@ -1,7 +1,7 @@
 -- Two calls of `components` on meshes with the same faces, under one normals setting. Assumes nothing.
 use mathlib.Core.Path.{_≡_, refl, sym, ap, ap₂, _∙_}
 use mathlib.Core.Bool.{Bool}
-use mathlib.Core.List.{map}
+use mathlib.Core.List.{List, map}
 use Prim.Native.Nat.{ℕ}
 use native.Mathlib.Omega.{arith}
 use lib.ListN.{length, take, length-map}
@@ -13,7 +13,8 @@ use Rattle.panels.specs.Contract.{panelsNumber, panelsOf}
 use Rattle.lines.specs.Working.{parts}
 use Rattle.lines.proofs.Wiring.{parts-back}
 use Rattle.panels.proofs.Panelled.{panels-length, panels-count}
-use Rattle.order.specs.Demand.{Demand3}
+use Rattle.order.specs.Same.{Matching}
+use Rattle.order.specs.Demand.{SameTogether}
 use Rattle.calls.specs.Calls.{cornersOf, PanelCall, panelsWritten}
 use Rattle.calls.specs.Order.{SamePanels}
 use Rattle.calls.proofs.Numbers.{roomy-zero}
@@ -45,24 +46,26 @@ module _ (normals : Bool) (m : Mesh) (z : meshNumber m ≡ 0) (r : PanelCall nor
   written : panelsWritten r ≡ panelsOf normals m
   written = ap₂ parts lengths-front flat-front ∙ parts-back (panelsOf normals m)
 
--- two of them
+-- two of them, where the faces are known by their rings
 pub panels-agree :
-    (m n : Mesh) → meshNumber m ≡ 0 → meshNumber n ≡ 0 → length (faces m) ≡ length (faces n) → (d : Demand3 (faces m) (faces n))
-    → (normals : Bool) (r : PanelCall normals m) (q : PanelCall normals n) → SamePanels (d .matching) r q
-panels-agree m n a b s d normals r q = record {
+    {A : Type 0} {fs gs : List (List A)} (match : Matching fs gs) (m n : Mesh) → meshNumber m ≡ 0 → meshNumber n ≡ 0
+    → length fs ≡ length (faces m) → length gs ≡ length (faces n) → length fs ≡ length gs
+    → (normals : Bool) → SameTogether match normals (faces m) (faces n)
+    → (r : PanelCall normals m) (q : PanelCall normals n) → SamePanels match r q
+panels-agree {A} {fs} {gs} match m n a b lf lg s normals d r q = record {
   done = (done-is normals m a r, done-is normals n b q);
   as-many-faces =
       as-many (r .answer .number) (q .answer .number) (length (joined (panelsOf normals m))) (length (joined (panelsOf normals n)))
       (r .answer .faces) (q .answer .faces) (done-is normals m a r) (done-is normals n b q) (r .contract .faces) (q .contract .faces)
-      (panels-length normals (faces m) ∙ s ∙ sym (panels-length normals (faces n)));
+      (panels-length normals (faces m) ∙ sym lf ∙ s ∙ lg ∙ sym (panels-length normals (faces n)));
   as-many-panels =
       as-many (r .answer .number) (q .answer .number) (length (panelsOf normals m)) (length (panelsOf normals n))
       (r .answer .panels) (q .answer .panels) (done-is normals m a r) (done-is normals n b q) (r .contract .panels) (q .contract .panels)
-      (as-many-panels normals (faces m) (faces n) d);
+      (as-many-panels match normals (faces m) (faces n) lf lg d);
   same-faces = λ x y g h.
       ap (together x y) (written normals m a r)
-      ∙ d .same-panels normals x y g h
-      ∙ sym (ap (together (d .matching .to x) (d .matching .to y)) (written normals n b q));
+      ∙ d .matched x y g h
+      ∙ sym (ap (together (match .to x) (match .to y)) (written normals n b q));
   same-faces-of = λ x y c e g h t u.
-      ap (together x y) (written normals m a r) ∙ d .same-panels-of normals x y c e g h t u ∙ sym (ap (together c e) (written normals n b q));
+      ap (together x y) (written normals m a r) ∙ d .whichever x y c e g h t u ∙ sym (ap (together c e) (written normals n b q));
 }

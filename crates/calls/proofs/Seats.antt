@@ -17,7 +17,8 @@ use Rattle.lists.proofs.Members.{In, in-cases, in-head, in-tail, in-left, in-ri
 use Rattle.mesh.specs.Mesh.{Ring}
 use Rattle.panels.specs.Panels.{Join, joins, Search, neighbours, look, search′, panelsFrom, panels, together}
 use Rattle.panels.proofs.Panelled.{panels-once, panels-inside}
-use Rattle.order.specs.Demand.{Demand3}
+use Rattle.order.specs.Same.{Matching}
+use Rattle.order.specs.Demand.{SameTogether}
 
 -- ---- the panel that has a face
 
@@ -194,33 +195,43 @@ module _ (normals : Bool) (fs : List Ring) where
 
 -- ---- as many panels
 
-pub as-many-panels : (normals : Bool) (m n : List Ring) → Demand3 m n → length (panels normals m) ≡ length (panels normals n)
-as-many-panels normals m n d =
+-- where the faces of m and n have as many rings, which are matched, and the same are together
+pub as-many-panels :
+    {A : Type 0} {fs gs : List (List A)} (r : Matching fs gs) (normals : Bool) (m n : List Ring) → length fs ≡ length m → length gs ≡ length n
+    → SameTogether r normals m n
+    → length (panels normals m) ≡ length (panels normals n)
+as-many-panels {A} {fs} {gs} r normals m n lf lg d =
     let a : length (panels normals m) ≤ length (panels normals n) =
-    no-fewer (d .matching .to) (panels normals m) (panels normals n) (panels-filled normals m) (panels-apart normals m) forth forth-together in
+    no-fewer (r .to) (panels normals m) (panels normals n) (panels-filled normals m) (panels-apart normals m) forth forth-together in
     let b : length (panels normals n) ≤ length (panels normals m) =
-    no-fewer (d .matching .back) (panels normals n) (panels normals m) (panels-filled normals n) (panels-apart normals n) back back-together in
+    no-fewer (r .back) (panels normals n) (panels normals m) (panels-filled normals n) (panels-apart normals n) back back-together in
     omega arith
   where
-    forth : (x : ℕ) → In x (joined (panels normals m)) → In (d .matching .to x) (joined (panels normals n))
-    forth x i = panels-placed normals n (d .matching .to x) (d .matching .to-face x (panels-inside normals m x i))
+    inside : (x : ℕ) → In x (joined (panels normals m)) → x < length fs
+    inside x i = omega (arith, lf, panels-inside normals m x i)
+
+    inside-back : (x : ℕ) → In x (joined (panels normals n)) → x < length gs
+    inside-back x i = omega (arith, lg, panels-inside normals n x i)
+
+    forth : (x : ℕ) → In x (joined (panels normals m)) → In (r .to x) (joined (panels normals n))
+    forth x i = panels-placed normals n (r .to x) (omega (arith, lg, r .to-face x (inside x i)))
 
     forth-together :
         (x y : ℕ) → In x (joined (panels normals m)) → In y (joined (panels normals m))
-        → together (d .matching .to x) (d .matching .to y) (panels normals n) ≡ true
+        → together (r .to x) (r .to y) (panels normals n) ≡ true
         → together x y (panels normals m) ≡ true
-    forth-together x y i j h = d .same-panels normals x y (panels-inside normals m x i) (panels-inside normals m y j) ∙ h
+    forth-together x y i j h = d .matched x y (inside x i) (inside y j) ∙ h
 
-    back : (x : ℕ) → In x (joined (panels normals n)) → In (d .matching .back x) (joined (panels normals m))
-    back x i = panels-placed normals m (d .matching .back x) (d .matching .back-face x (panels-inside normals n x i))
+    back : (x : ℕ) → In x (joined (panels normals n)) → In (r .back x) (joined (panels normals m))
+    back x i = panels-placed normals m (r .back x) (omega (arith, lf, r .back-face x (inside-back x i)))
 
     back-together :
         (x y : ℕ) → In x (joined (panels normals n)) → In y (joined (panels normals n))
-        → together (d .matching .back x) (d .matching .back y) (panels normals m) ≡ true
+        → together (r .back x) (r .back y) (panels normals m) ≡ true
         → together x y (panels normals n) ≡ true
     back-together x y i j h =
-        let lx : x < length n = panels-inside normals n x i in
-        let ly : y < length n = panels-inside normals n y j in
-        sym (ap₂ (λ (a b : ℕ). together a b (panels normals n)) (d .matching .to-back x lx) (d .matching .to-back y ly))
-        ∙ sym (d .same-panels normals (d .matching .back x) (d .matching .back y) (d .matching .back-face x lx) (d .matching .back-face y ly))
+        let lx : x < length gs = inside-back x i in
+        let ly : y < length gs = inside-back y j in
+        sym (ap₂ (λ (a b : ℕ). together a b (panels normals n)) (r .to-back x lx) (r .to-back y ly))
+        ∙ sym (d .matched (r .back x) (r .back y) (r .back-face x lx) (r .back-face y ly))
         ∙ h

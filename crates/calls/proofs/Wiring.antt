@@ -22,7 +22,7 @@ use Rattle.wires.proofs.Answering.{ported-done, house-verdict}
 use Rattle.wires.proofs.Balance.{hems-balanced}
 use Rattle.wires.proofs.Closing.{Used, house-used}
 use Rattle.wires.proofs.Entries.{traces-enough, Roomy, traces-roomy}
-use Rattle.order.specs.Demand.{Demand3}
+use Rattle.order.specs.Demand.{SameEdges}
 use Rattle.calls.specs.Calls.{cornersOf, VerdictCall, says, WiresLeft, HouseCall, PortedCall}
 use Rattle.calls.specs.Order.{SameWires, Wired, SameHouse}
 use Rattle.calls.proofs.Fronts.{front, as-many}
@@ -117,7 +117,7 @@ module _ (m : Mesh) (z : meshNumber m ≡ 0) (r : HouseCall m) where
   house-ten : ten (verdict (meshEdgesOf m)) ≡ 10 → r .left .answer .number ≡ 10
   house-ten e = r .contract .number-is ∙ house-number ∙ e
 
-module _ (m n : Mesh) (a : meshNumber m ≡ 0) (b : meshNumber n ≡ 0) (d : Demand3 (faces m) (faces n)) (v : VerdictCall m) where
+module _ (m n : Mesh) (a : meshNumber m ≡ 0) (b : meshNumber n ≡ 0) (d : SameEdges (faces m) (faces n)) (v : VerdictCall m) where
   verdict-wired : Wired v → (verdict (meshEdgesOf m) ≡ Oriented) ⊎ (verdict (meshEdgesOf m) ≡ Closed)
   unfolding verdictOf
   verdict-wired (inl e) = inl (said m a v ShellCondition.Oriented e)
@@ -177,8 +177,8 @@ module _ (m : Mesh) (z : meshNumber m ≡ 0) (r : PortedCall m) where
       }
 
 pub ported-agree :
-    (m n : Mesh) → meshNumber m ≡ 0 → meshNumber n ≡ 0 → Demand3 (faces m) (faces n)
+    (m n : Mesh) → meshNumber m ≡ 0 → meshNumber n ≡ 0 → SameEdges (faces m) (faces n)
     → (v : VerdictCall m) (r : PortedCall m) (q : PortedCall n) → (says v ShellCondition.Irregular → ⊥) → SameWires (r .left) (q .left)
 ported-agree m n a b d v r q h =
     wires-agree (r .left) (q .left) (r .contract) (q .contract) (ported-zero m a r) (ported-zero n b q) (ported-fits m a r) (ported-fits n b q)
-    (ap portedWires (d .same-directions (unsaid m a v Irregular h)))
+    (d .same-ported (unsaid m a v Irregular h))

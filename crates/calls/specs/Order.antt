@@ -3,8 +3,8 @@
 -- common. Assumes nothing.
 use mathlib.Core.Path.{_≡_}
 use mathlib.Core.Logic.{_⊎_}
-use mathlib.Core.Bool.{Bool}
-use mathlib.Core.List.{[], map}
+use mathlib.Core.Bool.{Bool, false}
+use mathlib.Core.List.{List, [], map}
 use Prim.Native.Nat.{ℕ, _<_}
 use lib.ListN.{length, getD, take}
 use Rattle.mesh.specs.Mesh.{Mesh, faces}
@@ -16,6 +16,7 @@ use Rattle.wires.specs.Answers.{portedNumber, houseNumber}
 use Rattle.panels.specs.Panels.{together}
 use Rattle.panels.specs.Contract.{panelsNumber}
 use Rattle.order.specs.Same.{Turned, Same, Matching}
+use Rattle.order.specs.Demand.{byPosition}
 use Rattle.calls.specs.Calls.{VerdictCall, says, HemCall, startsWritten, endsWritten, edgesWritten, WiresLeft, HouseCall, PortedCall, PanelCall, panelsWritten}
 
 -- both answer one verdict, and so neither answers a refusal
@@ -62,23 +63,23 @@ pub record SameHouse {m n : Mesh} (v : VerdictCall m) (r : HouseCall m) (q : Hou
   pub refused : (Wired v → ⊥) → Both 10 (r .left .answer .number) (q .left .answer .number)
 
 -- both calls answer 0, and as many faces and panels; faces that are together in a panel of the one are together, under their
--- numbers by the matching, in a panel of the other
-pub record SamePanels {m n : Mesh} (match : Matching (faces m) (faces n)) {normals : Bool} (r : PanelCall normals m) (q : PanelCall normals n) : Type 0 where
+-- numbers by the matching, in a panel of the other. A face is known by its ring: fs are the rings of the one, gs those of the other
+pub record SamePanels {A : Type 0} {fs gs : List (List A)} (match : Matching fs gs) {normals : Bool} {m n : Mesh} (r : PanelCall normals m) (q : PanelCall normals n) : Type 0 where
   pub done : Both 0 (r .answer .number) (q .answer .number)
   pub as-many-faces : r .answer .faces ≡ q .answer .faces
   pub as-many-panels : r .answer .panels ≡ q .answer .panels
   pub same-faces :
-      (a b : ℕ) → a < length (faces m) → b < length (faces m)
+      (a b : ℕ) → a < length fs → b < length fs
       → together a b (panelsWritten r) ≡ together (match .to a) (match .to b) (panelsWritten q)
   -- whichever of equal faces are taken for each other
   pub same-faces-of :
-      (a b c d : ℕ) → a < length (faces m) → c < length (faces n)
-      → Turned (getD (faces m) a []) (getD (faces n) c [])
-      → Turned (getD (faces m) b []) (getD (faces n) d [])
+      (a b c d : ℕ) → a < length fs → c < length gs
+      → Turned (getD fs a []) (getD gs c [])
+      → Turned (getD fs b []) (getD gs d [])
       → together a b (panelsWritten r) ≡ together c d (panelsWritten q)
 
--- what the calls on m and the calls on n have in common
-pub record CallsAgree (m n : Mesh) : Type 0 where
+-- what the calls on m and the calls on n have in common that goes by the edges of the faces
+pub record EdgeCallsAgree (m n : Mesh) : Type 0 where
   pub one-verdict : (v : VerdictCall m) (w : VerdictCall n) → OneVerdict v w
   pub same-numbers : SameNumbers m n
   pub same-hems : (v : VerdictCall m) (r : HemCall m) (q : HemCall n) → SameHems v r q
@@ -86,9 +87,26 @@ pub record CallsAgree (m n : Mesh) : Type 0 where
   -- ported wires go by the hem edges: they are the same unless the verdict is Irregular
   pub same-ported :
       (v : VerdictCall m) (r : PortedCall m) (q : PortedCall n) → (says v ShellCondition.Irregular → ⊥) → SameWires (r .left) (q .left)
+
+-- ---- the same faces, corner by corner
+
+pub record CallsAgree (m n : Mesh) : Type 0 where
+  pub edges : EdgeCallsAgree m n
   -- under either normals setting, by one matching of the face numbers
   pub matching : Matching (faces m) (faces n)
   pub same-panels : (normals : Bool) (r : PanelCall normals m) (q : PanelCall normals n) → SamePanels matching r q
 
 abbrev pub OrderIsFreeOfTheCalls : Type 0
 OrderIsFreeOfTheCalls = (m n : Mesh) → meshNumber m ≡ 0 → meshNumber n ≡ 0 → Same (faces m) (faces n) → CallsAgree m n
+
+-- ---- the same positions: exporters may number texture points and normals anew
+
+pub record CallsAgreeByPosition (m n : Mesh) : Type 0 where
+  pub edges : EdgeCallsAgree m n
+  -- without the normals setting
+  pub matching : Matching (byPosition (faces m)) (byPosition (faces n))
+  pub same-panels : (r : PanelCall false m) (q : PanelCall false n) → SamePanels matching r q
+
+abbrev pub PositionsAreEnoughForTheCalls : Type 0
+PositionsAreEnoughForTheCalls =
+    (m n : Mesh) → meshNumber m ≡ 0 → meshNumber n ≡ 0 → Same (byPosition (faces m)) (byPosition (faces n)) → CallsAgreeByPosition m n

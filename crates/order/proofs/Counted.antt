@@ -9,6 +9,7 @@ use Rattle.lists.proofs.Alike.{Alike}
 use Rattle.mesh.specs.Mesh.{Ring, position}
 use Rattle.edges.specs.Edges.{ringEdges, meshEdges, edgesOf}
 use Rattle.order.specs.Same.{Same, none, face, swap, then}
+use Rattle.order.specs.Demand.{byPosition}
 use Rattle.order.proofs.Turning.{turned-alike}
 use Rattle.order.proofs.Matched.{same-map}
 
@@ -25,6 +26,9 @@ module _ {A : Type 0} where
   same-count p swap = simp count-append (omega arith)
   same-count p (then s t) = same-count p s ∙ same-count p t
 
--- by position
+-- it is enough that the faces have the same positions
+pub edges-alike-by : (m n : List Ring) → Same (byPosition m) (byPosition n) → Alike (edgesOf m) (edgesOf n)
+edges-alike-by m n s = record { agree = λ p. same-count p s }
+
 pub edges-alike : {m n : List Ring} → Same m n → Alike (edgesOf m) (edgesOf n)
-edges-alike s = record { agree = λ p. same-count p (same-map position s) }
+edges-alike {m} {n} s = edges-alike-by m n (same-map position s)

@@ -3,6 +3,7 @@ pub mod Matched
 pub mod Rematched
 pub mod Counted
 pub mod Panelwise
+pub mod ByPosition
 pub mod Demand
 pub mod Shown
 pub mod Needed

@@ -3,7 +3,7 @@ use mathlib.Core.Path.{_≡_, refl, ap, _∙_, subst}
 use mathlib.Core.List.{List, [], _∷_, map}
 use Prim.Native.Nat.{ℕ, zero, suc, _<_}
 use native.Mathlib.Omega.{arith}
-use lib.ListN.{length, getD}
+use lib.ListN.{length, getD, length-map, List·getD-map}
 use Rattle.order.specs.Same.{Turned, Same, none, face, swap, then, Matching}
 use Rattle.order.proofs.Turning.{turned-refl, turned-sym, turned-trans, turned-map}
 
@@ -138,3 +138,23 @@ module _ {A : Type 0} where
         turned-sym
         (subst (λ j. Turned (getD m (r .back k) []) (getD n j [])) (r .to-back k h) (r .turned (r .back k) (r .back-face k h)));
   }
+
+-- ---- a matching by corners is one by what each corner becomes
+
+module _ {A B : Type 0} (c : A → B) where
+  pub faces-map : (m n : List (List A)) (a b : ℕ) → Turned (getD m a []) (getD n b []) → Turned (getD (map (map c) m) a []) (getD (map (map c) n) b [])
+  faces-map m n a b t = rw (List·getD-map (map c) m a [], List·getD-map (map c) n b []) (turned-map c t)
+
+  pub matched-map : {m n : List (List A)} → Matching m n → Matching (map (map c) m) (map (map c) n)
+  matched-map {m} {n} r =
+      let lm : length (map (map c) m) ≡ length m = length-map m (map c) in
+      let ln : length (map (map c) n) ≡ length n = length-map n (map c) in
+      record {
+        to = r .to;
+        back = r .back;
+        to-face = λ k h. let l : r .to k < length n = r .to-face k (omega arith) in omega arith;
+        back-face = λ k h. let l : r .back k < length m = r .back-face k (omega arith) in omega arith;
+        back-to = λ k h. r .back-to k (omega arith);
+        to-back = λ k h. r .to-back k (omega arith);
+        turned = λ k h. faces-map m n k (r .to k) (r .turned k (omega arith));
+      }

@@ -1,6 +1,7 @@
 -- What the conditions are for. Example 4 of document 01 is Irregular: with its last two faces exchanged it has the same faces,
 -- but not the same directions of hem edges, nor the same house wires. A mesh with two faces that have no corner is refused: each
--- would be the other begun elsewhere, and they stand in two panels. Assumes nothing.
+-- would be the other begun elsewhere, and they stand in two panels. Two triangles with one normal and with two have the same positions:
+-- under the normals setting they are one panel and two. Assumes nothing.
 use mathlib.Core.Path.{_≡_, refl, sym, ap, _∙_}
 use mathlib.Core.Bool.{Bool, true, false}
 use mathlib.Core.List.{[]}
@@ -15,7 +16,8 @@ use Rattle.edges.specs.Edges.{edgesOf, same, key, Irregular, verdict, hems}
 use Rattle.wires.specs.House.{walk, wiresIn, houseWires}
 use Rattle.panels.specs.Panels.{keyOf, search′, panelsFrom, panels, together}
 use Rattle.order.specs.Same.{Turned, Same, face, swap}
-use Rattle.order.specs.Pairs.{thriceUsed, exchanged, empties}
+use Rattle.order.specs.Demand.{byPosition}
+use Rattle.order.specs.Pairs.{thriceUsed, exchanged, empties, smooth, creased}
 use Rattle.order.proofs.Turning.{turned-refl}
 use Rattle.order.proofs.Matched.{same-refl}
 
@@ -94,3 +96,26 @@ panels-not-kept kept =
     (kept empties empties (same-refl (faces empties)) false 0 1 0 0 (omega arith) (omega arith) (turned-refl []) (turned-refl [])
     ∙ empties-apart .1)
     (empties-apart .0)
+
+-- ---- without the normals setting, where only the positions are the same
+
+pub normals-accepted : (meshNumber smooth ≡ 0) × (meshNumber creased ≡ 0)
+unfolding meshNumber shapeNumber overLimits uneven misfit ungrouped astray
+normals-accepted = (refl, refl)
+
+pub same-by-position : Same (byPosition (faces smooth)) (byPosition (faces creased))
+unfolding faces
+same-by-position = same-refl (byPosition (faces smooth))
+
+pub panels-by-normals : (length (panels true (faces smooth)) ≡ 1) × (length (panels true (faces creased)) ≡ 2)
+unfolding faces panels panelsFrom search′ keyOf
+panels-by-normals = (refl, refl)
+
+-- so it is not true that the positions decide the panels under the normals setting
+pub normals-needed :
+    ((m n : Mesh) → meshNumber m ≡ 0 → meshNumber n ≡ 0 → Same (byPosition (faces m)) (byPosition (faces n))
+    → length (panels true (faces m)) ≡ length (panels true (faces n))) → ⊥
+normals-needed kept =
+    let e : length (panels true (faces smooth)) ≡ length (panels true (faces creased)) =
+    kept smooth creased (normals-accepted .0) (normals-accepted .1) same-by-position in
+    omega (arith, panels-by-normals)

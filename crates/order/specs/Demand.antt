@@ -2,18 +2,20 @@
 -- Assumes nothing.
 use mathlib.Core.Path.{_≡_}
 use mathlib.Core.Logic.{_⊎_}
-use mathlib.Core.Bool.{Bool}
+use mathlib.Core.Bool.{Bool, false}
 use mathlib.Core.List.{List, [], map}
 use Prim.Native.Nat.{ℕ, _<_}
 use lib.ListN.{length, getD}
-use Rattle.mesh.specs.Mesh.{Mesh, Ring, faces}
+use Rattle.mesh.specs.Mesh.{Mesh, Ring, position, faces}
 use Rattle.mesh.specs.Table.{meshNumber}
 use Rattle.edges.specs.Edges.{edgesOf, key, Irregular, Oriented, Closed, verdict, hems}
 use Rattle.wires.specs.House.{houseWires}
+use Rattle.wires.specs.Ported.{portedWires}
 use Rattle.panels.specs.Panels.{panels, together}
 use Rattle.order.specs.Same.{Turned, Same, Matching}
 
-pub record Demand3 (m n : List Ring) : Type 0 where
+-- what goes by the edges of the faces
+pub record SameEdges (m n : List Ring) : Type 0 where
   -- one verdict
   pub one-verdict : verdict (edgesOf m) ≡ verdict (edgesOf n)
   -- the same hem edges, without direction, in the same ascending order
@@ -24,19 +26,50 @@ pub record Demand3 (m n : List Ring) : Type 0 where
   pub same-wires :
       (verdict (edgesOf m) ≡ Oriented) ⊎ (verdict (edgesOf m) ≡ Closed)
       → houseWires (hems (edgesOf m)) ≡ houseWires (hems (edgesOf n))
+  -- ported wires are the same unless it is Irregular
+  pub same-ported : (verdict (edgesOf m) ≡ Irregular → ⊥) → portedWires (hems (edgesOf m)) ≡ portedWires (hems (edgesOf n))
+
+-- the same faces are together in each panel of m and of n. A face is known by its ring: fs are the rings of m, gs those of n, and
+-- they are matched one to one
+pub record SameTogether {A : Type 0} {fs gs : List (List A)} (match : Matching fs gs) (normals : Bool) (m n : List Ring) : Type 0 where
+  pub matched :
+      (a b : ℕ) → a < length fs → b < length fs
+      → together a b (panels normals m) ≡ together (match .to a) (match .to b) (panels normals n)
+  -- whichever of equal faces are taken for each other
+  pub whichever :
+      (a b c d : ℕ) → a < length fs → c < length gs
+      → Turned (getD fs a []) (getD gs c [])
+      → Turned (getD fs b []) (getD gs d [])
+      → together a b (panels normals m) ≡ together c d (panels normals n)
+
+-- ---- the demand: the same faces, corner by corner
+
+pub record Demand3 (m n : List Ring) : Type 0 where
+  pub edges : SameEdges m n
   -- the faces of the one are matched to those of the other, one to one
   pub matching : Matching m n
   -- and under either normals setting the same faces are together in each panel
-  pub same-panels :
-      (normals : Bool) (a b : ℕ) → a < length m → b < length m
-      → together a b (panels normals m) ≡ together (matching .to a) (matching .to b) (panels normals n)
-  -- whichever of equal faces are taken for each other
-  pub same-panels-of :
-      (normals : Bool) (a b c d : ℕ) → a < length m → c < length n
-      → Turned (getD m a []) (getD n c [])
-      → Turned (getD m b []) (getD n d [])
-      → together a b (panels normals m) ≡ together c d (panels normals n)
+  pub same-panels : (normals : Bool) → SameTogether matching normals m n
 
--- the demand: two accepted meshes with the same faces, in another order, each face begun at any corner of its ring
+-- two accepted meshes with the same faces, in another order, each face begun at any corner of its ring
 abbrev pub OrderIsFree : Type 0
 OrderIsFree = (m n : Mesh) → meshNumber m ≡ 0 → meshNumber n ≡ 0 → Same (faces m) (faces n) → Demand3 (faces m) (faces n)
+
+-- ---- the same positions: exporters may number texture points and normals anew
+
+-- the rings of positions
+abbrev pub byPosition : List Ring → List (List ℕ)
+byPosition fs = map (map position) fs
+
+-- everything but the panels under the normals setting
+pub record SameByPosition (m n : List Ring) : Type 0 where
+  pub edges : SameEdges m n
+  -- the faces are matched by their positions
+  pub matching : Matching (byPosition m) (byPosition n)
+  -- and without the normals setting the same faces are together in each panel
+  pub same-panels : SameTogether matching false m n
+
+-- two accepted meshes whose faces have the same positions, in another order, each face begun at any corner of its ring
+abbrev pub PositionsAreEnough : Type 0
+PositionsAreEnough =
+    (m n : Mesh) → meshNumber m ≡ 0 → meshNumber n ≡ 0 → Same (byPosition (faces m)) (byPosition (faces n)) → SameByPosition (faces m) (faces n)

@@ -1,10 +1,10 @@
 -- Pairs of small meshes, by positions only: what the relation holds of and what not, and what the conditions are for.
 -- Assumes nothing.
 use mathlib.Core.Bool.{false}
-use mathlib.Core.List.{List, [], _∷_, map}
+use mathlib.Core.List.{List, [], _∷_, _++_, map}
 use Prim.Native.Nat.{ℕ, _*_}
 use lib.ListN.{length, replicate}
-use lib.Ieee.{fin}
+use lib.Ieee.{Float, fin}
 use lib.IntN.{pos}
 use Rattle.lists.specs.Lists.{each}
 use Rattle.mesh.specs.Mesh.{Mesh, Corner, meshOf, missing}
@@ -13,9 +13,17 @@ use Rattle.mesh.specs.Mesh.{Mesh, Corner, meshOf, missing}
 abbrev pub bare : ℕ → Corner
 bare p = p ∷ missing ∷ missing ∷ []
 
--- the mesh of these faces over n positions, which all are the origin
+-- and one by its position and its normal
+abbrev pub facing : ℕ → ℕ → Corner
+facing k p = p ∷ missing ∷ k ∷ []
+
+-- n entries of three coordinates, which all are the origin
+abbrev pub origins : ℕ → List Float
+origins n = replicate (3 * n) (fin false 0 (pos 0))
+
+-- the mesh of these faces over n positions
 abbrev pub plain : ℕ → List (List ℕ) → Mesh
-plain n fs = meshOf (replicate (3 * n) (fin false 0 (pos 0))) [] [] (each (each bare) fs) (map length fs)
+plain n fs = meshOf (origins n) [] [] (each (each bare) fs) (map length fs)
 
 abbrev pub triangle : ℕ → ℕ → ℕ → List ℕ
 triangle a b c = a ∷ b ∷ c ∷ []
@@ -40,3 +48,14 @@ exchanged = plain 5 (triangle 0 1 2 ∷ triangle 0 1 4 ∷ triangle 1 0 3 ∷ []
 -- two faces with no corners, which no mesh may have
 abbrev pub empties : Mesh
 empties = plain 0 ([] ∷ [] ∷ [])
+
+-- two triangles at one edge, with a normal for each, j and k; once the same, once another for the second
+abbrev pub twoNormals : ℕ → ℕ → Mesh
+twoNormals j k =
+    meshOf (origins 4) [] (origins 2) (each (facing j) (triangle 0 1 2) ++ each (facing k) (triangle 1 0 3)) (3 ∷ 3 ∷ [])
+
+abbrev pub smooth : Mesh
+smooth = twoNormals 0 0
+
+abbrev pub creased : Mesh
+creased = twoNormals 0 1

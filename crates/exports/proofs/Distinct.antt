@@ -1,0 +1,116 @@
+-- Positions renumbered one-to-one: as many different ones, and the same faces folded. Assumes nothing.
+use mathlib.Core.Path.{_≡_, refl, sym, ap, ap₂, _∙_}
+use mathlib.Core.Bool.{Bool, true, false, not, _||_}
+use mathlib.Core.List.{List, [], _∷_, map}
+use Prim.Native.Nat.{ℕ, _*_, _/_, _<_}
+use native.Mathlib.Omega.{arith}
+use lib.Dec.{eqb}
+use lib.ListN.{length, getD, length-map, List·getD-map}
+use borrow.Author.Tests.{eqb-true, ne-eqb}
+use Rattle.lists.specs.Lists.{has, some}
+use Rattle.lists.proofs.Bools.{by-cases, and-right, and-both}
+use Rattle.lists.proofs.Cases.{iff}
+use Rattle.lists.proofs.Counting.{clash}
+use Rattle.lists.proofs.Members.{in-head, in-tail, in-left, in-right, Once, once-cons}
+use Rattle.lists.proofs.Others.{eqb-self, once-head, once-tail}
+use Rattle.lists.proofs.Parts.{some-none}
+use Rattle.mesh.specs.Limits.{width}
+use Rattle.mesh.specs.Mesh.{Mesh, Ring, position, missing, threes, positionCount}
+use Rattle.mesh.specs.Table.{meshNumber}
+use Rattle.mesh.proofs.Corners.{length-threes, getD-threes}
+use Rattle.folding.specs.Folding.{twice, folded}
+use Rattle.compaction.specs.Compaction.{firstUses}
+use Rattle.compaction.proofs.Uses.{has-uses, uses-once}
+use Rattle.edges.specs.Runs.{Edged}
+use Rattle.edges.proofs.Answering.{edged}
+use Rattle.exports.specs.Renumbered.{positionsOf, OneToOne}
+use Rattle.exports.proofs.Images.{Telling, image-in, in-image}
+use Rattle.exports.proofs.Rewritten.{rewritten, ring-rewritten}
+use Rattle.exports.proofs.Used.{as-long}
+
+numbers-told : Telling eqb
+numbers-told = record { told = eqb-true; itself = eqb-self }
+
+-- ---- as many different positions
+
+-- no position of an accepted mesh is the missing mark
+pub none-missing : (m : Mesh) → meshNumber m ≡ 0 → has missing (map position (threes (m .corners))) ≡ false
+none-missing m z =
+    some-none (eqb missing) 0 (map position (threes (m .corners)))
+    (λ k l. ne-eqb missing (getD (map position (threes (m .corners))) k 0) (λ e. above k l e))
+  where
+    above : (k : ℕ) → k < length (map position (threes (m .corners))) → missing ≡ getD (map position (threes (m .corners))) k 0 → ⊥
+    above k l e =
+        let d : Edged (m .corners) (m .sizes) (positionCount m) = edged m z in
+        let j : k < length (m .corners) / width = omega (arith, length-map (threes (m .corners)) position, length-threes (m .corners)) in
+        let p : getD (map position (threes (m .corners))) k 0 ≡ getD (m .corners) (width * k) 0 =
+        List·getD-map position (threes (m .corners)) k [] ∙ ap position (getD-threes (m .corners) k j) in
+        omega (arith, d .few, d .below k j)
+
+not-missing : (l : List ℕ) → has missing l ≡ false → (x : ℕ) → has x l ≡ true → not (eqb x missing) ≡ true
+not-missing l n x h =
+    by-cases (eqb x missing) (λ e. clash (ap (λ (z : ℕ). has z l) (sym (eqb-true x missing e)) ∙ h) n) (λ e. ap not e)
+
+module _ (g : ℕ → ℕ) where
+  once-mapped : (l : List ℕ) → OneToOne g l → Once l → Once (map g l)
+  once-mapped [] one o = o
+  once-mapped (x ∷ l) one o =
+      once-cons (g x) (map g l)
+      (by-cases (has (g x) (map g l))
+      (λ t.
+      let r = in-image g numbers-told numbers-told (g x) l t in
+      let e : eqb x (r .0) ≡ true =
+      sym (one x (r .0) (in-head x l) (in-tail (r .0) x l (r .2))) ∙ ap (eqb (g x)) (sym (r .1)) ∙ eqb-self (g x) in
+      clash (ap (λ (z : ℕ). has z l) (eqb-true x (r .0) e) ∙ r .2) (once-head x l o))
+      (λ t. t))
+      (once-mapped l (λ i j h k. one i j (in-tail i x l h) (in-tail j x l k)) (once-tail x l o))
+
+  module _ (l k : List ℕ) (one : OneToOne g l) (nl : has missing l ≡ false) (nk : has missing k ≡ false)
+      (same : (y : ℕ) → has y (map g l) ≡ has y k) where
+    used-in : (x : ℕ) (c : List ℕ) → has x (firstUses c) ≡ true → has x c ≡ true
+    used-in x c h = and-right (not (eqb x missing)) (has x c) (sym (has-uses x c) ∙ h)
+
+    in-used : (x : ℕ) (c : List ℕ) → has missing c ≡ false → has x c ≡ true → has x (firstUses c) ≡ true
+    in-used x c n h = has-uses x c ∙ and-both (not (eqb x missing)) (has x c) (not-missing c n x h) h
+
+    same-used : (y : ℕ) → has y (map g (firstUses l)) ≡ has y (firstUses k)
+    same-used y =
+        iff (has y (map g (firstUses l))) (has y (firstUses k))
+        (λ t.
+        let r = in-image g numbers-told numbers-told y (firstUses l) t in
+        let i : has (g (r .0)) (map g l) ≡ true = image-in g numbers-told numbers-told (r .0) l (used-in (r .0) l (r .2)) in
+        in-used y k nk (sym (same y) ∙ ap (λ (z : ℕ). has z (map g l)) (r .1) ∙ i))
+        (λ t.
+        let r = in-image g numbers-told numbers-told y l (same y ∙ used-in y k t) in
+        ap (λ (z : ℕ). has z (map g (firstUses l))) (r .1) ∙ image-in g numbers-told numbers-told (r .0) (firstUses l) (in-used (r .0) l nl (r .2)))
+
+    pub as-many-renumbered : length (firstUses l) ≡ length (firstUses k)
+    as-many-renumbered =
+        sym (length-map (firstUses l) g)
+        ∙ as-long (map g (firstUses l)) (firstUses k)
+        (once-mapped (firstUses l) (λ i j h e. one i j (used-in i l h) (used-in j l e)) (uses-once l))
+        (uses-once k) same-used
+
+-- ---- the same faces are folded
+
+module _ (g : ℕ → ℕ) where
+  has-renumbered : (p : ℕ) (ps : List ℕ) → ((x : ℕ) → has x ps ≡ true → eqb (g p) (g x) ≡ eqb p x) → has (g p) (map g ps) ≡ has p ps
+  has-renumbered p [] one = refl
+  has-renumbered p (x ∷ ps) one =
+      ap₂ (λ (a b : Bool). a || b) (one x (in-head x ps)) (has-renumbered p ps (λ y h. one y (in-tail y x ps h)))
+
+  twice-renumbered : (l : List ℕ) → OneToOne g l → twice (map g l) ≡ twice l
+  twice-renumbered [] one = refl
+  twice-renumbered (p ∷ ps) one =
+      ap₂ (λ (a b : Bool). a || b)
+      (has-renumbered p ps (λ x h. one p x (in-head p ps) (in-tail x p ps h)))
+      (twice-renumbered ps (λ i j h k. one i j (in-tail i p ps h) (in-tail j p ps k)))
+
+  pub folded-renumbered : (fs : List Ring) → OneToOne g (positionsOf fs) → some folded (rewritten g fs) ≡ some folded fs
+  unfolding folded
+  folded-renumbered [] one = refl
+  folded-renumbered (f ∷ fs) one =
+      ap₂ (λ (a b : Bool). a || b)
+      (ap twice (ring-rewritten g f)
+      ∙ twice-renumbered (map position f) (λ i j h k. one i j (in-left i (map position f) (positionsOf fs) h) (in-left j (map position f) (positionsOf fs) k)))
+      (folded-renumbered fs (λ i j h k. one i j (in-right i (map position f) (positionsOf fs) h) (in-right j (map position f) (positionsOf fs) k)))

@@ -1,0 +1,106 @@
+-- What the sheets of two files have in common. Assumes nothing.
+use mathlib.Core.Path.{_≡_, refl, sym, ap, ap₂, _∙_}
+use mathlib.Core.Bool.{false}
+use mathlib.Core.List.{List, [], _∷_, _++_}
+use Prim.Native.Nat.{ℕ}
+use native.Mathlib.Omega.{arith}
+use lib.ListN.{length, take}
+use lib.Seq.{sets}
+use lib.Dec.{ltb}
+use borrow.Author.Tests.{le-ltb}
+use Rattle.lists.specs.Lists.{some}
+use Rattle.lists.proofs.Copies.{take-written}
+use Rattle.mesh.specs.Mesh.{faces}
+use Rattle.mesh.specs.Table.{meshNumber, when, short}
+use Rattle.mesh.proofs.Numbers.{first-head, first-tail}
+use Rattle.mesh.proofs.After.{after-done}
+use Rattle.folding.specs.Folding.{folded}
+use Rattle.folded.specs.Folded.{unfoldedMesh}
+use Rattle.folded.proofs.Accepted.{removed-accepted}
+use Rattle.calls.proofs.Cleaned.{folded-same, folded-by-position}
+use Rattle.calls.proofs.Cleaned.{faces-stay}
+use Rattle.panelfile.specs.Reading.{finish, readAll, panelNumber, panelMesh}
+use Rattle.panelfile.proofs.Ending.{read-accepted}
+use Rattle.lines.specs.Lines.{sheetText, hemLines}
+use Rattle.sheet.specs.Sheet.{cleaned, printed, fileNumber, sheetOf, sheetNumber}
+use Rattle.exports.specs.Covers.{OneCover}
+use Rattle.exports.specs.Sheets.{SheetCall, written, firstLines, found, SheetsSay, FirstLinesAreFree, FirstLinesOfUnfolded, SheetsOfOneCover, PositionsAreEnoughForSheets}
+use Rattle.exports.proofs.Rewritten.{rewritten, rewritten-by}
+use Rattle.exports.proofs.Distinct.{folded-renumbered}
+use Rattle.exports.proofs.Compactions.{but-attributes, own-cover, lines-same}
+
+-- ---- files
+
+module _ (a : List ℕ) (e : fileNumber a ≡ 0) where
+  pub file-accepted : meshNumber (panelMesh a) ≡ 0
+  unfolding fileNumber panelNumber short
+  file-accepted =
+      read-accepted a
+      (first-head (finish a (readAll a)) [] (first-head (panelNumber [] a) [] (first-tail (when (ltb 65536 (length a)) 1) (panelNumber [] a ∷ []) e)))
+
+  sheet-is : sheetOf a ≡ firstLines (found a) ++ hemLines (found a .wires)
+  unfolding sheetOf printed sheetText
+  sheet-is = rw e
+
+-- ---- calls
+
+-- with its room a call answers 0 and writes the sheet
+module _ {a : List ℕ} (r : SheetCall a) where
+  call-done : r .answer .number ≡ 0
+  unfolding sheetNumber short
+  call-done = r .contract .number ∙ rw (le-ltb (length (r .out)) 65536 (r .room))
+
+  as-long : r .answer .length ≡ length (sheetOf a)
+  as-long = r .contract .count ∙ after-done (r .answer .number) (length (sheetOf a)) 0 call-done
+
+  sheet-written : written r ≡ sheetOf a
+  sheet-written =
+      ap₂ take as-long (r .contract .bytes ∙ after-done (r .answer .number) (sets (r .out) 0 (sheetOf a)) (r .out) call-done)
+      ∙ take-written (r .out) (sheetOf a) (length (sheetOf a)) refl (omega (arith, as-long, r .contract .fits))
+
+pub sheets-say : SheetsSay
+sheets-say a e r = record { done = call-done r; says = sheet-written r ∙ sheet-is a e }
+
+pub first-lines-are-free : FirstLinesAreFree
+unfolding cleaned
+first-lines-are-free a b e f s r q =
+    let m = unfoldedMesh (panelMesh a) in
+    let n = unfoldedMesh (panelMesh b) in
+    let y = removed-accepted (panelMesh a) (file-accepted a e) in
+    let z = removed-accepted (panelMesh b) (file-accepted b f) in
+    record {
+      done = (call-done r, call-done q);
+      of-the-one = sheets-say a e r .says;
+      of-the-other = sheets-say b f q .says ∙ ap (λ (l : List ℕ). l ++ hemLines (found b .wires)) (sym (lines-same m n y z s));
+    }
+
+-- ---- files without folded faces
+
+module _ (g : ℕ → ℕ) (a b : List ℕ) (e : fileNumber a ≡ 0) (f : fileNumber b ≡ 0)
+    (c : OneCover g (faces (panelMesh a)) (faces (panelMesh b))) (h : some folded (faces (panelMesh a)) ≡ false) where
+  -- the other has none either
+  none-folded : some folded (faces (panelMesh b)) ≡ false
+  none-folded =
+      sym (folded-by-position (rewritten g (faces (panelMesh a))) (faces (panelMesh b)) (rw (rewritten-by g (faces (panelMesh a))) (c .same-positions)))
+      ∙ folded-renumbered g (faces (panelMesh a)) (c .one-to-one)
+      ∙ h
+
+  still-one : OneCover g (faces (unfoldedMesh (panelMesh a))) (faces (unfoldedMesh (panelMesh b)))
+  still-one = rw (faces-stay (panelMesh a) (file-accepted a e) h, faces-stay (panelMesh b) (file-accepted b f) none-folded) c
+
+pub sheets-of-one-cover : SheetsOfOneCover
+unfolding cleaned
+sheets-of-one-cover g a b e f c h =
+    but-attributes g (unfoldedMesh (panelMesh a)) (unfoldedMesh (panelMesh b))
+    (removed-accepted (panelMesh a) (file-accepted a e)) (removed-accepted (panelMesh b) (file-accepted b f))
+    (still-one g a b e f c h)
+
+pub positions-enough-for-sheets : PositionsAreEnoughForSheets
+positions-enough-for-sheets a b e f s h =
+    sheets-of-one-cover (λ i. i) a b e f (own-cover (faces (panelMesh a)) (faces (panelMesh b)) s) h
+
+pub first-lines-of-unfolded : FirstLinesOfUnfolded
+first-lines-of-unfolded a b e f s h r q =
+    first-lines-are-free a b e f
+    (rw (faces-stay (panelMesh a) (file-accepted a e) h, faces-stay (panelMesh b) (file-accepted b f) (sym (folded-same s) ∙ h)) s)
+    r q

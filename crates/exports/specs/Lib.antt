@@ -1,0 +1,4 @@
+pub mod Renumbered
+pub mod Covers
+pub mod Compacted
+pub mod Sheets
