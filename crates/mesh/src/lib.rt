@@ -38,7 +38,8 @@ pub const TEXEL_NUMBERS: usize = 2 * ENTRIES;
 
 pub const CORNER_NUMBERS: usize = WIDTH * CORNERS;
 
-// The number that the five lists earn: the first row of 1 to 5 whose rule says so, or 0.
+// The number that the five lists earn: the first row of 1 to 5 whose rule says so, or 0. Every call begins with it, so it is lean: a row
+// gathers what it finds in a flag and goes on to the end of its list; with no way out of the loop several numbers are looked at at once.
 pub fn number(
     positions: &[f64],
     textures: &[f64],
