@@ -7,18 +7,18 @@ slower one.
 import sys
 
 SIZES = (256, 1024, 4096)
-NAMED = ("tube", "ball", "scattered")
-# Ours/Rust at the full limits: calls, meshes, and the most that it may be.
+SPREAD = "spread points"
+# Ours/Rust: calls, the most that it may be, and the meshes, all where none are named. It is asked of every mesh at every size.
 RATIOS = (
-    ("compaction", ("remove_unused_attrs",), NAMED, 1.0),
-    ("removal", ("remove_degenerate_faces",), NAMED, 1.0),
-    ("verdict", ("shell_condition",), NAMED, 1.0),
-    ("wires", ("hem_edges", "extract_boundaries", "house_wires"), NAMED, 1.0),
-    ("panels", ("components",), NAMED, 1.0),
-    ("merging on spread points", ("put_together_same_attrs",), ("spread points",), 3.0),
+    ("the check of a mesh", ("mesh_number",), 1.0, ()),
+    ("compaction", ("remove_unused_attrs",), 1.0, ()),
+    ("removal", ("remove_degenerate_faces",), 1.0, ()),
+    ("verdict", ("shell_condition",), 1.0, ()),
+    ("wires", ("hem_edges", "extract_boundaries", "house_wires"), 1.0, ()),
+    ("panels", ("components",), 1.0, ()),
+    ("merging on spread points", ("put_together_same_attrs",), 3.0, (SPREAD,)),
 )
 GROWING = ("shell_condition", "hem_edges", "extract_boundaries", "house_wires", "components")
-GROWN_ON = ("tube", "fan", "separate triangles")
 MOST_GROWTH = 24.0
 
 
@@ -65,27 +65,40 @@ def print_table(times):
 
 
 def print_goals(times):
+    """Each goal on every mesh at every size: where ours comes nearest to missing it or misses it most, and on which meshes it is met."""
     print("\n## How the goals came out\n")
-    print("| Goal | The most | Where | |\n|---|---|---|---|")
-    full = SIZES[-1]
-    for name, calls, meshes, most in RATIOS:
+    print("| Goal | The most | Where | Met on | Not met on |\n|---|---|---|---|---|")
+    for name, calls, most, meshes in RATIOS:
         found = [
-            (quotient(row, ("ours", full), ("rust", full)), call, mesh)
+            (quotient(row, ("ours", size), ("rust", size)), f"`{call}`", mesh, f"{size:,}")
             for (call, mesh), row in times.items()
-            if call in calls and mesh in meshes
+            for size in SIZES
+            if call in calls and (not meshes or mesh in meshes)
         ]
-        print_goal(f"{name}: ours/Rust at most {most:.1f}", max(found), most)
+        print_goal(f"{name}: ours/Rust at most {most:.1f}", found, most)
     grown = [
-        (quotient(row, ("ours", full), ("ours", SIZES[0])), call, mesh)
+        (quotient(row, ("ours", SIZES[-1]), ("ours", SIZES[0])), f"`{call}`", mesh, "")
         for (call, mesh), row in times.items()
-        if call in GROWING and mesh in GROWN_ON
+        if call in GROWING
     ]
-    print_goal(f"edges, wires and panels from 256 to 4,096 corners: growth at most {MOST_GROWTH:.0f}", max(grown), MOST_GROWTH)
+    print_goal(f"edges, wires and panels from 256 to 4,096 corners: growth at most {MOST_GROWTH:.0f}", grown, MOST_GROWTH)
 
 
-def print_goal(goal, worst, most):
-    value, call, mesh = worst
-    print(f"| {goal} | {value:.2f} | `{call}`, {mesh} | {'met' if value <= most else 'not met'} |")
+def print_goal(goal, found, most):
+    """A mesh on which it is not met is named with its corners there."""
+    found = [entry for entry in found if entry[0] is not None]
+    if not found:
+        print(f"| {goal} | | not measured | | |")
+        return
+    value, *where = max(found)
+    missed = {}
+    for ratio, _, mesh, size in found:
+        sizes = missed.setdefault(mesh, [])
+        if ratio > most and size not in sizes:
+            sizes.append(size)
+    met = ", ".join(mesh for mesh, sizes in missed.items() if not sizes)
+    not_met = "; ".join(f"{mesh}: {', '.join(sizes)}".rstrip(": ") for mesh, sizes in missed.items() if sizes)
+    print(f"| {goal} | {value:.2f} | {', '.join(part for part in where if part)} | {met or 'none'} | {not_met or 'none'} |")
 
 
 def print_slower(times):

@@ -25,11 +25,10 @@ module _ (m : Mesh) (before : Result) (answer : Compacted) where
         position-count = r .positions ∙ sym (after-refused (answer .number) (positionCount (compacted m)) 0 z);
         texture-count = r .textures ∙ sym (after-refused (answer .number) (textureCount (compacted m)) 0 z);
         normal-count = r .normals ∙ sym (after-refused (answer .number) (normalCount (compacted m)) 0 z);
-        corners = sym (after-refused (answer .number) (sets (before .corners) 0 (compacted m .corners)) (before .corners) z);
-        positions =
-            sym (after-refused (answer .number) (sets (before .positions) 0 (compacted m .positions)) (before .positions) z);
-        textures = sym (after-refused (answer .number) (sets (before .textures) 0 (compacted m .textures)) (before .textures) z);
-        normals = sym (after-refused (answer .number) (sets (before .normals) 0 (compacted m .normals)) (before .normals) z);
+        corners = sym (after-refused (answer .number) _ (before .corners) z);
+        positions = sym (after-refused (answer .number) _ (before .positions) z);
+        textures = sym (after-refused (answer .number) _ (before .textures) z);
+        normals = sym (after-refused (answer .number) _ (before .normals) z);
       }
 
   -- 1 to 5
@@ -86,11 +85,11 @@ ready m before z a b c d = record {
 
 -- 0
 pub done :
-    (m : Mesh) (before behind : Result) (answer : Compacted) → meshNumber m ≡ 0
+    (m : Mesh) (before afterwards : Result) (answer : Compacted) → meshNumber m ≡ 0
     → Ready (m .positions) (m .textures) (m .normals) (m .corners) before
-    → Done (m .positions) (m .textures) (m .normals) (m .corners) before behind answer → Compaction m before behind answer
+    → Done (m .positions) (m .textures) (m .normals) (m .corners) before afterwards answer → Compaction m before afterwards answer
 unfolding compactionNumber tooShort short compacted renumbered usedPositions usedTextures usedNormals
-done m before behind answer z r d =
+done m before afterwards answer z r d =
     let p : length (entries 3 (m .positions) (firstUses (column 0 (m .corners)))) ≡ length (firstUses (column 0 (m .corners))) * 3 =
     length-kept (m .positions) 3 (m .corners) 0 (r .positions) in
     let t : length (entries 2 (m .textures) (firstUses (column 1 (m .corners)))) ≡ length (firstUses (column 1 (m .corners))) * 2 =

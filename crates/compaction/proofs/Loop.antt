@@ -147,18 +147,18 @@ module _
   going-long = ap length (g .corners) ∙ length-sets (before .corners) 0 (joined (map (newCorner cs) (take k (threes cs))))
 
   pub going-turns :
-      (behind : Result) (c1 c2 pmap′ tmap′ nmap′ : List ℕ) (pused′ tused′ nused′ : ℕ) → k < length cs / width
-      → Taken p 3 cs k 0 pmap′ pused′ (at .positions) (behind .positions) (at .corners) c1
-      → Taken t 2 cs k 1 tmap′ tused′ (at .textures) (behind .textures) c1 c2
-      → Taken n 3 cs k 2 nmap′ nused′ (at .normals) (behind .normals) c2 (behind .corners)
-      → Going p t n cs before behind pmap′ tmap′ nmap′ pused′ tused′ nused′ (k + 1)
-  going-turns behind c1 c2 pmap′ tmap′ nmap′ pused′ tused′ nused′ h a b c = record {
+      (afterwards : Result) (c1 c2 pmap′ tmap′ nmap′ : List ℕ) (pused′ tused′ nused′ : ℕ) → k < length cs / width
+      → Taken p 3 cs k 0 pmap′ pused′ (at .positions) (afterwards .positions) (at .corners) c1
+      → Taken t 2 cs k 1 tmap′ tused′ (at .textures) (afterwards .textures) c1 c2
+      → Taken n 3 cs k 2 nmap′ nused′ (at .normals) (afterwards .normals) c2 (afterwards .corners)
+      → Going p t n cs before afterwards pmap′ tmap′ nmap′ pused′ tused′ nused′ (k + 1)
+  going-turns afterwards c1 c2 pmap′ tmap′ nmap′ pused′ tused′ nused′ h a b c = record {
     within = omega arith;
-    positions = column-turns (g .positions) (behind .positions) pmap′ pused′ (at .corners) c1 a;
-    textures = column-turns (g .textures) (behind .textures) tmap′ tused′ c1 c2 b;
-    normals = column-turns (g .normals) (behind .normals) nmap′ nused′ c2 (behind .corners) c;
+    positions = column-turns (g .positions) (afterwards .positions) pmap′ pused′ (at .corners) c1 a;
+    textures = column-turns (g .textures) (afterwards .textures) tmap′ tused′ c1 c2 b;
+    normals = column-turns (g .normals) (afterwards .normals) nmap′ nused′ c2 (afterwards .corners) c;
     corners =
-        corners-turn cs (before .corners) k h (at .corners) c1 c2 (behind .corners) (g .corners) (a .numbered) (b .numbered)
+        corners-turn cs (before .corners) k h (at .corners) c1 c2 (afterwards .corners) (g .corners) (a .numbered) (b .numbered)
         (c .numbered);
   }
 

@@ -57,16 +57,16 @@ zero-roomy m before h =
     (first-head (when (tooShort m before) 9) [] (first-tail (meshNumber m) (when (tooShort m before) 9 ∷ []) h)))
 
 -- the first numbers of the lent lists, as many as the counts say, are the compacted mesh
-pub record Given (m : Mesh) (behind : Result) (answer : Compacted) : Type 0 where
-  pub corners : take (length (m .corners)) (behind .corners) ≡ compacted m .corners
-  pub positions : take (3 * answer .positions) (behind .positions) ≡ compacted m .positions
-  pub textures : take (2 * answer .textures) (behind .textures) ≡ compacted m .textures
-  pub normals : take (3 * answer .normals) (behind .normals) ≡ compacted m .normals
+pub record Given (m : Mesh) (afterwards : Result) (answer : Compacted) : Type 0 where
+  pub corners : take (length (m .corners)) (afterwards .corners) ≡ compacted m .corners
+  pub positions : take (3 * answer .positions) (afterwards .positions) ≡ compacted m .positions
+  pub textures : take (2 * answer .textures) (afterwards .textures) ≡ compacted m .textures
+  pub normals : take (3 * answer .normals) (afterwards .normals) ≡ compacted m .normals
 
 pub given :
-    (m : Mesh) (before behind : Result) (answer : Compacted) → Compaction m before behind answer → answer .number ≡ 0
-    → Given m behind answer
-given m before behind answer c e =
+    (m : Mesh) (before afterwards : Result) (answer : Compacted) → Compaction m before afterwards answer → answer .number ≡ 0
+    → Given m afterwards answer
+given m before afterwards answer c e =
     let n : compactionNumber m before ≡ 0 = sym (c .number) ∙ e in
     let z : meshNumber m ≡ 0 = zero-accepted m before n in
     let r : Roomy m before = zero-roomy m before n in

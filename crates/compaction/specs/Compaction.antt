@@ -92,12 +92,12 @@ compactionNumber m r = firstOf (meshNumber m ∷ when (tooShort m r) 9 ∷ [])
 
 -- what the call answers, and what the lent lists hold before and after it: on 0 the compacted mesh from their beginning on, room
 -- past it unchanged, and the counts of its entries; on any other number nothing is written, and each count is 0
-pub record Compaction (m : Mesh) (before behind : Result) (answer : Compacted) : Type 0 where
+pub record Compaction (m : Mesh) (before afterwards : Result) (answer : Compacted) : Type 0 where
   pub number : answer .number ≡ compactionNumber m before
   pub position-count : answer .positions ≡ after (answer .number) (positionCount (compacted m)) 0
   pub texture-count : answer .textures ≡ after (answer .number) (textureCount (compacted m)) 0
   pub normal-count : answer .normals ≡ after (answer .number) (normalCount (compacted m)) 0
-  pub corners : behind .corners ≡ after (answer .number) (sets (before .corners) 0 (compacted m .corners)) (before .corners)
-  pub positions : behind .positions ≡ after (answer .number) (sets (before .positions) 0 (compacted m .positions)) (before .positions)
-  pub textures : behind .textures ≡ after (answer .number) (sets (before .textures) 0 (compacted m .textures)) (before .textures)
-  pub normals : behind .normals ≡ after (answer .number) (sets (before .normals) 0 (compacted m .normals)) (before .normals)
+  pub corners : afterwards .corners ≡ after (answer .number) (sets (before .corners) 0 (compacted m .corners)) (before .corners)
+  pub positions : afterwards .positions ≡ after (answer .number) (sets (before .positions) 0 (compacted m .positions)) (before .positions)
+  pub textures : afterwards .textures ≡ after (answer .number) (sets (before .textures) 0 (compacted m .textures)) (before .textures)
+  pub normals : afterwards .normals ≡ after (answer .number) (sets (before .normals) 0 (compacted m .normals)) (before .normals)

@@ -86,15 +86,15 @@ pub record Ready (p t n : List Float) (cs : List ℕ) (before : Result) : Type 0
   pub normal-room : length n ≤ length (before .normals)
 
 -- and what it gives
-pub record Done (p t n : List Float) (cs : List ℕ) (before behind : Result) (answer : Compacted) : Type 0 where
+pub record Done (p t n : List Float) (cs : List ℕ) (before afterwards : Result) (answer : Compacted) : Type 0 where
   pub number : answer .number ≡ 0
   pub position-count : answer .positions ≡ length (firstUses (column 0 cs))
   pub texture-count : answer .textures ≡ length (firstUses (column 1 cs))
   pub normal-count : answer .normals ≡ length (firstUses (column 2 cs))
-  pub corners : behind .corners ≡ sets (before .corners) 0 (joined (map (newCorner cs) (threes cs)))
-  pub positions : behind .positions ≡ sets (before .positions) 0 (entries 3 p (firstUses (column 0 cs)))
-  pub textures : behind .textures ≡ sets (before .textures) 0 (entries 2 t (firstUses (column 1 cs)))
-  pub normals : behind .normals ≡ sets (before .normals) 0 (entries 3 n (firstUses (column 2 cs)))
+  pub corners : afterwards .corners ≡ sets (before .corners) 0 (joined (map (newCorner cs) (threes cs)))
+  pub positions : afterwards .positions ≡ sets (before .positions) 0 (entries 3 p (firstUses (column 0 cs)))
+  pub textures : afterwards .textures ≡ sets (before .textures) 0 (entries 2 t (firstUses (column 1 cs)))
+  pub normals : afterwards .normals ≡ sets (before .normals) 0 (entries 3 n (firstUses (column 2 cs)))
 
 -- a refusal: its number, and counts of 0
 pub record Refused (answer : Compacted) (number : ℕ) : Type 0 where

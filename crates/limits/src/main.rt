@@ -13,6 +13,8 @@ fn main() {
     sizes_outside();
     sizes_ungrouped();
     indices_beyond();
+    no_position();
+    rows_in_order();
     parts();
     rooms::compaction_rooms();
 }
@@ -101,6 +103,41 @@ fn indices_beyond() {
     corner(b"5 normal 1 of 2", 0, 0, 1);
     corner(b"5 normal 2 of 2", 0, 0, 2);
     corner(b"5 normal missing", 0, 0, MISSING);
+}
+
+// A triangle over no position, texture point or normal at all.
+fn no_position() {
+    let none = [0.0; 1];
+    let empty = floats(&none, 0);
+    let corners = [
+        0,
+        MISSING,
+        MISSING,
+        0,
+        MISSING,
+        MISSING,
+        0,
+        MISSING,
+        MISSING,
+    ];
+    let number = mesh::number(empty, empty, empty, &corners, &[3]);
+    show(b"5 position 0 of 0", number as u64);
+}
+
+// Lists that earn two numbers answer the lower.
+fn rows_in_order() {
+    let many = [0.0; 6145];
+    let corners = [1; 108];
+    coordinates(b"1 before 2, position numbers 6145", &many, 6145, 0, 0);
+    faces(
+        b"2 before 3, size 2 over 9 corner numbers",
+        &corners,
+        9,
+        &[2],
+        1,
+    );
+    faces(b"3 before 4, sizes 33 3", &corners, 108, &[33, 3], 2);
+    faces(b"4 before 5, sizes 4 3", &corners, 21, &[4, 3], 2);
 }
 
 // The part of a face: how many numbers it has. The lists earn 0, or the number that is named.

@@ -1,39 +1,14 @@
--- Laws of `below`, `countBelow` and `seek`. Assumes nothing.
+-- Laws of `countBelow` and `seek`. Assumes nothing.
 use mathlib.Core.Path.{_≡_, refl, sym, ap, _∙_}
 use mathlib.Core.Bool.{Bool, true, false}
 use mathlib.Core.Logic.{⊎-elim}
 use Prim.Native.Nat.{ℕ, zero, suc, _+_, _≤_, _<_}
-use native.Mathlib.Nat.{le-of-suc-le-suc, eq-or-lt-of-le, not-suc-le-zero}
+use native.Mathlib.Nat.{eq-or-lt-of-le}
 use native.Mathlib.Numerals.{add-one}
 use native.Mathlib.Omega.{arith}
 use Rattle.lists.specs.Lists.{bump}
-use Rattle.lists.specs.Numbers.{below, countBelow, seek}
-use Rattle.lists.proofs.Bools.{and-both, and-left, and-right, and-false-left, and-false-right, by-cases}
-
--- a test that holds below i and at i holds below i + 1
-pub below-step : (p : ℕ → Bool) (i : ℕ) → below p i ≡ true → p i ≡ true → below p (i + 1) ≡ true
-unfolding below
-below-step p i h e = rw add-one (and-both (below p i) (p i) h e)
-
--- a test that holds below n holds at each k below n
-pub below-at : (p : ℕ → Bool) (n k : ℕ) → below p n ≡ true → k < n → p k ≡ true
-unfolding below
-below-at p zero k h l = absurd (not-suc-le-zero l)
-below-at p (suc n) k h l =
-    ⊎-elim
-    (λ e. ap p e ∙ and-right (below p n) (p n) h)
-    (λ m. below-at p n k (and-left (below p n) (p n) h) m)
-    (eq-or-lt-of-le (le-of-suc-le-suc l))
-
--- a test that fails at some k below n does not hold below n
-pub below-not : (p : ℕ → Bool) (n k : ℕ) → k < n → p k ≡ false → below p n ≡ false
-unfolding below
-below-not p zero k l e = absurd (not-suc-le-zero l)
-below-not p (suc n) k l e =
-    ⊎-elim
-    (λ q. and-false-right (below p n) (p n) (ap p (sym q) ∙ e))
-    (λ m. and-false-left (below p n) (p n) (below-not p n k m e))
-    (eq-or-lt-of-le (le-of-suc-le-suc l))
+use Rattle.lists.specs.Numbers.{countBelow, seek}
+use Rattle.lists.proofs.Bools.{by-cases}
 
 pub count-below-step : (p : ℕ → Bool) (n : ℕ) → countBelow p (n + 1) ≡ bump (p n) (countBelow p n)
 unfolding countBelow

@@ -1,6 +1,6 @@
 -- Laws of `sum`, `some`, `every`, `joined` and `each`, over what is done and what is left. Assumes nothing.
 use mathlib.Core.Path.{_≡_, refl, sym, ap, _∙_}
-use mathlib.Core.Bool.{Bool, true, false, _&&_, _||_, or-assoc, and-assoc}
+use mathlib.Core.Bool.{Bool, true, false, _&&_, _||_, or-assoc, or-false, and-assoc}
 use mathlib.Core.List.{List, [], _∷_, _++_, append-assoc, append-nil, map}
 use Prim.Native.Nat.{ℕ, zero, suc, _+_, _≤_, _<_}
 use native.Mathlib.Nat.{le-of-suc-le-suc, not-suc-le-zero}
@@ -117,6 +117,31 @@ module _ {A : Type 0} (p : A → Bool) (d : A) where
   search-ends l k h s =
       let e : k ≡ length l = omega (arith, s .within) in
       sym (s .rest ∙ ap (λ (n : ℕ). some p (drop n l)) e ∙ ap (some p) (drop-length l))
+
+-- ---- a flag that gathers: whether some among the first k pass; the flag and the rest decide for the list
+
+pub record Gathering {A : Type 0} (p : A → Bool) (l : List A) (found : Bool) (k : ℕ) : Type 0 where
+  pub within : k ≤ length l
+  pub rest : some p l ≡ (found || some p (drop k l))
+
+module _ {A : Type 0} (p : A → Bool) (d : A) where
+  pub gather-begins : (l : List A) → Gathering p l false 0
+  gather-begins l = record { within = omega arith; rest = refl }
+
+  pub gather-turns : (l : List A) (found : Bool) (k : ℕ) → k < length l → Gathering p l found k → Gathering p l (found || p (getD l k d)) (k + 1)
+  gather-turns l found k h g = record {
+    within = omega arith;
+    rest =
+        g .rest
+        ∙ ap (λ (t : List A). found || some p t) (drop-cons l k d h)
+        ∙ sym (or-assoc found (p (getD l k d)) (some p (drop (suc k) l)))
+        ∙ rw (add-one k);
+  }
+
+  pub gather-ends : (l : List A) (found : Bool) (k : ℕ) → length l ≤ k → Gathering p l found k → found ≡ some p l
+  gather-ends l found k h g =
+      let e : k ≡ length l = omega (arith, g .within) in
+      sym (g .rest ∙ ap (λ (n : ℕ). found || some p (drop n l)) e ∙ ap (λ (t : List A). found || some p t) (drop-length l) ∙ or-false found)
 
 -- ---- lists one after the other
 

@@ -1,6 +1,7 @@
 pub mod Corners
 pub mod Faces
 pub mod Rows
+pub mod Narrow
 pub mod Numbers
 pub mod Accepted
 pub mod After

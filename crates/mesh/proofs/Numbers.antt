@@ -1,11 +1,16 @@
 -- The first number given, row by row, and what a number 0 says of every row. Assumes nothing.
-use mathlib.Core.Path.{_≡_, refl}
-use mathlib.Core.Bool.{Bool, true, false}
+use mathlib.Core.Path.{_≡_, refl, sym}
+use mathlib.Core.Bool.{Bool, true, false, _||_, or-true}
 use mathlib.Core.List.{List, [], _∷_}
 use Prim.Native.Nat.{ℕ, zero, suc}
 use native.Mathlib.Omega.{arith}
+use lib.Dec.{eqb}
+use store.Seg.{eqb-same}
+use borrow.Author.Tests.{eqb-true}
+use Rattle.lists.specs.Lists.{has}
+use Rattle.lists.proofs.Bools.{by-cases, true-false}
 use Rattle.mesh.specs.Mesh.{Mesh}
-use Rattle.mesh.specs.Table.{when, firstOf, overLimits, uneven, misfit, ungrouped, astray, shapeNumber, meshNumber}
+use Rattle.mesh.specs.Table.{when, firstOf, overLimits, uneven, misfit, ungrouped, astray, shapeRows, shapeNumber, meshNumber}
 
 -- a number that is not 0 is the first; behind a 0 the search goes on
 pub first-is : (n : ℕ) (ns : List ℕ) → (n ≡ 0 → ⊥) → firstOf (n ∷ ns) ≡ n
@@ -46,18 +51,24 @@ pub record Clear (m : Mesh) : Type 0 where
   pub shaped : Shaped m
   pub found : astray m ≡ false
 
+-- a number that stands among those of which the first given is 0 is itself 0, wherever it stands
+none-given : (n : ℕ) (ns : List ℕ) → firstOf ns ≡ 0 → has n ns ≡ true → n ≡ 0
+none-given n [] h i = true-false (sym i)
+none-given n (zero ∷ ns) h i =
+    by-cases (eqb n 0)
+    (λ e. eqb-true n 0 e)
+    (λ e. none-given n ns h (let z : (eqb n 0 || has n ns) ≡ true = i in rw e at z))
+none-given n (suc k ∷ ns) h i = absurd (let z : suc k ≡ 0 = h in omega arith)
+
+-- whatever the order of the rows
 pub shaped : (m : Mesh) → shapeNumber m ≡ 0 → Shaped m
 unfolding shapeNumber
-shaped m h =
-    let a = first-tail (when (overLimits m) 1) (when (uneven m) 2 ∷ when (misfit m) 3 ∷ when (ungrouped m) 4 ∷ []) h in
-    let b = first-tail (when (uneven m) 2) (when (misfit m) 3 ∷ when (ungrouped m) 4 ∷ []) a in
-    let c = first-tail (when (misfit m) 3) (when (ungrouped m) 4 ∷ []) b in
-    record {
-      within = when-not (overLimits m) 0 (first-head (when (overLimits m) 1) (when (uneven m) 2 ∷ when (misfit m) 3 ∷ when (ungrouped m) 4 ∷ []) h);
-      even = when-not (uneven m) 1 (first-head (when (uneven m) 2) (when (misfit m) 3 ∷ when (ungrouped m) 4 ∷ []) a);
-      fit = when-not (misfit m) 2 (first-head (when (misfit m) 3) (when (ungrouped m) 4 ∷ []) b);
-      grouped = when-not (ungrouped m) 3 (first-head (when (ungrouped m) 4) [] c);
-    }
+shaped m h = record {
+  within = when-not (overLimits m) 0 (none-given (when (overLimits m) 1) (shapeRows m) h (simp (eqb-same, or-true)));
+  even = when-not (uneven m) 1 (none-given (when (uneven m) 2) (shapeRows m) h (simp (eqb-same, or-true)));
+  fit = when-not (misfit m) 2 (none-given (when (misfit m) 3) (shapeRows m) h (simp (eqb-same, or-true)));
+  grouped = when-not (ungrouped m) 3 (none-given (when (ungrouped m) 4) (shapeRows m) h (simp (eqb-same, or-true)));
+}
 
 pub clear : (m : Mesh) → meshNumber m ≡ 0 → Clear m
 unfolding meshNumber

@@ -2,3 +2,4 @@ pub mod Limits
 pub mod Mesh
 pub mod Table
 pub mod Face
+pub mod Working

@@ -82,9 +82,12 @@ astrayAt m c =
 unfoldable pub astray : Mesh → Bool
 astray m = some (astrayAt m) (threes (m .corners))
 
--- rows 1 to 4, and all five
+-- rows 1 to 4 in their order, the first of them that is given, and the first of all five
+abbrev pub shapeRows : Mesh → List ℕ
+shapeRows m = when (overLimits m) 1 ∷ when (uneven m) 2 ∷ when (misfit m) 3 ∷ when (ungrouped m) 4 ∷ []
+
 unfoldable pub shapeNumber : Mesh → ℕ
-shapeNumber m = firstOf (when (overLimits m) 1 ∷ when (uneven m) 2 ∷ when (misfit m) 3 ∷ when (ungrouped m) 4 ∷ [])
+shapeNumber m = firstOf (shapeRows m)
 
 unfoldable pub meshNumber : Mesh → ℕ
 meshNumber m = firstOf (shapeNumber m ∷ when (astray m) 5 ∷ [])

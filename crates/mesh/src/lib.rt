@@ -13,6 +13,7 @@ ghost use Rattle.mesh.specs.Limits.{width, faceLimit, cornerNumbers};
 ghost use Rattle.mesh.specs.Mesh.{meshOf, threes, cornerAt};
 ghost use Rattle.mesh.specs.Table as table;
 ghost use Rattle.mesh.specs.Face as part;
+ghost use Rattle.mesh.specs.Working.{narrow, strays};
 
 // The mark of a missing texture or normal.
 pub const MISSING: u32 = 4294967295;
@@ -37,7 +38,8 @@ pub const TEXEL_NUMBERS: usize = 2 * ENTRIES;
 
 pub const CORNER_NUMBERS: usize = WIDTH * CORNERS;
 
-// The number that the five lists earn: the first row of 1 to 5 whose rule says so, or 0.
+// The number that the five lists earn: the first row of 1 to 5 whose rule says so, or 0. Every call begins with it, so it is lean: a row
+// gathers what it finds in a flag and goes on to the end of its list; with no way out of the loop several numbers are looked at at once.
 pub fn number(
     positions: &[f64],
     textures: &[f64],
@@ -191,14 +193,14 @@ fn uneven(
 fn misfit(sizes: &[u32]) -> bool
     ensures { λ r. ⌜ r ≡ some table.outside (now (sizes .entry)) ⌝ }
 {
+    let mut found = false;
     let mut k: usize = 0;
     while k < sizes.len() {
-        if is_outside(sizes[k]) {
-            return true;
-        }
+        let here = is_outside(sizes[k]);
+        found = found | here;
         k += 1;
     }
-    false
+    found
 }
 
 fn is_outside(n: u32) -> bool
@@ -214,17 +216,16 @@ fn is_outside(n: u32) -> bool
 fn ungrouped(sizes: &[u32]) -> bool
     ensures { λ r. ⌜ r ≡ table.falls (map table.kind (now (sizes .entry))) ⌝ }
 {
+    let mut fallen = false;
     let mut last: u32 = 0;
     let mut k: usize = 0;
     while k < sizes.len() {
         let kind = kind_of(sizes[k]);
-        if kind < last {
-            return true;
-        }
+        fallen = fallen | (kind < last);
         last = kind;
         k += 1;
     }
-    false
+    fallen
 }
 
 // A triangle is of kind 0, a quadrangle of kind 1, a larger face of kind 2.
@@ -252,39 +253,47 @@ pub fn astray(
     ensures { λ r. ⌜ r ≡ table.astray (meshOf (now (positions .entry)) (now (textures .entry)) (now (normals .entry)) (now (corners .entry)) (now (sizes .entry))) ⌝ }
 {
     let p = positions.len() / 3;
-    let t = textures.len() / 2;
-    let n = normals.len() / 3;
     let count = corners.len() / WIDTH;
+    if p == 0 {
+        return count != 0;
+    }
+    let last = narrowed(p - 1);
+    let t = narrowed(textures.len() / 2);
+    let n = narrowed(normals.len() / 3);
+    let mut found = false;
     let mut k: usize = 0;
     while k < count {
         let at = WIDTH * k;
-        if is_astray(p, t, n, corners[at], corners[at + 1], corners[at + 2]) {
-            return true;
-        }
+        let here = is_astray(last, t, n, corners[at], corners[at + 1], corners[at + 2]);
+        found = found | here;
         k += 1;
     }
-    false
+    found
 }
 
-// One corner: p, t and n positions, texture points and normals are there.
-fn is_astray(p: usize, t: usize, n: usize, position: u32, texture: u32, normal: u32) -> bool
-    ensures { λ r. ⌜ r ≡ table.astrayBy p t n position texture normal ⌝ }
+// A count or an index in 32 bits: where it is larger than every index, the largest stands for it.
+fn narrowed(n: usize) -> u32
+    ensures { λ r. ⌜ r ≡ narrow n ⌝ }
 {
-    if p <= position as usize {
-        return true;
+    if n < MISSING as usize {
+        return n as u32;
     }
-    if is_beyond(t, texture) {
-        return true;
-    }
-    is_beyond(n, normal)
+    MISSING
 }
 
-// An index that isn't missing and is not below the count.
-fn is_beyond(count: usize, i: u32) -> bool
+// One corner: `last` is the last position, and t and n texture points and normals are there.
+fn is_astray(last: u32, t: u32, n: u32, position: u32, texture: u32, normal: u32) -> bool
+    ensures { λ r. ⌜ r ≡ strays last t n position texture normal ⌝ }
+{
+    let no_position = last < position;
+    let no_texture = is_beyond(t, texture);
+    let no_normal = is_beyond(n, normal);
+    no_position | no_texture | no_normal
+}
+
+// An index that isn't missing and is not below the count: one more than a missing index is 0, which lies above no count.
+fn is_beyond(count: u32, i: u32) -> bool
     ensures { λ r. ⌜ r ≡ table.beyondUnlessMissing count i ⌝ }
 {
-    if i == MISSING {
-        return false;
-    }
-    count <= i as usize
+    count < std::num::wrapping_add_u32(i, 1)
 }

@@ -1,23 +1,46 @@
--- `mesh::astray` meets its contract: a search that has found nothing among the first k corners. Assumes nothing.
-use mathlib.Core.List.{[]}
-use Prim.Native.Nat.{_-_}
-use mathlib.Core.Path.{sym, _∙_}
-use Rattle.lists.proofs.Parts.{search-begins}
-use Rattle.mesh.specs.Mesh.{meshOf}
-use Rattle.mesh.proofs.Rows.{Straying, straying-turns, straying-finds, straying-ends}
+-- `mesh::astray` meets its contract: with no positions every corner is astray; else the flag says whether one of the first k corners is. Assumes nothing.
+use Prim.Native.Nat.{_+_, _*_, _-_}
+use mathlib.Core.Path.{_≡_, _∙_}
+use lib.ListN.{getD}
+use Rattle.mesh.specs.Limits.{width}
+use Rattle.mesh.specs.Mesh.{meshOf, cornerAt, positionCount, textureCount, normalCount}
+use Rattle.mesh.specs.Table.{astrayAt}
+use Rattle.mesh.proofs.Rows.{Straying, straying-begins, straying-turns, straying-ends, straying-all}
+use Rattle.mesh.proofs.Narrow.{strays-astray}
 use borrow.Author.Needs.{needs}
 use native.Mathlib.Omega.{arith}
 use Rattle.mesh.proofs.astray.Statement.{statement}
 use Rattle.mesh.proofs.astray.Tie as tie
 
 abbrev Inv-loop : tie.InvT-loop
-Inv-loop positions textures normals corners sizes p t n count k₀ k = Straying (meshOf positions textures normals corners sizes) k
+Inv-loop positions textures normals corners sizes p count last t n found₀ k₀ found k = Straying (meshOf positions textures normals corners sizes) found k
 
 abbrev μ-loop : tie.MeasureT-loop
-μ-loop positions textures normals corners sizes p t n count k₀ k = count - k
+μ-loop positions textures normals corners sizes p count last t n found₀ k₀ found k = count - k
+
+returns : tie.Need-returns Inv-loop μ-loop
+returns c =
+    let args = c .before .before .before .before .before .before .args in
+    let m = meshOf (args .positions .now) (args .textures .now) (args .normals .now) (args .corners .now) (args .sizes .now) in
+    straying-all m (c .if1 .taken)
+
+sub-narrowed : tie.Need-sub-narrowed Inv-loop μ-loop
+sub-narrowed c = search needs
+
+narrowed-requires : tie.Need-narrowed-requires Inv-loop μ-loop
+narrowed-requires c κs = search needs
+
+narrowed-requires-2 : tie.Need-narrowed-requires-2 Inv-loop μ-loop
+narrowed-requires-2 c κs = search needs
+
+narrowed-requires-3 : tie.Need-narrowed-requires-3 Inv-loop μ-loop
+narrowed-requires-3 c κs = search needs
 
 loop-holds : tie.Need-loop-holds Inv-loop μ-loop
-loop-holds c = search-begins _ [] _
+loop-holds c =
+    let args = c .before .before .before .before .before .before .before .before .before .args in
+    let m = meshOf (args .positions .now) (args .textures .now) (args .normals .now) (args .corners .now) (args .sizes .now) in
+    straying-begins m
 
 mul-at : tie.Need-mul-at Inv-loop μ-loop
 mul-at c = search needs
@@ -49,9 +72,6 @@ shared-slice-read-is-astray-3 c = search needs
 is-astray-requires : tie.Need-is-astray-requires Inv-loop μ-loop
 is-astray-requires c κs = search needs
 
-returns : tie.Need-returns Inv-loop μ-loop
-returns c = straying-finds _ (c .before .before .before .before .before .before .loop .k) (omega arith) (sym (c .before .is-astray .ensures) ∙ c .if1 .taken)
-
 add-k : tie.Need-add-k Inv-loop μ-loop
 add-k c = search needs
 
@@ -59,10 +79,31 @@ loop-less : tie.Need-loop-less Inv-loop μ-loop
 loop-less c = search needs
 
 loop-again : tie.Need-loop-again Inv-loop μ-loop
-loop-again c = straying-turns (meshOf (c .before .before .before .before .before .before .before .before .before .before .before .before .args .positions .now) (c .before .before .before .before .before .before .before .before .before .before .before .before .args .textures .now) (c .before .before .before .before .before .before .before .before .before .before .before .before .args .normals .now) (c .before .before .before .before .before .before .before .before .before .before .before .before .args .corners .now) (c .before .before .before .before .before .before .before .before .before .before .before .before .args .sizes .now)) (c .before .before .before .before .before .before .loop .k) (omega arith) (sym (c .before .is-astray .ensures) ∙ c .if1 .left) (c .before .before .before .before .before .before .loop .inv)
+loop-again c =
+    let args = c .before .before .before .before .before .before .before .before .before .before .before .before .before .before .before .args in
+    let m = meshOf (args .positions .now) (args .textures .now) (args .normals .now) (args .corners .now) (args .sizes .now) in
+    let cs = args .corners .now in
+    let loop = c .before .before .before .before .before .loop in
+    let k = loop .k in
+    let last = c .before .before .before .before .before .before .before .before .narrowed in
+    let textures = c .before .before .before .before .before .before .before .narrowed2 in
+    let normals = c .before .before .before .before .before .before .narrowed3 in
+    let read = c .before .shared-slice-known8 .given in
+    let here : c .is-astray .result ≡ astrayAt m (cornerAt cs k) =
+    c .is-astray .ensures
+    ∙ rw (last .ensures, textures .ensures, normals .ensures)
+    (strays-astray (positionCount m) (textureCount m) (normalCount m) (getD cs (width * k) 0) (getD cs (width * k + 1) 0) (getD cs (width * k + 2) 0)
+    (omega (arith, c .before .before .before .before .before .before .before .before .before .if1 .left))
+    (omega (arith, read (width * k)))
+    (omega (arith, read (width * k + 1)))
+    (omega (arith, read (width * k + 2)))) in
+    rw here (straying-turns m (loop .found) k (omega arith) (loop .inv))
 
 returns-2 : tie.Need-returns-2 Inv-loop μ-loop
-returns-2 c = straying-ends _ _ (omega arith) (c .before .loop .inv)
+returns-2 c =
+    let args = c .before .before .before .before .before .before .before .before .before .before .before .args in
+    let m = meshOf (args .positions .now) (args .textures .now) (args .normals .now) (args .corners .now) (args .sizes .now) in
+    straying-ends m _ _ (omega arith) (c .before .loop .inv)
 
 pub astray-spec : {M : Type 1} → statement M
 astray-spec =
@@ -70,6 +111,11 @@ astray-spec =
     (tie.spec
     Inv-loop
     μ-loop
+    returns
+    sub-narrowed
+    narrowed-requires
+    narrowed-requires-2
+    narrowed-requires-3
     loop-holds
     mul-at
     mul-is-astray
@@ -81,7 +127,6 @@ astray-spec =
     mul-is-astray-3
     shared-slice-read-is-astray-3
     is-astray-requires
-    returns
     add-k
     loop-less
     loop-again
