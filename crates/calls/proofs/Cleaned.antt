@@ -16,7 +16,8 @@ use Rattle.lists.proofs.Others.{eqb-self}
 use borrow.Author.Tests.{eqb-true}
 use Rattle.mesh.specs.Mesh.{Mesh, Ring, position, faces}
 use Rattle.mesh.specs.Table.{meshNumber}
-use Rattle.folding.specs.Folding.{twice, folded}
+use Rattle.splitting.specs.Splitting.{twice, foldedBy}
+use Rattle.folding.specs.Folding.{folded}
 use Rattle.folded.specs.Folded.{unfoldedMesh}
 use Rattle.folded.proofs.Accepted.{faces-unfolded, removed-accepted}
 use Rattle.folded.proofs.Answer.{given}
@@ -63,7 +64,7 @@ twice-turned {f} {g} t = iff (twice f) (twice g) (λ h. over f g same h) (λ h. 
     over s l e h = let t : (x : ℕ) × (2 ≤ count (eqb x) s) = twice-count s h in count-twice (t .0) l (omega (arith, t .1, e (t .0)))
 
 folded-turned : {f g : Ring} → Turned f g → folded f ≡ folded g
-unfolding folded
+unfolding foldedBy
 folded-turned t = twice-turned (turned-map position t)
 
 -- the same faces

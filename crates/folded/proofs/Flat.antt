@@ -15,7 +15,8 @@ use Rattle.mesh.specs.Limits.{width}
 use Rattle.mesh.specs.Mesh.{Corner, Ring, position, threes, cornerAt}
 use Rattle.mesh.proofs.Corners.{isCorner, threes-step, length-threes, getD-threes}
 use Rattle.grouping.specs.Push.{Placed}
-use Rattle.folding.specs.Folding.{twice, folded}
+use Rattle.splitting.specs.Splitting.{twice, foldedBy}
+use Rattle.folding.specs.Folding.{folded}
 use Rattle.folding.proofs.Placing.{placed-ring}
 
 -- three corners, four corners
@@ -38,11 +39,11 @@ threes-4 cs h =
 
 -- a triangle, a quadrangle is folded where a position stands twice
 pub triangle-folded : (cs : List ℕ) → length cs ≡ width * 3 → folded (threes cs) ≡ twice (getD cs 0 0 ∷ getD cs width 0 ∷ getD cs (width * 2) 0 ∷ [])
-unfolding folded
+unfolding foldedBy
 triangle-folded cs h = ap folded (threes-3 cs h)
 
 pub quadrangle-folded : (cs : List ℕ) → length cs ≡ width * 4 → folded (threes cs) ≡ twice (getD cs 0 0 ∷ getD cs width 0 ∷ getD cs (width * 2) 0 ∷ getD cs (width * 3) 0 ∷ [])
-unfolding folded
+unfolding foldedBy
 quadrangle-folded cs h = ap folded (threes-4 cs h)
 
 -- The positions of a face under way: the first k are read.

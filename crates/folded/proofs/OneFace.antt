@@ -7,10 +7,12 @@ use lib.ListN.{length, take}
 use Rattle.mesh.specs.Mesh.{Ring, position, threes}
 use Rattle.mesh.proofs.Corners.{length-threes}
 use Rattle.grouping.specs.Push.{Placed, Room}
-use Rattle.folding.specs.Folding.{firstOf, trianglePieces, foldOf, left, quadranglePieces, ringPieces, pieces}
+use Rattle.splitting.specs.Splitting.{firstMated}
+use Rattle.splitting.proofs.Search.{folded-missing}
+use Rattle.splitting.proofs.Pieces.{pieces-stay}
+use Rattle.folding.specs.Folding.{trianglePieces, foldOf, left, quadranglePieces, ringPieces, pieces}
 use Rattle.folding.specs.declared.Fold.{Fold}
-use Rattle.folding.proofs.Search.{folded-missing}
-use Rattle.folding.proofs.Pieces.{quadrangle-left, ring-stays, pieces-triangle, pieces-quadrangle, pieces-ring}
+use Rattle.folding.proofs.Pieces.{quadrangle-left, pieces-triangle, pieces-quadrangle, pieces-ring}
 use Rattle.folded.specs.Working.{Face}
 
 -- other words for the faces that are written
@@ -31,10 +33,10 @@ module _ (face : List ℕ) (n : ℕ) (out lens : List ℕ) (c f : ℕ) (h : Face
   }
 
   -- a larger face in which the search finds no pair stays
-  pub ring-kept : (ps : List ℕ) (i : ℕ) → take n ps ≡ map position (threes face) → i ≡ firstOf (take n ps) → n ≤ i → ringPieces (threes face) ≡ threes face ∷ []
+  pub ring-kept : (ps : List ℕ) (i : ℕ) → take n ps ≡ map position (threes face) → i ≡ firstMated (take n ps) → n ≤ i → ringPieces (threes face) ≡ threes face ∷ []
   ring-kept ps i e g k =
-      let z : i ≡ firstOf (map position (threes face)) = g ∙ ap firstOf e in
-      ring-stays (threes face) (folded-missing (threes face) (omega (arith, corners))) (omega (arith, corners, h .least))
+      let z : i ≡ firstMated (map position (threes face)) = g ∙ ap firstMated e in
+      pieces-stay position (threes face) (folded-missing position (threes face) (omega (arith, corners))) (omega (arith, corners, h .least))
 
   -- by the size
   pub three-pieces : n ≡ 3 → pieces (threes face) ≡ trianglePieces (threes face)

@@ -17,7 +17,7 @@ use Rattle.grouping.proofs.Placing.{count-append}
 use Rattle.grouping.proofs.Pushed.{every-pushed, pushed-corners}
 use Rattle.folding.specs.Folding.{pieces}
 use Rattle.folding.proofs.Pieces.{isUnfolded, isFace, pieces-sane}
-use Rattle.folding.proofs.Placing.{faces-count}
+use Rattle.splitting.proofs.Pieces.{third}
 use Rattle.folded.specs.Folded.{removed}
 
 -- what every piece of each face passes, every piece passes
@@ -82,4 +82,4 @@ unfolding removed
 removed-count fs = omega (arith, pushed-corners (each pieces fs), count-pieces fs)
 
 pub removed-length : (fs : List Ring) → 3 * length (removed fs) ≤ cornerCount (removed fs)
-removed-length fs = faces-count (removed fs) (removed-faces fs)
+removed-length fs = third (removed fs) (removed-faces fs)

@@ -25,7 +25,7 @@ use Rattle.grouping.proofs.Placing.{placed-both}
 use Rattle.grouping.proofs.Pushed.{pushed-behind}
 use Rattle.folding.specs.Folding.{pieces}
 use Rattle.folding.proofs.Pieces.{isFace, pieces-sane, triangle-triangles}
-use Rattle.folding.proofs.Placing.{faces-count}
+use Rattle.splitting.proofs.Pieces.{third}
 use Rattle.folded.specs.Folded.{removed}
 use Rattle.folded.specs.Working.{Fit, Triangles, Ready, Behind}
 use Rattle.folded.proofs.OneFace.{placed-as}
@@ -157,7 +157,7 @@ ready-behind cs s o o' l l' k c f y t p x z =
     let d : length (drop (width * 3 * k) cs) ≡ length cs - width * 3 * k = length-drop (width * 3 * k) cs in
     let e : cornerCount a ≡ 3 * k = ap sum (sizes-back (take k s) (take (width * 3 * k) cs) (le-of-eq (fit-front cs s k (y .fit) t .sound .adds))) ∙ total cs s k (y .fit) t in
     let g = count-pieces a in
-    let h : 3 * length (each pieces a) ≤ cornerCount (each pieces a) = faces-count (each pieces a) (every-pieces isFace a (λ r. pieces-sane r .faces)) in
+    let h : 3 * length (each pieces a) ≤ cornerCount (each pieces a) = third (each pieces a) (every-pieces isFace a (λ r. pieces-sane r .faces)) in
     record { fit = fit-behind cs s k (y .fit) t; corners = omega (arith, p .more, y .corners); sizes = omega (arith, p .more, p .most, y .sizes) }
 
 -- no more is left than was given

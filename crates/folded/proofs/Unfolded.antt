@@ -20,8 +20,9 @@ use Rattle.mesh.proofs.Corners.{length-threes}
 use Rattle.mesh.proofs.Faces.{length-rings, getD-rings, face-length, offset-step, sizes-back, corners-back}
 use Rattle.grouping.specs.Push.{Placed, pushed}
 use Rattle.grouping.proofs.Pushed.{pushed-same}
-use Rattle.folding.specs.Folding.{folded, firstOf, firstIn, pieces}
-use Rattle.folding.proofs.Search.{folded-found, folded-missing}
+use Rattle.splitting.specs.Splitting.{firstMated, firstBy}
+use Rattle.splitting.proofs.Search.{folded-found, folded-missing}
+use Rattle.folding.specs.Folding.{folded, pieces}
 use Rattle.folding.proofs.Pieces.{isFace, pieces-same}
 use Rattle.folded.specs.Folded.{removed}
 use Rattle.folded.specs.Working.{Corners, Fit, Given}
@@ -29,13 +30,13 @@ use Rattle.folded.specs.Working.{Corners, Fit, Given}
 -- ---- one face
 
 -- the search in a larger face says whether it is folded
-pub ring-folded : (face ps : List ℕ) (n i : ℕ) → Corners face n → take n ps ≡ map position (threes face) → i ≡ firstOf (take n ps) → ltb i n ≡ folded (threes face)
+pub ring-folded : (face ps : List ℕ) (n i : ℕ) → Corners face n → take n ps ≡ map position (threes face) → i ≡ firstMated (take n ps) → ltb i n ≡ folded (threes face)
 ring-folded face ps n i h e f =
     let c : length (threes face) ≡ n = length-threes face ∙ (omega (arith, h .wide)) in
-    let z : i ≡ firstIn (threes face) = f ∙ ap firstOf e in
+    let z : i ≡ firstBy position (threes face) = f ∙ ap firstMated e in
     by-cases (ltb i n)
-    (λ t. t ∙ sym (folded-found (threes face) (let q : i < n = ltb-true i n t in omega arith)))
-    (λ t. t ∙ sym (folded-missing (threes face) (let q : n ≤ i = ltb-false i n t in omega arith)))
+    (λ t. t ∙ sym (folded-found position (threes face) (let q : i < n = ltb-true i n t in omega arith)))
+    (λ t. t ∙ sym (folded-missing position (threes face) (let q : n ≤ i = ltb-false i n t in omega arith)))
 
 -- ---- all faces, one by one: none of the first k is folded
 
