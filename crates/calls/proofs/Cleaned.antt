@@ -19,9 +19,7 @@ use Rattle.mesh.specs.Table.{meshNumber}
 use Rattle.splitting.specs.Splitting.{twice, foldedBy}
 use Rattle.folding.specs.Folding.{folded}
 use Rattle.folded.specs.Folded.{unfoldedMesh}
-use Rattle.folded.proofs.Accepted.{faces-unfolded, removed-accepted}
-use Rattle.folded.proofs.Answer.{given}
-use Rattle.folded.proofs.Unfolded.{removed-same}
+use Rattle.folded.proofs.Accepted.{removed-accepted, faces-stay}
 use Rattle.order.specs.Same.{Turned, Same, none, face, swap, then}
 use Rattle.order.proofs.Turning.{Halves, halves, turned-map}
 use Rattle.calls.specs.Order.{CallsAgree}
@@ -75,12 +73,6 @@ folded-same (swap {f = f} {g = g} {m = m}) = or-swap (folded f) (folded g) (some
 folded-same (then s t) = folded-same s ∙ folded-same t
 
 -- ---- after removal
-
--- where no face is folded the faces stay
-pub faces-stay : (m : Mesh) → meshNumber m ≡ 0 → some folded (faces m) ≡ false → faces (unfoldedMesh m) ≡ faces m
-unfolding faces
-faces-stay m z h =
-    faces-unfolded m ∙ removed-same (m .corners) (m .sizes) (m .corners) (m .corners) (given m (m .corners) (m .corners) z (omega arith) (omega arith)) h
 
 pub unfolded-calls :
     (m n : Mesh) → meshNumber m ≡ 0 → meshNumber n ≡ 0 → Same (faces m) (faces n) → some folded (faces m) ≡ false

@@ -18,6 +18,7 @@ use Rattle.grouping.specs.Push.{Placed, cornerCount}
 use Rattle.folded.specs.declared.Removed.{Removed}
 use Rattle.folded.specs.Folded.{removed, unfoldedMesh, resultOf, tooShort, removalNumber, Removal}
 use Rattle.folded.specs.Working.{Given, refusedBy}
+use Rattle.folded.proofs.Accepted.{fit}
 
 module _ (m : Mesh) (o l : List ℕ) (answer : Removed) where
   refused-is : (n : ℕ) → (n ≡ 0 → ⊥) → n ≡ removalNumber m (resultOf o l) → answer ≡ refusedBy n → Removal m (resultOf o l) (resultOf o l) answer
@@ -53,12 +54,7 @@ module _ (m : Mesh) (o l : List ℕ) (answer : Removed) where
 -- an accepted mesh, and room
 module _ (m : Mesh) (o l : List ℕ) (z : meshNumber m ≡ 0) (a : length (m .corners) ≤ length o) (b : length (m .corners) / width / 3 ≤ length l) where
   pub given : Given (m .corners) (m .sizes) o l
-  given =
-      let h = accepted m z in
-      record {
-        ready = record { fit = record { sound = h .sound; least = h .least; most = h .most }; corners = a; sizes = omega arith };
-        grouped = h .grouped;
-      }
+  given = record { ready = record { fit = fit m z; corners = a; sizes = omega arith }; grouped = accepted m z .grouped }
 
   number-0 : 0 ≡ removalNumber m (resultOf o l)
   unfolding removalNumber tooShort short

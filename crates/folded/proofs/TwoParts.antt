@@ -28,7 +28,7 @@ use Rattle.folding.proofs.Pieces.{isFace, pieces-sane, triangle-triangles}
 use Rattle.splitting.proofs.Pieces.{third}
 use Rattle.folded.specs.Folded.{removed}
 use Rattle.folded.specs.Working.{Fit, Triangles, Ready, Behind}
-use Rattle.folded.proofs.OneFace.{placed-as}
+use Rattle.oneface.proofs.OneFace.{placed-as}
 use Rattle.folded.proofs.Passing.{pieces-rings}
 use Rattle.folded.proofs.Result.{every-pieces, count-pieces, removed-count, removed-length}
 
@@ -62,7 +62,8 @@ rings-append (n ∷ a) b cs =
     let m : width * (n + sum a) ≡ width * n + width * sum a = omega arith in
     let x : take (width * n) (take (width * (n + sum a)) cs) ≡ take (width * n) cs = take-take (width * n) (width * (n + sum a)) cs (omega arith) in
     let w : width * (n + sum a) - width * n ≡ width * sum a = omega arith in
-    let y : drop (width * n) (take (width * (n + sum a)) cs) ≡ take (width * sum a) (drop (width * n) cs) = drop-take cs (width * n) (width * (n + sum a)) ∙ ap (λ (k : ℕ). take k (drop (width * n) cs)) w in
+    let y : drop (width * n) (take (width * (n + sum a)) cs) ≡ take (width * sum a) (drop (width * n) cs) =
+    drop-take cs (width * n) (width * (n + sum a)) ∙ ap (λ (k : ℕ). take k (drop (width * n) cs)) w in
     let z : drop (width * sum a) (drop (width * n) cs) ≡ drop (width * (n + sum a)) cs = drop-drop (width * sum a) (width * n) cs ∙ ap (λ (k : ℕ). drop k cs) (sym m) in
     ap (λ (l : List Ring). threes (take (width * n) cs) ∷ l) (rings-append a b (drop (width * n) cs))
     ∙ rw (x, y, z)

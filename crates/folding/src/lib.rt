@@ -226,7 +226,9 @@ fn put_ring(
 ) -> Filled
     requires { ⌜ Room n (now out) (now lens) (at .corners) (at .faces) ⌝ }
     requires { ⌜ folded (take n poly) ≡ false ⌝ }
-    ensures { λ r. ⌜ Placed (ringPieces (take n poly)) (now (out .entry)) (now (out .exit)) (now (lens .entry)) (now (lens .exit)) (at .corners) (at .faces) (r .corners) (r .faces) ⌝ }
+    ensures { λ r. ⌜ Placed (ringPieces (take n poly))
+        (now (out .entry)) (now (out .exit)) (now (lens .entry)) (now (lens .exit))
+        (at .corners) (at .faces) (r .corners) (r .faces) ⌝ }
 {
     if n < 3 {
         return at;
@@ -250,7 +252,9 @@ pub fn split_into_nondegenerate(
     at: Filled,
 ) -> Filled
     requires { ⌜ Room n (now out) (now lens) (at .corners) (at .faces) ⌝ }
-    ensures { λ r. ⌜ Placed (ringPieces (take n poly)) (now (out .entry)) (now (out .exit)) (now (lens .entry)) (now (lens .exit)) (at .corners) (at .faces) (r .corners) (r .faces) ⌝ }
+    ensures { λ r. ⌜ Placed (ringPieces (take n poly))
+        (now (out .entry)) (now (out .exit)) (now (lens .entry)) (now (lens .exit))
+        (at .corners) (at .faces) (r .corners) (r .faces) ⌝ }
 {
     let pair = pair_of(poly, n);
     let i = pair.i;
