@@ -6,7 +6,6 @@ use Prim.Native.Nat.{ℕ, _/_, _≤_, _<_}
 use native.Mathlib.Nat.{zero-add}
 use native.Mathlib.Omega.{arith}
 use lib.ListN.{length}
-use lib.Seq.{sets}
 use borrow.Author.Tests.{lt-ltb, le-ltb}
 use Rattle.mesh.specs.Limits.{width}
 use Rattle.mesh.specs.Mesh.{Mesh, faces, rings}
@@ -24,10 +23,10 @@ module _ (m : Mesh) (o l : List ℕ) (answer : Removed) where
   refused-is : (n : ℕ) → (n ≡ 0 → ⊥) → n ≡ removalNumber m (resultOf o l) → answer ≡ refusedBy n → Removal m (resultOf o l) (resultOf o l) answer
   refused-is n h e r = rw r (record {
     number = e;
-    corner-count = sym (after-refused n (cornerCount (removed (faces m))) 0 h);
-    face-count = sym (after-refused n (length (removed (faces m))) 0 h);
-    corners = sym (after-refused n (sets o 0 (unfoldedMesh m .corners)) o h);
-    sizes = sym (after-refused n (sets l 0 (unfoldedMesh m .sizes)) l h);
+    corner-count = sym (after-refused n _ 0 h);
+    face-count = sym (after-refused n _ 0 h);
+    corners = sym (after-refused n _ o h);
+    sizes = sym (after-refused n _ l h);
   })
 
   -- 1 to 5
