@@ -11,7 +11,8 @@ use Rattle.lists.specs.Numbers.{seek}
 use Rattle.mesh.specs.Mesh.{Mesh, position, faces}
 use Rattle.mesh.specs.Table.{overLimits, uneven, misfit, ungrouped, astray, shapeNumber, meshNumber}
 use Rattle.grouping.specs.Push.{pushed}
-use Rattle.folding.specs.Folding.{folded, trianglePieces, foldOf, quadranglePieces, mateOf, firstOf, splitIn, split, ringPieces, pieces}
+use Rattle.splitting.specs.Splitting.{mateOf, firstMated, foldedBy, splitByIn, splitBy, piecesBy}
+use Rattle.folding.specs.Folding.{folded, trianglePieces, foldOf, quadranglePieces, pieces}
 use Rattle.folded.specs.Folded.{removed}
 use Rattle.compaction.specs.Compaction.{firstUses, place, renumber, entries, usedPositions, usedTextures, usedNormals, renumbered, compacted}
 use Rattle.edges.specs.Edges.{key, verdict, hems}
@@ -35,11 +36,11 @@ abbrev pub facesLeft : Mesh → List (List ℕ)
 facesLeft m = map (map position) (removed (faces m))
 
 pub two-triangles : facesLeft asDrawn ≡ (0 ∷ 1 ∷ 2 ∷ []) ∷ (0 ∷ 3 ∷ 1 ∷ []) ∷ []
-unfolding faces removed pushed pieces ringPieces split splitIn firstOf mateOf quadranglePieces foldOf trianglePieces folded seek
+unfolding faces removed pushed pieces piecesBy splitBy splitByIn foldedBy firstMated mateOf quadranglePieces foldOf trianglePieces seek
 two-triangles = refl
 
 pub one-of-four : facesLeft oneLater ≡ (1 ∷ 2 ∷ 0 ∷ 3 ∷ []) ∷ []
-unfolding faces removed pushed pieces ringPieces split splitIn firstOf mateOf quadranglePieces foldOf trianglePieces folded seek
+unfolding faces removed pushed pieces piecesBy splitBy splitByIn foldedBy firstMated mateOf quadranglePieces foldOf trianglePieces seek
 one-of-four = refl
 
 -- so it is not true that removal leaves the same faces of the same faces
@@ -55,7 +56,7 @@ cleaning-not-kept kept =
 -- ---- two triangles, neither folded, and the same two exchanged
 
 pub both-unfolded : (some folded (faces twoPanels) ≡ false) × (some folded (faces otherFirst) ≡ false)
-unfolding faces folded
+unfolding faces foldedBy
 both-unfolded = (refl, refl)
 
 pub exchanged-same : Same (faces twoPanels) (faces otherFirst)

@@ -17,11 +17,10 @@ use Rattle.lists.proofs.Others.{eqb-self}
 use borrow.Author.Tests.{eqb-true}
 use Rattle.mesh.specs.Mesh.{Mesh, Ring, position, faces}
 use Rattle.mesh.specs.Table.{meshNumber}
-use Rattle.folding.specs.Folding.{twice, folded}
+use Rattle.splitting.specs.Splitting.{twice, foldedBy}
+use Rattle.folding.specs.Folding.{folded}
 use Rattle.folded.specs.Folded.{unfoldedMesh}
-use Rattle.folded.proofs.Accepted.{faces-unfolded, removed-accepted}
-use Rattle.folded.proofs.Answer.{given}
-use Rattle.folded.proofs.Unfolded.{removed-same}
+use Rattle.folded.proofs.Accepted.{removed-accepted, faces-stay}
 use Rattle.order.specs.Same.{Turned, Same, none, face, swap, then}
 use Rattle.order.specs.Demand.{byPosition}
 use Rattle.order.proofs.Turning.{Halves, halves}
@@ -73,19 +72,13 @@ twice-same (then s t) = twice-same s ∙ twice-same t
 
 -- the same positions, and so the same faces
 pub folded-by-position : (m n : List Ring) → Same (byPosition m) (byPosition n) → some folded m ≡ some folded n
-unfolding folded
+unfolding foldedBy
 folded-by-position m n s = sym (some-map twice (map position) m) ∙ twice-same s ∙ some-map twice (map position) n
 
 pub folded-same : {m n : List Ring} → Same m n → some folded m ≡ some folded n
 folded-same {m} {n} s = folded-by-position m n (same-map position s)
 
 -- ---- after removal
-
--- where no face is folded the faces stay
-pub faces-stay : (m : Mesh) → meshNumber m ≡ 0 → some folded (faces m) ≡ false → faces (unfoldedMesh m) ≡ faces m
-unfolding faces
-faces-stay m z h =
-    faces-unfolded m ∙ removed-same (m .corners) (m .sizes) (m .corners) (m .corners) (given m (m .corners) (m .corners) z (omega arith) (omega arith)) h
 
 pub unfolded-calls :
     (m n : Mesh) → meshNumber m ≡ 0 → meshNumber n ≡ 0 → Same (faces m) (faces n) → some folded (faces m) ≡ false

@@ -18,7 +18,7 @@ use Rattle.folding.specs.Folding.{folded}
 use Rattle.folded.specs.Folded.{unfoldedMesh}
 use Rattle.folded.proofs.Accepted.{removed-accepted}
 use Rattle.calls.proofs.Cleaned.{folded-same, folded-by-position}
-use Rattle.calls.proofs.Cleaned.{faces-stay}
+use Rattle.folded.proofs.Accepted.{faces-stay}
 use Rattle.panelfile.specs.Reading.{finish, readAll, panelNumber, panelMesh}
 use Rattle.panelfile.proofs.Ending.{read-accepted}
 use Rattle.lines.specs.Lines.{sheetText, hemLines}

@@ -1,6 +1,6 @@
--- The result of the removal, with the same attribute lists, is an accepted mesh, and its faces are the removed faces again. Assumes
--- nothing.
-use mathlib.Core.Path.{_≡_, refl, sym, ap, _∙_}
+-- The result of the removal, with the same attribute lists, is an accepted mesh, its faces are the removed faces again, and where no
+-- face is folded it is the mesh itself. Assumes nothing.
+use mathlib.Core.Path.{_≡_, refl, sym, ap, ap₂, _∙_}
 use mathlib.Core.Bool.{Bool, true, false, not, _&&_, _||_}
 use mathlib.Core.List.{List, [], _∷_, map}
 use Prim.Native.Nat.{ℕ, _*_}
@@ -14,7 +14,7 @@ use Rattle.lists.proofs.Bools.{and-both, and-left, and-right, by-cases, true-fa
 use Rattle.lists.proofs.Mapping.{every-map, every-all}
 use Rattle.lists.proofs.Parts.{every-joined}
 use Rattle.mesh.specs.Limits.{width, ringLimit}
-use Rattle.mesh.specs.Mesh.{Mesh, Corner, Ring, threes, rings, faces}
+use Rattle.mesh.specs.Mesh.{Mesh, meshOf, Corner, Ring, threes, rings, faces}
 use Rattle.mesh.specs.Table.{meshNumber, astray, astrayAt}
 use Rattle.mesh.proofs.Corners.{isCorner}
 use Rattle.mesh.proofs.Faces.{isRing, rings-are, rings-back, sizes-back, corners-back}
@@ -23,10 +23,13 @@ use Rattle.mesh.proofs.Accepted.{Accepted, accepted}
 use Rattle.grouping.specs.Push.{cornerCount}
 use Rattle.grouping.proofs.Placing.{length-flat}
 use Rattle.grouping.proofs.Accepting.{threes-flat, sized, Orderly, accepted-faces}
-use Rattle.folding.specs.Folding.{pieces}
+use Rattle.folding.specs.Folding.{folded, pieces}
 use Rattle.folding.proofs.Pieces.{isFace, pieces-sane}
 use Rattle.folded.specs.Folded.{removed, unfoldedMesh}
+use Rattle.folded.specs.Promises.{MeshAgain, NothingChanges}
+use Rattle.folded.specs.Working.{Fit}
 use Rattle.folded.proofs.Result.{every-pieces, corners-pieces, sizes-pieces, count-pieces, removed-corners}
+use Rattle.folded.proofs.Unfolded.{removed-same}
 
 -- ---- the faces of the result
 
@@ -43,11 +46,15 @@ faces-unfolded m = rings-back (removed (rings (m .sizes) (m .corners))) (removed
 -- what no corner passes, each does not pass; and back
 none-every : (p : Corner → Bool) (l : Ring) → some p l ≡ false → every (λ (c : Corner). not (p c)) l ≡ true
 none-every p [] e = refl
-none-every p (c ∷ l) e = by-cases (p c) (λ t. true-false (let z : (p c || some p l) ≡ false = e in rw t at z)) (λ t. rw t (none-every p l (let z : (p c || some p l) ≡ false = e in rw t at z)))
+none-every p (c ∷ l) e =
+    let z : (p c || some p l) ≡ false = e in
+    by-cases (p c) (λ t. true-false (rw t at z)) (λ t. rw t (none-every p l (rw t at z)))
 
 every-none : (p : Corner → Bool) (l : Ring) → every (λ (c : Corner). not (p c)) l ≡ true → some p l ≡ false
 every-none p [] e = refl
-every-none p (c ∷ l) e = by-cases (p c) (λ t. true-false (sym (let z : (not (p c) && every (λ (x : Corner). not (p x)) l) ≡ true = e in rw t at z))) (λ t. rw t (every-none p l (let z : (not (p c) && every (λ (x : Corner). not (p x)) l) ≡ true = e in rw t at z)))
+every-none p (c ∷ l) e =
+    let z : (not (p c) && every (λ (x : Corner). not (p x)) l) ≡ true = e in
+    by-cases (p c) (λ t. true-false (sym (rw t at z))) (λ t. rw t (every-none p l (rw t at z)))
 
 abbrev few : ℕ → Bool
 few n = leb n ringLimit
@@ -116,6 +123,31 @@ module _ (m : Mesh) (ok : meshNumber m ≡ 0) where
       ∙ ap (every keeps) (sym (threes-flat (faces m) rings-faces) ∙ ap threes corners-are)
       ∙ corners-keep))
 
-  pub removed-accepted : meshNumber (unfoldedMesh m) ≡ 0
+  still-accepted : meshNumber (unfoldedMesh m) ≡ 0
   unfolding unfoldedMesh removed
-  removed-accepted = accepted-faces (m .positions) (m .textures) (m .normals) (each pieces (faces m)) orderly found-all
+  still-accepted = accepted-faces (m .positions) (m .textures) (m .normals) (each pieces (faces m)) orderly found-all
+
+  -- where no face is folded
+  pub fit : Fit (m .corners) (m .sizes)
+  fit = record { sound = a .sound; least = a .least; most = a .most }
+
+  all-stay : some folded (faces m) ≡ false → removed (faces m) ≡ faces m
+  unfolding faces
+  all-stay h = removed-same (m .corners) (m .sizes) fit (a .grouped) h
+
+  same-mesh : some folded (faces m) ≡ false → unfoldedMesh m ≡ m
+  unfolding unfoldedMesh
+  same-mesh h =
+      ap₂ (λ (c s : List ℕ). meshOf (m .positions) (m .textures) (m .normals) c s)
+      (ap (each joined) (all-stay h) ∙ corners-are)
+      (ap (map length) (all-stay h) ∙ sizes-are)
+
+pub removed-accepted : MeshAgain
+removed-accepted m z = still-accepted m z
+
+pub mesh-stays : NothingChanges
+mesh-stays m z h = same-mesh m z h
+
+-- so its faces stay
+pub faces-stay : (m : Mesh) → meshNumber m ≡ 0 → some folded (faces m) ≡ false → faces (unfoldedMesh m) ≡ faces m
+faces-stay m z h = ap faces (mesh-stays m z h)

@@ -6,7 +6,6 @@ use Prim.Native.Nat.{ℕ, _/_, _≤_, _<_}
 use native.Mathlib.Nat.{zero-add}
 use native.Mathlib.Omega.{arith}
 use lib.ListN.{length}
-use lib.Seq.{sets}
 use borrow.Author.Tests.{lt-ltb, le-ltb}
 use Rattle.mesh.specs.Limits.{width}
 use Rattle.mesh.specs.Mesh.{Mesh, faces, rings}
@@ -18,15 +17,16 @@ use Rattle.grouping.specs.Push.{Placed, cornerCount}
 use Rattle.folded.specs.declared.Removed.{Removed}
 use Rattle.folded.specs.Folded.{removed, unfoldedMesh, resultOf, tooShort, removalNumber, Removal}
 use Rattle.folded.specs.Working.{Given, refusedBy}
+use Rattle.folded.proofs.Accepted.{fit}
 
 module _ (m : Mesh) (o l : List ℕ) (answer : Removed) where
   refused-is : (n : ℕ) → (n ≡ 0 → ⊥) → n ≡ removalNumber m (resultOf o l) → answer ≡ refusedBy n → Removal m (resultOf o l) (resultOf o l) answer
   refused-is n h e r = rw r (record {
     number = e;
-    corner-count = sym (after-refused n (cornerCount (removed (faces m))) 0 h);
-    face-count = sym (after-refused n (length (removed (faces m))) 0 h);
-    corners = sym (after-refused n (sets o 0 (unfoldedMesh m .corners)) o h);
-    sizes = sym (after-refused n (sets l 0 (unfoldedMesh m .sizes)) l h);
+    corner-count = sym (after-refused n _ 0 h);
+    face-count = sym (after-refused n _ 0 h);
+    corners = sym (after-refused n _ o h);
+    sizes = sym (after-refused n _ l h);
   })
 
   -- 1 to 5
@@ -53,12 +53,7 @@ module _ (m : Mesh) (o l : List ℕ) (answer : Removed) where
 -- an accepted mesh, and room
 module _ (m : Mesh) (o l : List ℕ) (z : meshNumber m ≡ 0) (a : length (m .corners) ≤ length o) (b : length (m .corners) / width / 3 ≤ length l) where
   pub given : Given (m .corners) (m .sizes) o l
-  given =
-      let h = accepted m z in
-      record {
-        ready = record { fit = record { sound = h .sound; least = h .least; most = h .most }; corners = a; sizes = omega arith };
-        grouped = h .grouped;
-      }
+  given = record { ready = record { fit = fit m z; corners = a; sizes = omega arith }; grouped = accepted m z .grouped }
 
   number-0 : 0 ≡ removalNumber m (resultOf o l)
   unfolding removalNumber tooShort short

@@ -2,10 +2,11 @@
 use lib.Dec.{T}
 use Rattle.lists.specs.Numbers.{seek}
 use Rattle.grouping.specs.Push.{pushed}
-use Rattle.folding.specs.Folding.{folded, mateOf, firstOf, splitIn, split, ringPieces, pieces}
+use Rattle.splitting.specs.Splitting.{mateOf, firstMated, foldedBy, splitByIn, splitBy, piecesBy}
+use Rattle.folding.specs.Folding.{pieces}
 use Rattle.folded.specs.Folded.{removed}
 use Rattle.folded.specs.Examples.{leaves, fallenToFour}
 
 pub falls-to-four : T fallenToFour
-unfolding leaves removed pushed pieces ringPieces split splitIn firstOf mateOf folded seek
+unfolding leaves removed pushed pieces piecesBy splitBy splitByIn foldedBy firstMated mateOf seek
 falls-to-four = tt

@@ -20,8 +20,9 @@ use Rattle.grouping.proofs.Placing.{placed-none, placed-both}
 use Rattle.folding.specs.Folding.{pieces}
 use Rattle.folding.proofs.Pieces.{pieces-sane}
 use Rattle.folding.proofs.Placing.{took}
-use Rattle.folded.specs.Working.{Face, Ready}
-use Rattle.folded.proofs.OneFace.{placed-as}
+use Rattle.oneface.specs.Working.{Face}
+use Rattle.folded.specs.Working.{Ready}
+use Rattle.oneface.proofs.OneFace.{placed-as}
 
 -- pieces of whole corners are whole corners
 pub pieces-rings : (fs : List Ring) → every isRing fs ≡ true → every isRing (each pieces fs) ≡ true

@@ -16,7 +16,7 @@ use Rattle.grouping.specs.Push.{Placed, pushed}
 use Rattle.grouping.proofs.Placing.{length-flat}
 use Rattle.folding.specs.Folding.{pieces}
 use Rattle.folding.proofs.Pieces.{isFace, pieces-sane}
-use Rattle.folding.proofs.Placing.{faces-count}
+use Rattle.splitting.proofs.Pieces.{third}
 use Rattle.folded.specs.Folded.{removed}
 use Rattle.folded.specs.Working.{Ready}
 use Rattle.folded.proofs.Passing.{pieces-rings}
@@ -48,7 +48,7 @@ module _ (cs s o l p p' q q' : List ℕ) (c f : ℕ) (y : Ready cs s o l) (x : l
 
   pub few-faces : width * 3 * f ≤ length cs
   few-faces =
-      omega (arith, few-corners, w .most, w .more, faces-count ps (every-pieces isFace (rings s cs) (λ r. pieces-sane r .faces)))
+      omega (arith, few-corners, w .most, w .more, third ps (every-pieces isFace (rings s cs) (λ r. pieces-sane r .faces)))
 
   front : take (width * c) p' ≡ each joined ps
   front = ap (take (width * c)) (w .corners) ∙ take-written p (each joined ps) (width * c) flat (omega (arith, few-corners, y .fit .sound .fits))

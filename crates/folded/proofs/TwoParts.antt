@@ -25,10 +25,10 @@ use Rattle.grouping.proofs.Placing.{placed-both}
 use Rattle.grouping.proofs.Pushed.{pushed-behind}
 use Rattle.folding.specs.Folding.{pieces}
 use Rattle.folding.proofs.Pieces.{isFace, pieces-sane, triangle-triangles}
-use Rattle.folding.proofs.Placing.{faces-count}
+use Rattle.splitting.proofs.Pieces.{third}
 use Rattle.folded.specs.Folded.{removed}
 use Rattle.folded.specs.Working.{Fit, Triangles, Ready, Behind}
-use Rattle.folded.proofs.OneFace.{placed-as}
+use Rattle.oneface.proofs.OneFace.{placed-as}
 use Rattle.folded.proofs.Passing.{pieces-rings}
 use Rattle.folded.proofs.Result.{every-pieces, count-pieces, removed-count, removed-length}
 
@@ -62,7 +62,8 @@ rings-append (n ∷ a) b cs =
     let m : width * (n + sum a) ≡ width * n + width * sum a = omega arith in
     let x : take (width * n) (take (width * (n + sum a)) cs) ≡ take (width * n) cs = take-take (width * n) (width * (n + sum a)) cs (omega arith) in
     let w : width * (n + sum a) - width * n ≡ width * sum a = omega arith in
-    let y : drop (width * n) (take (width * (n + sum a)) cs) ≡ take (width * sum a) (drop (width * n) cs) = drop-take cs (width * n) (width * (n + sum a)) ∙ ap (λ (k : ℕ). take k (drop (width * n) cs)) w in
+    let y : drop (width * n) (take (width * (n + sum a)) cs) ≡ take (width * sum a) (drop (width * n) cs) =
+    drop-take cs (width * n) (width * (n + sum a)) ∙ ap (λ (k : ℕ). take k (drop (width * n) cs)) w in
     let z : drop (width * sum a) (drop (width * n) cs) ≡ drop (width * (n + sum a)) cs = drop-drop (width * sum a) (width * n) cs ∙ ap (λ (k : ℕ). drop k cs) (sym m) in
     ap (λ (l : List Ring). threes (take (width * n) cs) ∷ l) (rings-append a b (drop (width * n) cs))
     ∙ rw (x, y, z)
@@ -157,7 +158,7 @@ ready-behind cs s o o' l l' k c f y t p x z =
     let d : length (drop (width * 3 * k) cs) ≡ length cs - width * 3 * k = length-drop (width * 3 * k) cs in
     let e : cornerCount a ≡ 3 * k = ap sum (sizes-back (take k s) (take (width * 3 * k) cs) (le-of-eq (fit-front cs s k (y .fit) t .sound .adds))) ∙ total cs s k (y .fit) t in
     let g = count-pieces a in
-    let h : 3 * length (each pieces a) ≤ cornerCount (each pieces a) = faces-count (each pieces a) (every-pieces isFace a (λ r. pieces-sane r .faces)) in
+    let h : 3 * length (each pieces a) ≤ cornerCount (each pieces a) = third (each pieces a) (every-pieces isFace a (λ r. pieces-sane r .faces)) in
     record { fit = fit-behind cs s k (y .fit) t; corners = omega (arith, p .more, y .corners); sizes = omega (arith, p .more, p .most, y .sizes) }
 
 -- no more is left than was given

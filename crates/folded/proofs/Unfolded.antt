@@ -5,37 +5,24 @@ use mathlib.Core.List.{List, [], _∷_, map}
 use Prim.Native.Nat.{ℕ, suc, _+_, _*_, _/_, _≤_, _<_}
 use native.Mathlib.Nat.{le-of-eq}
 use native.Mathlib.Omega.{arith}
-use lib.ListN.{length, getD, take}
+use lib.ListN.{length, getD}
 use lib.Seq.{sets}
-use lib.Dec.{ltb}
-use borrow.Author.Tests.{le-leb, leb-true, ltb-true, ltb-false}
+use borrow.Author.Tests.{le-leb, leb-true}
 use Rattle.lists.specs.Lists.{every, some, each, sum}
-use Rattle.lists.proofs.Bools.{by-cases, and-both, and-left, and-right, or-false-left, or-false-right}
+use Rattle.lists.proofs.Bools.{and-both, and-left, and-right, or-false-left, or-false-right}
 use Rattle.lists.proofs.Parts.{Searching, search-begins, search-turns, search-finds, search-ends}
 use Rattle.mesh.specs.Limits.{width}
-use Rattle.mesh.specs.Mesh.{Ring, position, threes, rings}
+use Rattle.mesh.specs.Mesh.{Ring, threes, rings}
 use Rattle.mesh.specs.Table.{kind, falls}
 use Rattle.mesh.specs.Face.{faceOf, offsetOf, Sound}
-use Rattle.mesh.proofs.Corners.{length-threes}
 use Rattle.mesh.proofs.Faces.{length-rings, getD-rings, face-length, offset-step, sizes-back, corners-back}
 use Rattle.grouping.specs.Push.{Placed, pushed}
 use Rattle.grouping.proofs.Pushed.{pushed-same}
-use Rattle.folding.specs.Folding.{folded, firstOf, firstIn, pieces}
-use Rattle.folding.proofs.Search.{folded-found, folded-missing}
+use Rattle.folding.specs.Folding.{folded, pieces}
 use Rattle.folding.proofs.Pieces.{isFace, pieces-same}
 use Rattle.folded.specs.Folded.{removed}
-use Rattle.folded.specs.Working.{Corners, Fit, Given}
-
--- ---- one face
-
--- the search in a larger face says whether it is folded
-pub ring-folded : (face ps : List ℕ) (n i : ℕ) → Corners face n → take n ps ≡ map position (threes face) → i ≡ firstOf (take n ps) → ltb i n ≡ folded (threes face)
-ring-folded face ps n i h e f =
-    let c : length (threes face) ≡ n = length-threes face ∙ (omega (arith, h .wide)) in
-    let z : i ≡ firstIn (threes face) = f ∙ ap firstOf e in
-    by-cases (ltb i n)
-    (λ t. t ∙ sym (folded-found (threes face) (let q : i < n = ltb-true i n t in omega arith)))
-    (λ t. t ∙ sym (folded-missing (threes face) (let q : n ≤ i = ltb-false i n t in omega arith)))
+use Rattle.oneface.specs.Working.{Corners}
+use Rattle.folded.specs.Working.{Fit}
 
 -- ---- all faces, one by one: none of the first k is folded
 
@@ -81,13 +68,15 @@ faces-of (r ∷ fs) f =
     (le-leb 3 (length r) (f 0 (omega arith)))
     (faces-of fs (λ k h. f (suc k) (let g : k < length (map length fs) = h in omega arith)))
 
-pub removed-same : (cs s o l : List ℕ) → Given cs s o l → some folded (rings s cs) ≡ false → removed (rings s cs) ≡ rings s cs
+pub removed-same :
+    (cs s : List ℕ) → Fit cs s → falls (map kind s) ≡ false → some folded (rings s cs) ≡ false
+    → removed (rings s cs) ≡ rings s cs
 unfolding removed
-removed-same cs s o l g h =
-    let b : map length (rings s cs) ≡ s = sizes-back s cs (le-of-eq (g .ready .fit .sound .adds)) in
-    let e : every isFace (rings s cs) ≡ true = faces-of (rings s cs) (rw b (g .ready .fit .least)) in
+removed-same cs s y g h =
+    let b : map length (rings s cs) ≡ s = sizes-back s cs (le-of-eq (y .sound .adds)) in
+    let e : every isFace (rings s cs) ≡ true = faces-of (rings s cs) (rw b (y .least)) in
     ap pushed (each-same (rings s cs) e h)
-    ∙ pushed-same (rings s cs) e (ap (λ (t : List ℕ). falls (map kind t)) b ∙ g .grouped)
+    ∙ pushed-same (rings s cs) e (ap (λ (t : List ℕ). falls (map kind t)) b ∙ g)
 
 -- all faces are written as they stand
 pub kept-all : (cs s o o' l l' : List ℕ) → Sound cs s → o' ≡ sets o 0 cs → l' ≡ sets l 0 s → Placed (rings s cs) o o' l l' 0 0 (length cs / width) (length s)

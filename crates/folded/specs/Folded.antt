@@ -44,9 +44,9 @@ removalNumber m r = firstOf (meshNumber m ∷ when (tooShort m r) 9 ∷ [])
 -- what the call answers, and what the lent lists hold before and after it: on 0 the corners and sizes of the new faces from their
 -- beginning on, room past them unchanged, and how many corners and faces there are; on any other number nothing is written, and
 -- each count is 0
-pub record Removal (m : Mesh) (before behind : Result) (answer : Removed) : Type 0 where
+pub record Removal (m : Mesh) (before afterwards : Result) (answer : Removed) : Type 0 where
   pub number : answer .number ≡ removalNumber m before
   pub corner-count : answer .corners ≡ after (answer .number) (cornerCount (removed (faces m))) 0
   pub face-count : answer .faces ≡ after (answer .number) (length (removed (faces m))) 0
-  pub corners : behind .corners ≡ after (answer .number) (sets (before .corners) 0 (unfoldedMesh m .corners)) (before .corners)
-  pub sizes : behind .sizes ≡ after (answer .number) (sets (before .sizes) 0 (unfoldedMesh m .sizes)) (before .sizes)
+  pub corners : afterwards .corners ≡ after (answer .number) (sets (before .corners) 0 (unfoldedMesh m .corners)) (before .corners)
+  pub sizes : afterwards .sizes ≡ after (answer .number) (sets (before .sizes) 0 (unfoldedMesh m .sizes)) (before .sizes)

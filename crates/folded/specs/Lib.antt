@@ -1,3 +1,6 @@
+-- the rules, which a caller cites
 pub mod Folded
-pub mod Working
+pub mod Promises
 pub mod Examples
+-- steps of the code, which a caller does not need
+pub mod Working

@@ -9,13 +9,7 @@ use Rattle.lists.specs.Lists.{every}
 use Rattle.mesh.specs.Limits.{width, ringLimit}
 use Rattle.mesh.specs.Table.{kind, falls}
 use Rattle.mesh.specs.Face.{Sound}
-use Rattle.folding.specs.Working.{Room}
 use Rattle.folded.specs.declared.Removed.{Removed}
-
--- the flat corners of a face of n corners
-pub record Corners (face : List ℕ) (n : ℕ) : Type 0 where
-  pub small : n ≤ ringLimit
-  pub wide : length face ≡ width * n
 
 -- corners and sizes that add up, each face of 3 to 32 corners
 pub record Fit (cs s : List ℕ) : Type 0 where
@@ -27,12 +21,6 @@ pub record Fit (cs s : List ℕ) : Type 0 where
 pub record Triangles (s : List ℕ) (k : ℕ) : Type 0 where
   pub within : k ≤ length s
   pub first : every (eqb 3) (take k s) ≡ true
-
--- a face of n corners, three or more, and room for its pieces behind c corners and f faces
-pub record Face (face : List ℕ) (n : ℕ) (out lens : List ℕ) (c f : ℕ) : Type 0 where
-  pub least : 3 ≤ n
-  pub wide : length face ≡ width * n
-  pub room : Room n out lens c f
 
 -- such corners and sizes, and room for the pieces of all the faces
 pub record Ready (cs s out lens : List ℕ) : Type 0 where

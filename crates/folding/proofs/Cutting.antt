@@ -15,47 +15,49 @@ use Rattle.mesh.specs.Mesh.{Ring, position}
 use Rattle.mesh.proofs.Corners.{isCorner}
 use Rattle.grouping.specs.Push.{Placed}
 use Rattle.grouping.proofs.Placing.{placed-both}
-use Rattle.folding.specs.Folding.{folded, firstOf, mateOf, firstIn, secondIn, between, around, ringPieces}
+use Rattle.splitting.specs.Splitting.{mateOf, firstMated, firstBy, secondBy, between, around}
+use Rattle.splitting.proofs.Search.{folded-found, folded-missing, folded-pair}
+use Rattle.splitting.proofs.Pieces.{pieces-cut}
+use Rattle.folding.specs.Folding.{folded, ringPieces}
 use Rattle.folding.specs.Working.{Room, Cut, FirstPair}
-use Rattle.folding.proofs.Search.{folded-found, folded-missing, folded-pair}
-use Rattle.folding.proofs.Pieces.{ring-cut, ring-sane}
+use Rattle.folding.proofs.Pieces.{ring-sane}
 use Rattle.folding.proofs.Placing.{took}
 
 -- the search goes over the first n positions of the row
-pub pair-found : (row : Ring) (ps : List ℕ) (n i j : ℕ) → ps ≡ map position row → i ≡ firstOf (take n ps) → j ≡ mateOf (take n ps) i → FirstPair (take n row) i j
+pub pair-found : (row : Ring) (ps : List ℕ) (n i j : ℕ) → ps ≡ map position row → i ≡ firstMated (take n ps) → j ≡ mateOf (take n ps) i → FirstPair (take n row) i j
 pair-found row ps n i j e f g =
     let z : take n ps ≡ map position (take n row) = ap (take n) e ∙ sym (map-take position n row) in
-    let h : i ≡ firstIn (take n row) = f ∙ ap firstOf z in
+    let h : i ≡ firstBy position (take n row) = f ∙ ap firstMated z in
     record { first = h; second = λ l. g ∙ ap₂ mateOf z h }
 
-pub pair-missing : (row : Ring) (ps : List ℕ) (n i j : ℕ) → ps ≡ map position row → i ≡ firstOf (take n ps) → length (take n row) ≤ i → FirstPair (take n row) i j
+pub pair-missing : (row : Ring) (ps : List ℕ) (n i j : ℕ) → ps ≡ map position row → i ≡ firstMated (take n ps) → length (take n row) ≤ i → FirstPair (take n row) i j
 pair-missing row ps n i j e f h =
     let z : take n ps ≡ map position (take n row) = ap (take n) e ∙ sym (map-take position n row) in
-    record { first = f ∙ ap firstOf z; second = λ l. absurd (let k : i < length (take n row) = l in omega arith) }
+    record { first = f ∙ ap firstMated z; second = λ l. absurd (let k : i < length (take n row) = l in omega arith) }
 
 module _ (row : Ring) (n i j : ℕ) (long : length row ≡ ringLimit) (small : n ≤ ringLimit) (p : FirstPair (take n row) i j) where
   front : length (take n row) ≡ n
   front = length-take-le n row (omega arith)
 
   pub not-folded : n ≤ i → folded (take n row) ≡ false
-  not-folded h = folded-missing (take n row) (omega (arith, front, p .first))
+  not-folded h = folded-missing position (take n row) (omega (arith, front, p .first))
 
   module _ (h : i < n) where
     pub is-folded : folded (take n row) ≡ true
-    is-folded = folded-found (take n row) (omega (arith, front, p .first))
+    is-folded = folded-found position (take n row) (omega (arith, front, p .first))
 
-    second : j ≡ secondIn (take n row)
+    second : j ≡ secondBy position (take n row)
     second = p .second (omega (arith, front))
 
     pub cut : Cut n i j
     cut =
-        let q = folded-pair (take n row) is-folded in
+        let q = folded-pair position (take n row) is-folded in
         record { ordered = omega (arith, second, p .first, q .ordered); within = omega (arith, second, front, q .within); row = small }
 
     pub cut-pieces : (one two : Ring) → take (j - i) one ≡ between (take n row) i j → take (n - (j - i)) two ≡ around (take n row) i j
         → ringPieces (take n row) ≡ ringPieces (take (j - i) one) ++ ringPieces (take (n - (j - i)) two)
     cut-pieces one two x y =
-        ring-cut (take n row) is-folded
+        pieces-cut position (take n row) is-folded
         ∙ ap₂ (λ (a b : Ring). ringPieces a ++ ringPieces b)
         (ap₂ (between (take n row)) (sym (p .first)) (sym second) ∙ sym x)
         (ap₂ (around (take n row)) (sym (p .first)) (sym second) ∙ sym y)

@@ -1,6 +1,5 @@
 pub mod Rows
 pub mod Search
-pub mod Splitting
 pub mod Pieces
 pub mod Placing
 pub mod Cutting

@@ -2,23 +2,23 @@
 -- and each is a corner of the face. Assumes nothing.
 use mathlib.Core.Path.{_≡_, refl, sym, ap, _∙_}
 use mathlib.Core.Bool.{Bool, true, false, not, _||_}
-use mathlib.Core.List.{List, [], _∷_, _++_, map, map-append}
-use Prim.Native.Nat.{ℕ, suc, _+_, _-_, _≤_, _<_}
+use mathlib.Core.List.{List, [], _∷_, map}
+use Prim.Native.Nat.{ℕ, suc, _≤_}
 use native.Mathlib.Omega.{arith}
-use lib.ListN.{length, take, drop, length-append, take-append-drop}
-use lib.Seq.{drop-drop}
+use lib.ListN.{length, getD}
 use lib.Dec.{leb, eqb}
-use borrow.Author.Tests.{le-leb, lt-leb, eqb-true, eqb-false, ne-eqb, eq-eqb}
-use Rattle.lists.specs.Lists.{every, only, sum}
-use Rattle.lists.proofs.Bools.{by-cases, and-both, and-left, and-right, or-false-left, or-false-right}
-use Rattle.lists.proofs.Parts.{every-append, every-take, every-drop, sum-append}
-use Rattle.lists.proofs.Only.{only-append, every-self, every-only}
+use borrow.Author.Tests.{le-leb, eqb-true, eqb-false, ne-eqb, eq-eqb}
+use Rattle.lists.specs.Lists.{every, sum}
+use Rattle.lists.proofs.Bools.{by-cases, true-false, and-both, and-left, and-right, or-false-left, or-false-right}
+use Rattle.lists.proofs.Parts.{every-append}
+use Rattle.lists.proofs.Only.{every-only}
 use Rattle.mesh.specs.Mesh.{Corner, Ring, position}
-use Rattle.folding.specs.Folding.{folded, firstIn, secondIn, between, around, split, trianglePieces, foldOf, left, quadranglePieces, ringPieces, pieces}
+use Rattle.splitting.specs.Splitting.{twice, foldedBy, splitBy, piecesBy}
+use Rattle.splitting.proofs.Splitting.{split-all}
+use Rattle.splitting.proofs.Pieces.{pieces-stay, pieces-all, pieces-fewer, pieces-every}
+use Rattle.folding.specs.Folding.{folded, trianglePieces, foldOf, left, quadranglePieces, ringPieces, pieces}
 use Rattle.folding.specs.declared.Fold.{Fold}
 use Rattle.folding.specs.declared.Fold.the-variants.{Goes, WithoutQ1, WithoutQ3, Stays}
-use Rattle.folding.proofs.Search.{Pair, folded-pair}
-use Rattle.folding.proofs.Splitting.{one, two, split-whole, split-cut, split-all}
 
 abbrev pub isUnfolded : Ring → Bool
 isUnfolded r = not (folded r)
@@ -32,16 +32,6 @@ pub record Sane (r : Ring) (ps : List Ring) : Type 0 where
   pub faces : every isFace ps ≡ true
   pub fewer : sum (map length ps) ≤ length r
   pub corners : (p : Corner → Bool) → every p r ≡ true → every (every p) ps ≡ true
-
--- what every one of two lists passes, every one of both passes; a sum over what is left is no larger
-every-both : {A : Type 0} (p : A → Bool) (a b : List A) → every p a ≡ true → every p b ≡ true → every p (a ++ b) ≡ true
-every-both p a b e f = every-append p a b ∙ and-both (every p a) (every p b) e f
-
-sum-only : (p : Ring → Bool) (ps : List Ring) → sum (map length (only p ps)) ≤ sum (map length ps)
-sum-only p [] = omega arith
-sum-only p (r ∷ ps) =
-    let h : sum (map length (only p ps)) ≤ sum (map length ps) = sum-only p ps in
-    by-cases (p r) (λ e. rw e (omega arith)) (λ e. rw e (omega arith))
 
 -- nothing, and a face that is not folded
 pub sane-none : (r : Ring) → Sane r []
@@ -71,66 +61,51 @@ triangle-sane t h =
     (λ e. rw (triangle-goes t e) (sane-none t))
     (λ e. rw (triangle-stays t e) (sane-same t e h))
 
+-- three corners, and what the tests on their positions say, in the order of the code
+three-corners : (t : Ring) → length t ≡ 3 → t ≡ getD t 0 [] ∷ getD t 1 [] ∷ getD t 2 [] ∷ []
+three-corners [] h = absurd (let z : _≡_ {A = ℕ} 0 3 = h in omega arith)
+three-corners (a ∷ []) h = absurd (let z : _≡_ {A = ℕ} 1 3 = h in omega arith)
+three-corners (a ∷ b ∷ []) h = absurd (let z : _≡_ {A = ℕ} 2 3 = h in omega arith)
+three-corners (a ∷ b ∷ c ∷ []) h = refl
+three-corners (a ∷ b ∷ c ∷ d ∷ t) h = absurd (let z : suc (suc (suc (suc (length t)))) ≡ 3 = h in omega arith)
+
+module _ (t : Ring) (h : length t ≡ 3) where
+  abbrev at : ℕ → ℕ
+  at k = position (getD t k [])
+
+  tests : folded t ≡ twice (at 0 ∷ at 1 ∷ at 2 ∷ [])
+  unfolding foldedBy
+  tests = ap folded (three-corners t h)
+
+  pub first-two : at 0 ≡ at 1 → true ≡ folded t
+  first-two e = sym (tests ∙ simp (eq-eqb (at 0) (at 1) e))
+
+  pub last-two : (at 0 ≡ at 1 → ⊥) → at 1 ≡ at 2 → true ≡ folded t
+  last-two a e = sym (tests ∙ simp (ne-eqb (at 0) (at 1) a, eq-eqb (at 1) (at 2) e, ne-eqb (at 0) (at 2) (λ f. a (f ∙ sym e))))
+
+  pub last-test : (at 0 ≡ at 1 → ⊥) → (at 1 ≡ at 2 → ⊥) → eqb (at 2) (at 0) ≡ folded t
+  last-test a b =
+      by-cases (eqb (at 2) (at 0))
+      (λ e. e ∙ sym (tests ∙ simp (ne-eqb (at 0) (at 1) a, eq-eqb (at 0) (at 2) (sym (eqb-true _ _ e)))))
+      (λ e. e ∙ sym (tests ∙ simp (ne-eqb (at 0) (at 1) a, ne-eqb (at 1) (at 2) b, ne-eqb (at 0) (at 2) (λ f. eqb-false _ _ e (sym f)))))
+
 -- ---- a larger face
 
-cut-sum : (r : Ring) (i j : ℕ) → Pair r i j → length (between r i j) + length (around r i j) ≡ length r
-cut-sum r i j p =
-    let a : length (take i r) + length (drop i r) ≡ length r = sym (length-append (take i r) (drop i r)) ∙ ap length (take-append-drop i r) in
-    let b : length (take (j - i) (drop i r)) + length (drop (j - i) (drop i r)) ≡ length (drop i r) =
-    sym (length-append (take (j - i) (drop i r)) (drop (j - i) (drop i r))) ∙ ap length (take-append-drop (j - i) (drop i r)) in
-    let d : i + (j - i) ≡ j = omega arith in
-    let c : length (drop (j - i) (drop i r)) ≡ length (drop j r) = ap length (drop-drop (j - i) i r ∙ ap (λ (k : ℕ). drop k r) d) in
-    let e : length (around r i j) ≡ length (drop j r) + length (take i r) = length-append (drop j r) (take i r) in
-    omega arith
-
--- as many corners as the ring has
-pub split-length : (r : Ring) → sum (map length (split r)) ≡ length r
-split-length =
-    split-all
-    (λ r ps. sum (map length ps) ≡ length r)
-    (λ r e. omega arith)
-    (λ r e a b h k.
-    let s : sum (map length (a ++ b)) ≡ sum (map length a) + sum (map length b) = ap sum (map-append length a b) ∙ sum-append (map length a) (map length b) in
-    omega (arith, s, h, k, cut-sum r (firstIn r) (secondIn r) (folded-pair r e)))
-
-pub split-unfolded : (r : Ring) → every isUnfolded (split r) ≡ true
+pub split-unfolded : (r : Ring) → every isUnfolded (splitBy position r) ≡ true
 split-unfolded =
-    split-all
+    split-all position
     (λ r ps. every isUnfolded ps ≡ true)
     (λ r e. rw e)
-    (λ r e a b h k. every-both isUnfolded a b h k)
-
-pub split-corners : (p : Corner → Bool) (r : Ring) → every p r ≡ true → every (every p) (split r) ≡ true
-split-corners p =
-    split-all
-    (λ r ps. every p r ≡ true → every (every p) ps ≡ true)
-    (λ r e c. and-both (every p r) true c refl)
-    (λ r e a b h k c.
-    every-both (every p) a b
-    (h (every-take p (secondIn r - firstIn r) (drop (firstIn r) r) (every-drop p (firstIn r) r c)))
-    (k (every-both p (drop (secondIn r) r) (take (firstIn r) r) (every-drop p (secondIn r) r c) (every-take p (firstIn r) r c))))
+    (λ r e a b h k. every-append isUnfolded a b ∙ and-both (every isUnfolded a) (every isUnfolded b) h k)
 
 pub ring-sane : (r : Ring) → Sane r (ringPieces r)
-unfolding ringPieces
+unfolding piecesBy
 ring-sane r = record {
-  unfolded = every-only isFace isUnfolded (split r) (split-unfolded r);
-  faces = every-self isFace (split r);
-  fewer = omega (arith, sum-only isFace (split r), split-length r);
-  corners = λ p c. every-only isFace (every p) (split r) (split-corners p r c);
+  unfolded = every-only isFace isUnfolded (splitBy position r) (split-unfolded r);
+  faces = pieces-all position r;
+  fewer = pieces-fewer position r;
+  corners = λ p c. pieces-every position p r c;
 }
-
--- a ring that is not folded stays or vanishes, a folded one gives the pieces of its two rings
-pub ring-stays : (r : Ring) → folded r ≡ false → 3 ≤ length r → ringPieces r ≡ r ∷ []
-unfolding ringPieces
-ring-stays r e h = ap (only isFace) (split-whole r e) ∙ rw (le-leb 3 (length r) h)
-
-pub ring-vanishes : (r : Ring) → folded r ≡ false → length r < 3 → ringPieces r ≡ []
-unfolding ringPieces
-ring-vanishes r e h = ap (only isFace) (split-whole r e) ∙ rw (lt-leb 3 (length r) h)
-
-pub ring-cut : (r : Ring) → folded r ≡ true → ringPieces r ≡ ringPieces (one r) ++ ringPieces (two r)
-unfolding ringPieces
-ring-cut r e = ap (only isFace) (split-cut r e) ∙ only-append isFace (split (one r)) (split (two r))
 
 -- ---- a quadrangle
 
@@ -144,7 +119,7 @@ abbrev Apart : Corner → Corner → Type 0
 Apart a b = position a ≡ position b → ⊥
 
 triangle-unfolded : (a b c : Corner) → Apart a b → Apart a c → Apart b c → folded (a ∷ b ∷ c ∷ []) ≡ false
-unfolding folded
+unfolding foldedBy
 triangle-unfolded a b c ab ac bc = rw (ne-eqb _ _ ab, ne-eqb _ _ ac, ne-eqb _ _ bc)
 
 module _ (a b c d : Corner) where
@@ -196,14 +171,15 @@ module _ (a b c d : Corner) where
   stays e f = rw e (sane-same quad f (omega arith))
 
   quad-sane : Sane quad (quadranglePieces quad)
-  unfolding foldOf folded
+  unfolding foldOf foldedBy
   quad-sane =
       by-cases (eqb (position a) (position c)) (λ ac. goes (rw ac)) (λ ac.
       by-cases (eqb (position b) (position d)) (λ bd. goes (rw (ac, bd))) (λ bd.
       by-cases (eqb (position a) (position b)) (λ ab.
       by-cases (eqb (position c) (position d)) (λ cd. goes (rw (ac, bd, ab, cd))) (λ cd.
       let e : position a ≡ position b = eqb-true _ _ ab in
-      less-q1 (simp (ac, bd, ab, cd, ne-eqb (position b) (position c) (λ f. eqb-false (position a) (position c) ac (e ∙ f)))) (eqb-false _ _ ac) (λ f. eqb-false _ _ bd (sym e ∙ f)) (eqb-false _ _ cd))) (λ ab.
+      let bc = ne-eqb (position b) (position c) (λ f. eqb-false (position a) (position c) ac (e ∙ f)) in
+      less-q1 (simp (ac, bd, ab, cd, bc)) (eqb-false _ _ ac) (λ f. eqb-false _ _ bd (sym e ∙ f)) (eqb-false _ _ cd))) (λ ab.
       by-cases (eqb (position b) (position c)) (λ bc.
       by-cases (eqb (position d) (position a)) (λ da. goes (rw (ac, bd, ab, bc, da))) (λ da.
       let e : position b ≡ position c = eqb-true _ _ bc in
@@ -214,7 +190,7 @@ module _ (a b c d : Corner) where
 
   -- a quadrangle that is not folded stays
   quad-same : folded quad ≡ false → foldOf quad ≡ Stays
-  unfolding folded foldOf
+  unfolding foldedBy foldOf
   quad-same e =
       let from-a = eqb (position a) (position b) || (eqb (position a) (position c) || (eqb (position a) (position d) || false)) in
       let from-b = eqb (position b) (position c) || (eqb (position b) (position d) || false) in
@@ -233,13 +209,16 @@ module _ (a b c d : Corner) where
       let da = ne-eqb (position d) (position a) (λ f. eqb-false (position a) (position d) ad (sym f)) in
       rw (ac, bd, ab, bc, cd, da)
 
+quadrangle-stays : (q : Ring) → length q ≡ 4 → folded q ≡ false → foldOf q ≡ Stays
+quadrangle-stays [] h e = absurd (let z : _≡_ {A = ℕ} 0 4 = h in omega arith)
+quadrangle-stays (a ∷ []) h e = absurd (let z : _≡_ {A = ℕ} 1 4 = h in omega arith)
+quadrangle-stays (a ∷ b ∷ []) h e = absurd (let z : _≡_ {A = ℕ} 2 4 = h in omega arith)
+quadrangle-stays (a ∷ b ∷ c ∷ []) h e = absurd (let z : _≡_ {A = ℕ} 3 4 = h in omega arith)
+quadrangle-stays (a ∷ b ∷ c ∷ d ∷ []) h e = quad-same a b c d e
+quadrangle-stays (a ∷ b ∷ c ∷ d ∷ x ∷ q) h e = absurd (let z : suc (suc (suc (suc (suc (length q))))) ≡ 4 = h in omega arith)
+
 pub quadrangle-same : (q : Ring) → length q ≡ 4 → folded q ≡ false → quadranglePieces q ≡ q ∷ []
-quadrangle-same [] h e = absurd (let z : _≡_ {A = ℕ} 0 4 = h in omega arith)
-quadrangle-same (a ∷ []) h e = absurd (let z : _≡_ {A = ℕ} 1 4 = h in omega arith)
-quadrangle-same (a ∷ b ∷ []) h e = absurd (let z : _≡_ {A = ℕ} 2 4 = h in omega arith)
-quadrangle-same (a ∷ b ∷ c ∷ []) h e = absurd (let z : _≡_ {A = ℕ} 3 4 = h in omega arith)
-quadrangle-same (a ∷ b ∷ c ∷ d ∷ []) h e = quadrangle-left (a ∷ b ∷ c ∷ d ∷ []) Stays (sym (quad-same a b c d e))
-quadrangle-same (a ∷ b ∷ c ∷ d ∷ x ∷ q) h e = absurd (let z : suc (suc (suc (suc (suc (length q))))) ≡ 4 = h in omega arith)
+quadrangle-same q h e = quadrangle-left q Stays (sym (quadrangle-stays q h e))
 
 pub quadrangle-sane : (q : Ring) → length q ≡ 4 → Sane q (quadranglePieces q)
 quadrangle-sane [] h = absurd (let z : _≡_ {A = ℕ} 0 4 = h in omega arith)
@@ -248,6 +227,24 @@ quadrangle-sane (a ∷ b ∷ []) h = absurd (let z : _≡_ {A = ℕ} 2 4 = h in 
 quadrangle-sane (a ∷ b ∷ c ∷ []) h = absurd (let z : _≡_ {A = ℕ} 3 4 = h in omega arith)
 quadrangle-sane (a ∷ b ∷ c ∷ d ∷ []) h = quad-sane a b c d
 quadrangle-sane (a ∷ b ∷ c ∷ d ∷ e ∷ q) h = absurd (let z : suc (suc (suc (suc (suc (length q))))) ≡ 4 = h in omega arith)
+
+-- so the answer on it tells whether it is folded
+abbrev pub changes : Fold → Bool
+changes Goes = true
+changes WithoutQ1 = true
+changes WithoutQ3 = true
+changes Stays = false
+
+pub quadrangle-tells : (q : Ring) → length q ≡ 4 → changes (foldOf q) ≡ folded q
+quadrangle-tells q h = by-cases (folded q) (λ e. when-folded (foldOf q) refl e ∙ sym e) (λ e. ap changes (quadrangle-stays q h e) ∙ sym e)
+  where
+    when-folded : (f : Fold) → foldOf q ≡ f → folded q ≡ true → changes f ≡ true
+    when-folded Goes e t = refl
+    when-folded WithoutQ1 e t = refl
+    when-folded WithoutQ3 e t = refl
+    when-folded Stays e t =
+        let s : every isUnfolded (q ∷ []) ≡ true = rw (quadrangle-left q Stays (sym e)) at (quadrangle-sane q h .unfolded) in
+        true-false (sym (and-left (isUnfolded q) true s) ∙ ap not t)
 
 -- ---- any face, by its size
 
@@ -280,7 +277,7 @@ pieces-same r h e =
     (λ t.
     by-cases (eqb (length r) 4)
     (λ f. pieces-quadrangle r (eqb-true _ _ f) ∙ quadrangle-same r (eqb-true _ _ f) e)
-    (λ f. pieces-ring r (eqb-false _ _ t) (eqb-false _ _ f) ∙ ring-stays r e h))
+    (λ f. pieces-ring r (eqb-false _ _ t) (eqb-false _ _ f) ∙ pieces-stay position r e h))
 
 -- a triangle leaves triangles only
 pub triangle-triangles : (r : Ring) → length r ≡ 3 → every (λ (p : Ring). eqb (length p) 3) (pieces r) ≡ true

@@ -10,11 +10,12 @@ use borrow.Author.Tests.{leb-true}
 use Rattle.lists.specs.Lists.{every, joined}
 use Rattle.lists.proofs.Bools.{and-left, and-right}
 use Rattle.mesh.specs.Limits.{width, ringLimit}
-use Rattle.mesh.specs.Mesh.{Ring}
+use Rattle.mesh.specs.Mesh.{Ring, position}
 use Rattle.grouping.specs.Push.{Placed, cornerCount}
 use Rattle.grouping.proofs.Placing.{placed-none}
+use Rattle.splitting.proofs.Pieces.{pieces-stay, pieces-vanish, third}
 use Rattle.folding.specs.Folding.{folded, ringPieces}
-use Rattle.folding.proofs.Pieces.{isFace, Sane, ring-stays, ring-vanishes}
+use Rattle.folding.proofs.Pieces.{isFace, Sane}
 
 -- one face, whatever wrote its corners
 pub placed-ring : (r : Ring) (o o' l : List ℕ) (c f : ℕ) → o' ≡ sets o (width * c) (joined r) → Placed (r ∷ []) o o' l (set l f (length r)) c f (c + length r) (f + 1)
@@ -25,14 +26,6 @@ placed-ring r o o' l c f e = record {
   most = refl;
 }
 
--- three corners or more each: no more faces than a third of the corners
-pub faces-count : (ps : List Ring) → every isFace ps ≡ true → 3 * length ps ≤ cornerCount ps
-faces-count [] e = omega arith
-faces-count (p ∷ ps) e =
-    let a : 3 ≤ length p = leb-true 3 (length p) (and-left (isFace p) (every isFace ps) e) in
-    let b : 3 * length ps ≤ cornerCount ps = faces-count ps (and-right (isFace p) (every isFace ps) e) in
-    omega arith
-
 -- the pieces of a face of n corners took no more than its room
 pub record Took (n c f c' f' : ℕ) : Type 0 where
   pub corners : c' ≤ c + n
@@ -40,7 +33,7 @@ pub record Took (n c f c' f' : ℕ) : Type 0 where
 
 pub took : (r : Ring) (ps : List Ring) (o o' l l' : List ℕ) (c f c' f' : ℕ) → Sane r ps → Placed ps o o' l l' c f c' f' → Took (length r) c f c' f'
 took r ps o o' l l' c f c' f' h w =
-    let y : 3 * length ps ≤ cornerCount ps = faces-count ps (h .faces) in
+    let y : 3 * length ps ≤ cornerCount ps = third ps (h .faces) in
     record { corners = omega (arith, w .more, h .fewer); faces = omega (arith, w .most, h .fewer) }
 
 -- ---- the first n corners of a row, where they are not folded: a face of three or more is written, a smaller one vanishes
@@ -50,8 +43,8 @@ module _ (row : Ring) (n : ℕ) (long : length row ≡ ringLimit) (small : n ≤
   front = length-take-le n row (omega arith)
 
   pub ring-none : n < 3 → Placed (ringPieces (take n row)) o o l l c f c f
-  ring-none h = rw (ring-vanishes (take n row) e (omega (arith, front))) (placed-none o l c f)
+  ring-none h = rw (pieces-vanish position (take n row) e (omega (arith, front))) (placed-none o l c f)
 
   pub ring-put : (o' : List ℕ) → 3 ≤ n → o' ≡ sets o (width * c) (joined (take n row)) → Placed (ringPieces (take n row)) o o' l (set l f n) c f (c + n) (f + 1)
   ring-put o' h w =
-      rw (ring-stays (take n row) e (omega (arith, front))) (rw front at (placed-ring (take n row) o o' l c f w))
+      rw (pieces-stay position (take n row) e (omega (arith, front))) (rw front at (placed-ring (take n row) o o' l c f w))

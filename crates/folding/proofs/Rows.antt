@@ -22,7 +22,7 @@ use Rattle.lists.proofs.Copies.{front-turns, sets-whole, take-written, length-p
 use Rattle.mesh.specs.Limits.{width, ringLimit}
 use Rattle.mesh.specs.Mesh.{Corner, Ring, position}
 use Rattle.mesh.proofs.Corners.{isCorner, length-corners}
-use Rattle.folding.specs.Folding.{between, around}
+use Rattle.splitting.specs.Splitting.{between, around}
 use Rattle.folding.specs.Working.{Cut}
 
 -- the corners of a row that is owned are three numbers each

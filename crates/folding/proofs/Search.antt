@@ -1,27 +1,19 @@
--- The search for the first i, and for it the first j after i, with equal positions, and what it says: a face is folded exactly
--- where the search finds a pair. Assumes nothing.
-use mathlib.Core.Path.{_≡_, refl, sym, _∙_}
-use mathlib.Core.Bool.{Bool, true, false}
-use mathlib.Core.List.{List, [], _∷_, map}
-use Prim.Native.Nat.{ℕ, zero, suc, _+_, _-_, _≤_, _<_}
-use native.Mathlib.Nat.{sub-zero, le-of-suc-le-suc, not-suc-le-zero}
+-- The search for the first i that has a mate, as the code has it. Assumes nothing.
+use mathlib.Core.Path.{_≡_}
+use mathlib.Core.Bool.{true, false}
+use mathlib.Core.List.{List}
+use Prim.Native.Nat.{ℕ, _-_, _≤_, _<_}
+use native.Mathlib.Nat.{sub-zero}
 use native.Mathlib.Omega.{arith}
-use lib.ListN.{length, getD, length-map}
-use lib.Dec.{ltb, eqb}
-use borrow.Author.Tests.{lt-ltb, le-ltb, ltb-true, ltb-false}
-use Rattle.lists.specs.Lists.{has}
+use lib.ListN.{length}
+use lib.Dec.{ltb}
+use borrow.Author.Tests.{lt-ltb, le-ltb}
 use Rattle.lists.specs.Numbers.{seek}
-use Rattle.lists.proofs.Bools.{by-cases, true-false, or-left, or-right, or-neither}
-use Rattle.lists.proofs.Numbers.{seek-low, seek-high, seek-found, seek-before}
-use Rattle.lists.proofs.Parts.{some-true-at, some-none}
-use Rattle.mesh.specs.Mesh.{Ring, position}
-use Rattle.folding.specs.Folding.{twice, folded, mateOf, firstOf, firstIn, secondIn}
-
--- ---- in the code
+use Rattle.splitting.specs.Splitting.{mateOf, firstMated}
 
 -- the first i, as a search that has begun
-pub first-seeks : (ps : List ℕ) → seek (λ (i : ℕ). ltb (mateOf ps i) (length ps)) (length ps - 0) 0 ≡ firstOf ps
-unfolding firstOf
+pub first-seeks : (ps : List ℕ) → seek (λ (i : ℕ). ltb (mateOf ps i) (length ps)) (length ps - 0) 0 ≡ firstMated ps
+unfolding firstMated
 first-seeks ps = rw (sub-zero (length ps))
 
 -- a mate that was found, or not
@@ -30,92 +22,3 @@ mate-found m q n e h = lt-ltb q n (omega arith)
 
 pub mate-missing : (m q n : ℕ) → m ≡ q → n ≤ m → ltb q n ≡ false
 mate-missing m q n e h = le-ltb q n (omega arith)
-
--- ---- the mate of i stands after it, with its position, and none before it does
-
-same-as : List ℕ → ℕ → ℕ → Bool
-same-as ps i j = eqb (getD ps i 0) (getD ps j 0)
-
-pub mate-after : (ps : List ℕ) (i : ℕ) → i < mateOf ps i
-unfolding mateOf same-as
-mate-after ps i = omega (arith, seek-low (same-as ps i) (length ps - (i + 1)) (i + 1))
-
-pub mate-equal : (ps : List ℕ) (i : ℕ) → mateOf ps i < length ps → eqb (getD ps i 0) (getD ps (mateOf ps i) 0) ≡ true
-unfolding mateOf same-as
-mate-equal ps i h =
-    seek-found (same-as ps i) (length ps - (i + 1)) (i + 1)
-    (omega (arith, h, seek-low (same-as ps i) (length ps - (i + 1)) (i + 1)))
-
-pub mate-first : (ps : List ℕ) (i j : ℕ) → i < j → j < mateOf ps i → eqb (getD ps i 0) (getD ps j 0) ≡ false
-unfolding mateOf same-as
-mate-first ps i j h l = seek-before (same-as ps i) (length ps - (i + 1)) (i + 1) j (omega arith) l
-
--- ---- the first i has a mate, and none before it does
-
-has-mate : List ℕ → ℕ → Bool
-has-mate ps i = ltb (mateOf ps i) (length ps)
-
-pub first-within : (ps : List ℕ) → firstOf ps ≤ length ps
-unfolding firstOf has-mate
-first-within ps = omega (arith, seek-high (has-mate ps) (length ps) 0)
-
-pub first-mated : (ps : List ℕ) → firstOf ps < length ps → mateOf ps (firstOf ps) < length ps
-unfolding firstOf has-mate
-first-mated ps h = ltb-true _ _ (seek-found (has-mate ps) (length ps) 0 (omega (arith, h)))
-
-pub first-first : (ps : List ℕ) (i : ℕ) → i < firstOf ps → length ps ≤ mateOf ps i
-unfolding firstOf has-mate
-first-first ps i h = ltb-false _ _ (seek-before (has-mate ps) (length ps) 0 i (omega arith) h)
-
--- ---- a number stands twice exactly where the search finds a pair
-
-twice-at : (ps : List ℕ) (i j : ℕ) → i < j → j < length ps → eqb (getD ps i 0) (getD ps j 0) ≡ true → twice ps ≡ true
-twice-at [] i j h l e = absurd (not-suc-le-zero l)
-twice-at (p ∷ ps) zero zero h l e = absurd (not-suc-le-zero h)
-twice-at (p ∷ ps) zero (suc j) h l e = or-left (has p ps) (twice ps) (some-true-at (eqb p) 0 ps j (le-of-suc-le-suc l) e)
-twice-at (p ∷ ps) (suc i) zero h l e = absurd (not-suc-le-zero h)
-twice-at (p ∷ ps) (suc i) (suc j) h l e =
-    or-right (has p ps) (twice ps) (twice-at ps i j (le-of-suc-le-suc h) (le-of-suc-le-suc l) e)
-
-twice-none : (ps : List ℕ) → ((i j : ℕ) → i < j → j < length ps → eqb (getD ps i 0) (getD ps j 0) ≡ false) → twice ps ≡ false
-twice-none [] f = refl
-twice-none (p ∷ ps) f =
-    or-neither (has p ps) (twice ps)
-    (some-none (eqb p) 0 ps (λ k h. f 0 (suc k) (omega arith) (let l : k < length ps = h in omega arith)))
-    (twice-none ps (λ i j h l. f (suc i) (suc j) (let k : i < j = h in omega arith) (let k : j < length ps = l in omega arith)))
-
-pub twice-found : (ps : List ℕ) → firstOf ps < length ps → twice ps ≡ true
-twice-found ps h =
-    twice-at ps (firstOf ps) (mateOf ps (firstOf ps)) (mate-after ps (firstOf ps)) (first-mated ps h) (mate-equal ps (firstOf ps) (first-mated ps h))
-
-pub twice-missing : (ps : List ℕ) → length ps ≤ firstOf ps → twice ps ≡ false
-twice-missing ps h =
-    twice-none ps (λ i j a b.
-    let m : length ps ≤ mateOf ps i = first-first ps i (let a' : i < j = a in let b' : j < length ps = b in omega arith) in
-    mate-first ps i j a (let b' : j < length ps = b in omega arith))
-
--- ---- so with a face
-
-pub folded-found : (r : Ring) → firstIn r < length r → folded r ≡ true
-unfolding folded
-folded-found r h = twice-found (map position r) (rw (length-map r position) h)
-
-pub folded-missing : (r : Ring) → length r ≤ firstIn r → folded r ≡ false
-unfolding folded
-folded-missing r h = twice-missing (map position r) (rw (length-map r position) h)
-
--- a folded face has its pair: i before j, j within
-pub record Pair (r : Ring) (i j : ℕ) : Type 0 where
-  pub ordered : i < j
-  pub within : j < length r
-
-pub folded-pair : (r : Ring) → folded r ≡ true → Pair r (firstIn r) (secondIn r)
-unfolding folded
-folded-pair r e =
-    let ps = map position r in
-    let n : length ps ≡ length r = length-map r position in
-    by-cases (ltb (firstOf ps) (length ps))
-    (λ b.
-    let m : mateOf ps (firstOf ps) < length ps = first-mated ps (ltb-true _ _ b) in
-    record { ordered = mate-after ps (firstOf ps); within = omega arith })
-    (λ b. true-false (sym e ∙ twice-missing ps (ltb-false _ _ b)))

@@ -1,24 +1,18 @@
 -- Folded faces, face by face, as document 01, 'Folded faces', has them: what a triangle, a quadrangle and a larger face become.
--- Assumes nothing.
-use Prim.Native.Nat.{ℕ, zero, suc, _+_, _-_}
+-- How a ring is split stands in splitting's specs/Splitting.antt. Assumes nothing.
+use Prim.Native.Nat.{ℕ}
 use mathlib.Core.Bool.{Bool, true, false, _&&_, _||_}
-use mathlib.Core.List.{List, [], _∷_, _++_, map}
-use lib.ListN.{length, getD, take, drop}
-use lib.Dec.{ltb, leb, eqb}
-use Rattle.lists.specs.Lists.{has, only}
-use Rattle.lists.specs.Numbers.{seek}
+use mathlib.Core.List.{List, [], _∷_}
+use lib.ListN.{length, getD}
+use lib.Dec.{eqb}
 use Rattle.mesh.specs.Mesh.{Ring, position}
+use Rattle.splitting.specs.Splitting.{foldedBy, piecesBy}
 use Rattle.folding.specs.declared.Fold.{Fold}
 use Rattle.folding.specs.declared.Fold.the-variants.{Goes, WithoutQ1, WithoutQ3, Stays}
 
--- whether a number stands in the list twice
-abbrev pub twice : List ℕ → Bool
-twice [] = false
-twice (p ∷ ps) = has p ps || twice ps
-
 -- a face is folded where two of its corners have equal positions
-unfoldable pub folded : Ring → Bool
-folded r = twice (map position r)
+abbrev pub folded : Ring → Bool
+folded r = foldedBy position r
 
 -- a folded triangle goes
 unfoldable pub trianglePieces : Ring → List Ring
@@ -60,44 +54,9 @@ left Stays q = q ∷ []
 unfoldable pub quadranglePieces : Ring → List Ring
 quadranglePieces q = left (foldOf q) q
 
--- in a list of positions: the first j after i with i's position, or the number of them where there is none; the first i that has
--- such a j, or the number of them where there is none
-unfoldable pub mateOf : List ℕ → ℕ → ℕ
-mateOf ps i = seek (λ j. eqb (getD ps i 0) (getD ps j 0)) (length ps - (i + 1)) (i + 1)
-
-unfoldable pub firstOf : List ℕ → ℕ
-firstOf ps = seek (λ i. ltb (mateOf ps i) (length ps)) (length ps) 0
-
--- in a larger face take the first i, and for it the first j after i, with equal positions
-abbrev pub firstIn : Ring → ℕ
-firstIn r = firstOf (map position r)
-
-abbrev pub secondIn : Ring → ℕ
-secondIn r = mateOf (map position r) (firstIn r)
-
--- one ring is corners i to j-1; the other is j to the last, then 0 to i-1
-abbrev pub between : Ring → ℕ → ℕ → Ring
-between r i j = take (j - i) (drop i r)
-
-abbrev pub around : Ring → ℕ → ℕ → Ring
-around r i j = drop j r ++ take i r
-
--- each of the two rings is split again by the same rule, the first ring's pieces first. The first argument bounds the depth: the
--- ring's length is enough.
-unfoldable pub splitIn : ℕ → Ring → List Ring
-splitIn zero r = r ∷ []
-splitIn (suc n) r =
-    elim (folded r) [
-      | true ↦ splitIn n (between r (firstIn r) (secondIn r)) ++ splitIn n (around r (firstIn r) (secondIn r))
-      | false ↦ r ∷ []
-    ]
-
-unfoldable pub split : Ring → List Ring
-split r = splitIn (length r) r
-
--- pieces of fewer than three corners vanish
-unfoldable pub ringPieces : Ring → List Ring
-ringPieces r = only (λ (p : Ring). leb 3 (length p)) (split r)
+-- a larger face is split by the positions of its corners; pieces of fewer than three corners vanish
+abbrev pub ringPieces : Ring → List Ring
+ringPieces r = piecesBy position r
 
 -- the pieces of a face, by its size
 unfoldable pub pieces : Ring → List Ring

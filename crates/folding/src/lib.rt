@@ -1,5 +1,5 @@
-// What becomes of a quadrangle and of a larger face that may be folded: document 01, 'Folded faces', as `degenerate_quadrangle`
-// and `split_into_nondegenerate` have it. A corner is three numbers, position, texture and normal; the first decides.
+// What becomes of a face that may be folded: document 01, 'Folded faces', as `degenerate_triangle`, `degenerate_quadrangle` and
+// `split_into_nondegenerate` have it. A corner is three numbers, position, texture and normal; the first decides.
 ghost use mathlib.Core.Path.{_≡_};
 ghost use Prim.Native.Nat.{_+_, _*_, _-_, _<_, _≤_};
 ghost use lib.ListN.{length, take, drop};
@@ -11,7 +11,8 @@ ghost use Rattle.mesh.specs.Mesh.{position};
 ghost use Rattle.mesh.specs.Limits.{width, ringLimit};
 ghost use Rattle.grouping.specs.Push.{Placed};
 ghost use Rattle.folding.specs.Working.{Room, Cut, FirstPair};
-ghost use Rattle.folding.specs.Folding.{foldOf, withoutQ1, withoutQ3, mateOf, firstOf, folded, between, around, ringPieces};
+ghost use Rattle.splitting.specs.Splitting.{mateOf, firstMated, between, around};
+ghost use Rattle.folding.specs.Folding.{foldOf, withoutQ1, withoutQ3, folded, ringPieces};
 use grouping::Filled;
 use mesh::RING;
 use mesh::WIDTH;
@@ -28,6 +29,22 @@ pub enum Fold {
 struct Pair {
     i: usize,
     j: usize,
+}
+
+// The decision on a triangle: whether it is folded.
+pub fn degenerate_triangle(tri: [[u32; WIDTH]; 3]) -> bool
+    ensures { λ r. ⌜ r ≡ folded tri ⌝ }
+{
+    let t0 = tri[0][0];
+    let t1 = tri[1][0];
+    let t2 = tri[2][0];
+    if t0 == t1 {
+        return true;
+    }
+    if t1 == t2 {
+        return true;
+    }
+    t2 == t0
 }
 
 // The decision on a quadrangle.
@@ -103,7 +120,7 @@ fn mate(places: &[u32], i: usize) -> usize
 
 // The first place that has such a mate, or how many there are.
 pub fn first(places: &[u32]) -> usize
-    ensures { λ r. ⌜ r ≡ firstOf (now (places .entry)) ⌝ }
+    ensures { λ r. ⌜ r ≡ firstMated (now (places .entry)) ⌝ }
 {
     let mut i: usize = 0;
     while i < places.len() {
@@ -209,7 +226,9 @@ fn put_ring(
 ) -> Filled
     requires { ⌜ Room n (now out) (now lens) (at .corners) (at .faces) ⌝ }
     requires { ⌜ folded (take n poly) ≡ false ⌝ }
-    ensures { λ r. ⌜ Placed (ringPieces (take n poly)) (now (out .entry)) (now (out .exit)) (now (lens .entry)) (now (lens .exit)) (at .corners) (at .faces) (r .corners) (r .faces) ⌝ }
+    ensures { λ r. ⌜ Placed (ringPieces (take n poly))
+        (now (out .entry)) (now (out .exit)) (now (lens .entry)) (now (lens .exit))
+        (at .corners) (at .faces) (r .corners) (r .faces) ⌝ }
 {
     if n < 3 {
         return at;
@@ -233,7 +252,9 @@ pub fn split_into_nondegenerate(
     at: Filled,
 ) -> Filled
     requires { ⌜ Room n (now out) (now lens) (at .corners) (at .faces) ⌝ }
-    ensures { λ r. ⌜ Placed (ringPieces (take n poly)) (now (out .entry)) (now (out .exit)) (now (lens .entry)) (now (lens .exit)) (at .corners) (at .faces) (r .corners) (r .faces) ⌝ }
+    ensures { λ r. ⌜ Placed (ringPieces (take n poly))
+        (now (out .entry)) (now (out .exit)) (now (lens .entry)) (now (lens .exit))
+        (at .corners) (at .faces) (r .corners) (r .faces) ⌝ }
 {
     let pair = pair_of(poly, n);
     let i = pair.i;

@@ -31,11 +31,16 @@ cast-n c = omega (arith, c .shared-slice-known3 .given (c .before .before .befor
 
 face-pieces-requires : tie.Need-face-pieces-requires Inv-loop μ-loop
 face-pieces-requires c κs =
-    removing-room _ _ _ _ _ _ _ _ _ _ _ (c .before .before .before .before .loop-test .taken) (c .before .before .before .face-at .ensures) (c .before .before .before .before .before .before .before .before .before .before .pre) (c .before .before .before .before .before .loop .inv)
+    let pre = c .before .before .before .before .before .before .before .before .before .before .pre in
+    let loop = c .before .before .before .before .before .loop in
+    removing-room _ _ _ _ _ _ _ _ _ _ _ (c .before .before .before .before .loop-test .taken) (c .before .before .before .face-at .ensures) pre (loop .inv)
 
 add-from : tie.Need-add-from Inv-loop μ-loop
 add-from c =
-    omega (arith, face-fits _ _ (c .before .before .before .before .before .before .before .before .before .before .before .before .before .before .before .pre .fit .sound) (c .before .before .before .before .before .before .before .before .before .before .loop .k) (c .before .before .before .before .before .before .before .before .before .loop-test .taken), c .before .before .before .before .before .before .before .before .before .before .loop .inv .offset)
+    let pre = c .before .before .before .before .before .before .before .before .before .before .before .before .before .before .before .pre in
+    let loop = c .before .before .before .before .before .before .before .before .before .before .loop in
+    let fits = face-fits _ _ (pre .fit .sound) (loop .k) (c .before .before .before .before .before .before .before .before .before .loop-test .taken) in
+    omega (arith, fits, loop .inv .offset)
 
 add-k : tie.Need-add-k Inv-loop μ-loop
 add-k c = search needs
@@ -45,7 +50,12 @@ loop-less c = search needs
 
 loop-again : tie.Need-loop-again Inv-loop μ-loop
 loop-again c =
-    removing-turns _ _ _ _ _ _ _ _ _ _ _ _ _ _ _ (c .before .before .before .before .before .before .before .before .before .loop-test .taken) (c .before .before .before .before .before .before .before .before .face-at .ensures) (c .before .before .before .before .before .before .before .before .before .before .before .before .before .before .before .pre) (c .before .before .before .before .before .before .before .before .before .before .loop .inv) (c .before .before .before .before .face-pieces .ensures) (c .before .before .before .before .face-pieces .kept .1 .1 .0) (c .before .before .before .before .face-pieces .kept .1 .1 .1 .0)
+    let pre = c .before .before .before .before .before .before .before .before .before .before .before .before .before .before .before .pre in
+    let loop = c .before .before .before .before .before .before .before .before .before .before .loop in
+    let face = c .before .before .before .before .before .before .before .before .face-at .ensures in
+    let put = c .before .before .before .before .face-pieces in
+    let more = c .before .before .before .before .before .before .before .before .before .loop-test .taken in
+    removing-turns _ _ _ _ _ _ _ _ _ _ _ _ _ _ _ more face pre (loop .inv) (put .ensures) (put .kept .1 .1 .0) (put .kept .1 .1 .1 .0)
 
 same-length : tie.Need-same-length Inv-loop μ-loop
 same-length c = search needs

@@ -38,7 +38,10 @@ returns c =
 
 add-from : tie.Need-add-from Inv-loop μ-loop
 add-from c =
-    omega (arith, face-fits _ _ (c .before .before .before .before .before .before .before .before .pre .sound) (c .before .before .before .before .before .loop .k) (c .before .before .before .before .loop-test .taken), c .before .before .before .before .before .loop .inv .offset)
+    let pre = c .before .before .before .before .before .before .before .before .pre in
+    let loop = c .before .before .before .before .before .loop in
+    let fits = face-fits _ _ (pre .sound) (loop .k) (c .before .before .before .before .loop-test .taken) in
+    omega (arith, fits, loop .inv .offset)
 
 add-k : tie.Need-add-k Inv-loop μ-loop
 add-k c = search needs
@@ -48,7 +51,9 @@ loop-less c = search needs
 
 loop-again : tie.Need-loop-again Inv-loop μ-loop
 loop-again c =
-    looking-turns _ _ _ _ _ _ (c .before .before .before .before .loop-test .taken) (c .before .before .before .face-at .ensures) (c .before .is-folded .ensures) (c .if1 .left) (c .before .before .before .before .before .loop .inv)
+    let loop = c .before .before .before .before .before .loop in
+    let face = c .before .before .before .face-at .ensures in
+    looking-turns _ _ _ _ _ _ (c .before .before .before .before .loop-test .taken) face (c .before .is-folded .ensures) (c .if1 .left) (loop .inv)
 
 returns-2 : tie.Need-returns-2 Inv-loop μ-loop
 returns-2 c =

@@ -9,7 +9,9 @@ put-requires : tie.Need-put-requires
 put-requires c κs = search needs
 
 put-requires-2 : tie.Need-put-requires-2
-put-requires-2 c κs = omega (arith, faces-few _ _ (c .before .before .before .before .before .before .before .before .before .pre .fit), c .before .before .before .before .before .before .before .before .before .pre .sizes)
+put-requires-2 c κs =
+    let pre = c .before .before .before .before .before .before .before .before .before .pre in
+    omega (arith, faces-few _ _ (pre .fit), pre .sizes)
 
 same-length : tie.Need-same-length
 same-length c = search needs
@@ -19,7 +21,8 @@ same-length-2 c = search needs
 
 returns : tie.Need-returns
 returns c =
-    kept-all _ _ _ _ _ _ (c .before .before .before .before .before .before .before .before .before .before .before .before .pre .fit .sound) (c .before .before .before .before .before .before .put .ensures) (c .before .before .put2 .ensures)
+    let pre = c .before .before .before .before .before .before .before .before .before .before .before .before .pre in
+    kept-all _ _ _ _ _ _ (pre .fit .sound) (c .before .before .before .before .before .before .put .ensures) (c .before .before .put2 .ensures)
 
 pub keep-all-spec : {M : Type 1} → statement M
 keep-all-spec = tie.close (tie.spec put-requires put-requires-2 same-length same-length-2 returns)

@@ -1,6 +1,6 @@
 -- `folded::remove` meets its contract: where no face is folded, all of them are what is left. Assumes nothing.
 use mathlib.Core.Path.{sym, _∙_}
-use Rattle.folded.proofs.OneFace.{placed-as}
+use Rattle.oneface.proofs.OneFace.{placed-as}
 use Rattle.folded.proofs.Unfolded.{removed-same}
 use borrow.Author.Needs.{needs}
 use Rattle.folded.proofs.remove.Statement.{statement}
@@ -32,7 +32,9 @@ same-length-4 c = search needs
 
 returns-2 : tie.Need-returns-2
 returns-2 c =
-    placed-as (removed-same _ _ _ _ (c .before .before .before .before .before .before .before .before .before .before .before .before .before .pre) (sym (c .before .before .before .before .before .before .before .before .any-folded .ensures) ∙ c .before .before .before .before .before .before .before .if1 .left)) (c .before .before .before .before .keep-all .ensures)
+    let pre = c .before .before .before .before .before .before .before .before .before .before .before .before .before .pre in
+    let none = sym (c .before .before .before .before .before .before .before .before .any-folded .ensures) ∙ c .before .before .before .before .before .before .before .if1 .left in
+    placed-as (removed-same _ _ (pre .ready .fit) (pre .grouped) none) (c .before .before .before .before .keep-all .ensures)
 
 pub remove-spec : {M : Type 1} → statement M
 remove-spec =

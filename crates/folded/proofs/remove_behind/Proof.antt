@@ -1,6 +1,5 @@
 -- `folded::remove_behind` meets its contract: what is written to all that stands behind is written behind. Assumes nothing.
-use Rattle.folded.proofs.TwoParts.{left-corners, left-faces}
-use Rattle.folded.proofs.TwoParts.{placed-tail}
+use Rattle.folded.proofs.TwoParts.{left-corners, left-faces, placed-tail}
 use native.Mathlib.Omega.{arith}
 use borrow.Author.Needs.{needs}
 use Rattle.folded.proofs.remove_behind.Statement.{statement}
@@ -37,10 +36,14 @@ remove-larger-requires : tie.Need-remove-larger-requires
 remove-larger-requires c κs = search needs
 
 add-t10 : tie.Need-add-t10
-add-t10 c = omega (arith, left-corners _ _ _ _ _ _ _ _ (c .before .before .before .before .before .before .before .before .before .before .before .before .pre .fit) (c .before .before .before .before .before .remove-larger .ensures))
+add-t10 c =
+    let pre = c .before .before .before .before .before .before .before .before .before .before .before .before .pre in
+    omega (arith, left-corners _ _ _ _ _ _ _ _ (pre .fit) (c .before .before .before .before .before .remove-larger .ensures))
 
 add-t17 : tie.Need-add-t17
-add-t17 c = omega (arith, left-faces _ _ _ _ _ _ _ _ (c .before .before .before .before .before .before .before .before .before .before .before .before .before .pre .fit) (c .before .before .before .before .before .before .remove-larger .ensures))
+add-t17 c =
+    let pre = c .before .before .before .before .before .before .before .before .before .before .before .before .before .pre in
+    omega (arith, left-faces _ _ _ _ _ _ _ _ (pre .fit) (c .before .before .before .before .before .before .remove-larger .ensures))
 
 same-length : tie.Need-same-length
 same-length c = search needs

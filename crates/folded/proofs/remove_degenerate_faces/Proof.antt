@@ -20,18 +20,21 @@ refused-requires-2 c κs = search needs
 
 returns-2 : tie.Need-returns-2
 returns-2 c =
-    refused-corners _ _ _ _ (sym (c .before .before .before .number .ensures) ∙ c .before .before .if1 .left) (c .before .if2 .taken) (c .refused2 .ensures)
+    let accepted = sym (c .before .before .before .number .ensures) ∙ c .before .before .if1 .left in
+    refused-corners _ _ _ _ accepted (c .before .if2 .taken) (c .refused2 .ensures)
 
 refused-requires-3 : tie.Need-refused-requires-3
 refused-requires-3 c κs = search needs
 
 returns-3 : tie.Need-returns-3
 returns-3 c =
-    refused-sizes _ _ _ _ (sym (c .before .before .before .before .number .ensures) ∙ c .before .before .before .if1 .left) (c .before .before .if2 .left) (c .before .if3 .taken) (c .refused3 .ensures)
+    let accepted = sym (c .before .before .before .before .number .ensures) ∙ c .before .before .before .if1 .left in
+    refused-sizes _ _ _ _ accepted (c .before .before .if2 .left) (c .before .if3 .taken) (c .refused3 .ensures)
 
 remove-requires : tie.Need-remove-requires
 remove-requires c κs =
-    given _ _ _ (sym (c .before .before .before .before .before .number .ensures) ∙ c .before .before .before .before .if1 .left) (c .before .before .before .if2 .left) (c .before .before .if3 .left)
+    let accepted = sym (c .before .before .before .before .before .number .ensures) ∙ c .before .before .before .before .if1 .left in
+    given _ _ _ accepted (c .before .before .before .if2 .left) (c .before .before .if3 .left)
 
 same-length : tie.Need-same-length
 same-length c = search needs
@@ -41,7 +44,9 @@ same-length-2 c = search needs
 
 returns-4 : tie.Need-returns-4
 returns-4 c =
-    done _ _ _ (sym (c .before .before .before .before .before .before .before .before .before .before .number .ensures) ∙ c .before .before .before .before .before .before .before .before .before .if1 .left) (c .before .before .before .before .before .before .before .before .if2 .left) (c .before .before .before .before .before .before .before .if3 .left) _ _ _ _ (c .before .before .before .before .remove .ensures)
+    let before = c .before .before .before .before .before .before .before in
+    let accepted = sym (before .before .before .before .number .ensures) ∙ before .before .before .if1 .left in
+    done _ _ _ accepted (before .before .if2 .left) (before .if3 .left) _ _ _ _ (c .before .before .before .before .remove .ensures)
 
 pub remove-degenerate-faces-spec : {M : Type 1} → statement M
 remove-degenerate-faces-spec =

@@ -4,7 +4,7 @@ use mathlib.Core.Path.{sym}
 use lib.ListN.{length-replicate}
 use lib.Seq.{length-take-le}
 use Rattle.mesh.specs.Limits.{faceLimit, cornerNumbers}
-use Rattle.folded.proofs.OneFace.{placed-as}
+use Rattle.oneface.proofs.OneFace.{placed-as}
 use Rattle.folded.proofs.Scratch.{few-corners, few-faces, pieces-sound, pieces-corners, pieces-sizes, pieces-grouped}
 use native.Mathlib.Omega.{arith}
 use borrow.Author.Needs.{needs}
@@ -22,31 +22,53 @@ all-pieces-requires c κs = search needs
 
 mul-c : tie.Need-mul-c
 mul-c c =
-    omega (arith, few-corners _ _ _ _ _ _ _ _ _ _ (c .before .before .before .before .before .before .before .before .before .before .pre) (length-replicate {A = ℕ} cornerNumbers 0) (length-replicate {A = ℕ} faceLimit 0) (c .before .before .before .all-pieces .ensures))
+    let pre = c .before .before .before .before .before .before .before .before .before .before .pre in
+    let put = c .before .before .before .all-pieces .ensures in
+    let blank = length-replicate {A = ℕ} cornerNumbers 0 in
+    let blank-2 = length-replicate {A = ℕ} faceLimit 0 in
+    omega (arith, few-corners _ _ _ _ _ _ _ _ _ _ pre blank blank-2 put)
 
 array-share-prefix-pieces : tie.Need-array-share-prefix-pieces
 array-share-prefix-pieces c =
-    omega (arith, few-corners _ _ _ _ _ _ _ _ _ _ (c .before .before .before .before .before .before .before .before .before .before .pre) (length-replicate {A = ℕ} cornerNumbers 0) (length-replicate {A = ℕ} faceLimit 0) (c .before .before .before .all-pieces .ensures), c .before .before .before .before .before .before .before .before .before .before .pre .fit .sound .fits)
+    let pre = c .before .before .before .before .before .before .before .before .before .before .pre in
+    let put = c .before .before .before .all-pieces .ensures in
+    let blank = length-replicate {A = ℕ} cornerNumbers 0 in
+    let blank-2 = length-replicate {A = ℕ} faceLimit 0 in
+    omega (arith, few-corners _ _ _ _ _ _ _ _ _ _ pre blank blank-2 put, pre .fit .sound .fits)
 
 slice-aggregate-push-all : tie.Need-slice-aggregate-push-all
 slice-aggregate-push-all c =
-    sym (length-take-le _ _ (omega (arith, few-corners _ _ _ _ _ _ _ _ _ _ (c .before .before .before .before .before .before .before .before .before .before .before .pre) (length-replicate {A = ℕ} cornerNumbers 0) (length-replicate {A = ℕ} faceLimit 0) (c .before .before .before .before .all-pieces .ensures), c .before .before .before .before .before .before .before .before .before .before .before .pre .fit .sound .fits)))
+    let pre = c .before .before .before .before .before .before .before .before .before .before .before .pre in
+    let put = c .before .before .before .before .all-pieces .ensures in
+    let blank = length-replicate {A = ℕ} cornerNumbers 0 in
+    let blank-2 = length-replicate {A = ℕ} faceLimit 0 in
+    sym (length-take-le _ _ (omega (arith, few-corners _ _ _ _ _ _ _ _ _ _ pre blank blank-2 put, pre .fit .sound .fits)))
 
 array-share-prefix-lens : tie.Need-array-share-prefix-lens
 array-share-prefix-lens c =
-    omega (arith, few-faces _ _ _ _ _ _ _ _ _ _ (c .before .before .before .before .before .before .before .before .before .before .before .pre) (length-replicate {A = ℕ} cornerNumbers 0) (length-replicate {A = ℕ} faceLimit 0) (c .before .before .before .before .all-pieces .ensures), c .before .before .before .before .before .before .before .before .before .before .before .pre .fit .sound .fits)
+    let pre = c .before .before .before .before .before .before .before .before .before .before .before .pre in
+    let put = c .before .before .before .before .all-pieces .ensures in
+    let blank = length-replicate {A = ℕ} cornerNumbers 0 in
+    let blank-2 = length-replicate {A = ℕ} faceLimit 0 in
+    omega (arith, few-faces _ _ _ _ _ _ _ _ _ _ pre blank blank-2 put, pre .fit .sound .fits)
 
 slice-aggregate-push-all-2 : tie.Need-slice-aggregate-push-all-2
 slice-aggregate-push-all-2 c =
-    sym (length-take-le _ _ (omega (arith, few-faces _ _ _ _ _ _ _ _ _ _ (c .before .before .before .before .before .before .before .before .before .before .before .before .pre) (length-replicate {A = ℕ} cornerNumbers 0) (length-replicate {A = ℕ} faceLimit 0) (c .before .before .before .before .before .all-pieces .ensures), c .before .before .before .before .before .before .before .before .before .before .before .before .pre .fit .sound .fits)))
+    let pre = c .before .before .before .before .before .before .before .before .before .before .before .before .pre in
+    let put = c .before .before .before .before .before .all-pieces .ensures in
+    let blank = length-replicate {A = ℕ} cornerNumbers 0 in
+    let blank-2 = length-replicate {A = ℕ} faceLimit 0 in
+    sym (length-take-le _ _ (omega (arith, few-faces _ _ _ _ _ _ _ _ _ _ pre blank blank-2 put, pre .fit .sound .fits)))
 
 push-all-requires : tie.Need-push-all-requires
 push-all-requires c κs =
-    let y = c .before .before .before .before .before .before .before .before .before .before .before .before .before .before .pre in
-    let w = c .before .before .before .before .before .before .before .all-pieces .ensures in
-    let p = length-replicate {A = ℕ} cornerNumbers 0 in
-    let q = length-replicate {A = ℕ} faceLimit 0 in
-    (pieces-sound _ _ _ _ _ _ _ _ _ _ y p q w, (pieces-corners _ _ _ _ _ _ _ _ _ _ y p q w, pieces-sizes _ _ _ _ _ _ _ _ _ _ y p q w))
+    let pre = c .before .before .before .before .before .before .before .before .before .before .before .before .before .before .pre in
+    let put = c .before .before .before .before .before .before .before .all-pieces .ensures in
+    let blank = length-replicate {A = ℕ} cornerNumbers 0 in
+    let blank-2 = length-replicate {A = ℕ} faceLimit 0 in (
+      pieces-sound _ _ _ _ _ _ _ _ _ _ pre blank blank-2 put,
+      (pieces-corners _ _ _ _ _ _ _ _ _ _ pre blank blank-2 put, pieces-sizes _ _ _ _ _ _ _ _ _ _ pre blank blank-2 put),
+    )
 
 same-length : tie.Need-same-length
 same-length c = search needs
@@ -56,7 +78,11 @@ same-length-2 c = search needs
 
 returns : tie.Need-returns
 returns c =
-    placed-as (pieces-grouped _ _ _ _ _ _ _ _ _ _ (c .before .before .before .before .before .before .before .before .before .before .before .before .before .before .before .before .before .before .before .pre) (length-replicate {A = ℕ} cornerNumbers 0) (length-replicate {A = ℕ} faceLimit 0) (c .before .before .before .before .before .before .before .before .before .before .before .before .all-pieces .ensures)) (c .before .before .before .before .push-all .ensures)
+    let pre = c .before .before .before .before .before .before .before .before .before .before .before .before .before .before .before .before .before .before .before .pre in
+    let put = c .before .before .before .before .before .before .before .before .before .before .before .before .all-pieces .ensures in
+    let blank = length-replicate {A = ℕ} cornerNumbers 0 in
+    let blank-2 = length-replicate {A = ℕ} faceLimit 0 in
+    placed-as (pieces-grouped _ _ _ _ _ _ _ _ _ _ pre blank blank-2 put) (c .before .before .before .before .push-all .ensures)
 
 pub remove-larger-spec : {M : Type 1} → statement M
 remove-larger-spec =

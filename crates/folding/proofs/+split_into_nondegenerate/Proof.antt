@@ -49,8 +49,12 @@ module _ (t : ℕ) where
   pair-of-requires c κs = search needs
 
   -- where a pair is found, the ring is cut there
-  cut-here : (c : lts.Then1 claims (at t) reads.Post) → Cut (c .before .before .before .before .args .n) (c .before .pair-of .result .i) (c .before .pair-of .result .j)
-  cut-here c = cut (c .before .before .before .before .args .poly) _ _ _ (c .before .before .before .before .good .0 .1 .0 .1) (c .before .before .before .before .pre .1 .small) (c .before .pair-of .ensures) (c .if1 .taken)
+  cut-here :
+      (c : lts.Then1 claims (at t) reads.Post)
+      → Cut (c .before .before .before .before .args .n) (c .before .pair-of .result .i) (c .before .pair-of .result .j)
+  cut-here c =
+      let start = c .before .before .before .before in
+      cut (start .args .poly) _ _ _ (start .good .0 .1 .0 .1) (start .pre .1 .small) (c .before .pair-of .ensures) (c .if1 .taken)
 
   sub-m : lts.Need-sub-m claims (at t) reads.Post
   sub-m c = omega (arith, cut-here c .ordered)
@@ -61,21 +65,25 @@ module _ (t : ℕ) where
   split-requires : lts.Need-split-into-nondegenerate-requires claims (at t) reads.Post
   split-requires c κs =
       let k = cut-here (c .before .before .before) in
-      (omega (arith, k .ordered, k .within, c .before .before .before .before .before .before .before .pre .0), room-one _ _ _ _ _ _ _ k (c .before .before .before .before .before .before .before .pre .1))
+      let start = c .before .before .before .before .before .before .before in
+      (omega (arith, k .ordered, k .within, start .pre .0), room-one _ _ _ _ _ _ _ k (start .pre .1))
 
   ring-two-requires : lts.Need-ring-two-requires claims (at t) reads.Post
   ring-two-requires c κs = cut-here (c .before .before .before .before .before .before .before .before)
 
   sub-split : lts.Need-sub-split-into-nondegenerate claims (at t) reads.Post
-  sub-split c = let k = cut-here (c .before .before .before .before .before .before .before .before .before) in omega (arith, k .ordered, k .within)
+  sub-split c =
+      let k = cut-here (c .before .before .before .before .before .before .before .before .before) in
+      omega (arith, k .ordered, k .within)
 
   split-requires-2 : lts.Need-split-into-nondegenerate-requires-2 claims (at t) reads.Post
   split-requires-2 c κs =
       let k = cut-here (c .before .before .before .before .before .before .before .before .before .before .before) in
+      let start = c .before .before .before .before .before .before .before .before .before .before .before .before .before .before .before in
       let one = c .before .before .before .before .before .before .before .before .before .before .ring-one in
       let s = c .before .before .before .before .before .before .before .split-into-nondegenerate in (
-        omega (arith, k .ordered, k .within, c .before .before .before .before .before .before .before .before .before .before .before .before .before .before .before .pre .0),
-        room-two _ _ _ (one .result) _ _ _ _ _ _ _ _ k (c .before .before .before .before .before .before .before .before .before .before .before .before .before .before .before .pre .1) (one .ok .1 .0 .1) (s .ensures) (s .kept .1 .1 .0) (s .kept .1 .1 .1 .0),
+        omega (arith, k .ordered, k .within, start .pre .0),
+        room-two _ _ _ (one .result) _ _ _ _ _ _ _ _ k (start .pre .1) (one .ok .1 .0 .1) (s .ensures) (s .kept .1 .1 .0) (s .kept .1 .1 .1 .0),
       )
 
   same-length : lts.Need-same-length claims (at t) reads.Post
@@ -86,19 +94,26 @@ module _ (t : ℕ) where
 
   returns : lts.Need-returns claims (at t) reads.Post
   returns c =
-      let a = c .before .before .before .before .before .before .before .before .before .before .before .before .before .before .before .before .before .before .before .before .args in
+      let start = c .before .before .before .before .before .before .before .before .before .before .before .before .before .before .before .before .before .before .before .before in
+      let a = start .args in
       let p = c .before .before .before .before .before .before .before .before .before .before .before .before .before .before .before .before .before .pair-of in
+      let found = c .before .before .before .before .before .before .before .before .before .before .before .before .before .before .before .before .if1 .taken in
       let one = c .before .before .before .before .before .before .before .before .before .before .before .before .before .before .before .ring-one in
+      let first = c .before .before .before .before .before .before .before .before .before .before .before .before .split-into-nondegenerate in
       let two = c .before .before .before .before .before .before .before .ring-two in
-      cut-placed (a .poly) (a .n) (p .result .i) (p .result .j) (c .before .before .before .before .before .before .before .before .before .before .before .before .before .before .before .before .before .before .before .before .good .0 .1 .0 .1) (c .before .before .before .before .before .before .before .before .before .before .before .before .before .before .before .before .before .before .before .before .pre .1 .small) (p .ensures) (c .before .before .before .before .before .before .before .before .before .before .before .before .before .before .before .before .if1 .taken)
+      let second = c .before .before .before .before .split-into-nondegenerate2 in
+      cut-placed (a .poly) (a .n) (p .result .i) (p .result .j) (start .good .0 .1 .0 .1) (start .pre .1 .small) (p .ensures) found
       (one .result) (two .result) _ _ _ _ _ _ _ _ _ _ _ _ (one .ensures) (two .ensures) (row-threes (one .result) _ (one .ok .1 .1))
-      (c .before .before .before .before .before .before .before .before .before .before .before .before .split-into-nondegenerate .ensures) (c .before .before .before .before .split-into-nondegenerate2 .ensures)
+      (first .ensures) (second .ensures)
 
   put-ring-requires : lts.Need-put-ring-requires claims (at t) reads.Post
   put-ring-requires c κs =
-      let a = c .before .before .before .before .before .before .args in
+      let start = c .before .before .before .before .before .before in
+      let a = start .args in
       let p = c .before .before .before .pair-of in
-      (c .before .before .before .before .before .before .pre .1, not-folded (a .poly) (a .n) (p .result .i) (p .result .j) (c .before .before .before .before .before .before .good .0 .1 .0 .1) (c .before .before .before .before .before .before .pre .1 .small) (p .ensures) (c .before .before .if1 .left))
+      let none = c .before .before .if1 .left in
+      let unfolded = not-folded (a .poly) (a .n) (p .result .i) (p .result .j) (start .good .0 .1 .0 .1) (start .pre .1 .small) (p .ensures) none in
+      (start .pre .1, unfolded)
 
   same-length-3 : lts.Need-same-length-3 claims (at t) reads.Post
   same-length-3 c = search needs

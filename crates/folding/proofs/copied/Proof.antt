@@ -43,11 +43,15 @@ loop-less : tie.Need-loop-less Inv-loop μ-loop
 loop-less c = search needs
 
 loop-again : tie.Need-loop-again Inv-loop μ-loop
-loop-again c = part-turns [] (c .before .before .before .args .t1) _ _ (c .before .before .before .args .a) (c .before .before .before .args .m) _ _ (omega arith) (omega arith) (c .before .before .loop .inv)
+loop-again c =
+    let start = c .before .before .before in
+    part-turns [] (start .args .t1) _ _ (start .args .a) (start .args .m) _ _ (omega arith) (omega arith) (c .before .before .loop .inv)
 
 returns : tie.Need-returns Inv-loop μ-loop
 returns c =
-    copy-ends [] _ _ _ _ _ (omega (arith, length-part (c .before .before .args .t1) (c .before .before .args .a) (c .before .before .args .m) (omega arith))) (c .before .loop .inv)
+    let a = c .before .before .args in
+    let long = length-part (a .t1) (a .a) (a .m) (omega arith) in
+    copy-ends [] _ _ _ _ _ (omega (arith, long)) (c .before .loop .inv)
 
 pub copied-spec : {M : Type 1} → statement M
 copied-spec =

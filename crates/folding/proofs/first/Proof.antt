@@ -4,7 +4,7 @@ use mathlib.Core.Path.{_∙_}
 use lib.ListN.{length}
 use lib.Dec.{ltb}
 use Rattle.lists.proofs.Seeking.{Seeking, seek-begins, seek-turns, seek-finds, seek-ends}
-use Rattle.folding.specs.Folding.{mateOf}
+use Rattle.splitting.specs.Splitting.{mateOf}
 use Rattle.folding.proofs.Search.{first-seeks, mate-found, mate-missing}
 use borrow.Author.Needs.{needs}
 use native.Mathlib.Omega.{arith}

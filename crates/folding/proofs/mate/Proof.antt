@@ -4,7 +4,7 @@ use lib.ListN.{length, getD}
 use lib.Dec.{eqb}
 use borrow.Author.Tests.{eq-eqb, ne-eqb}
 use Rattle.lists.proofs.Seeking.{Seeking, seek-begins, seek-turns, seek-finds, seek-ends}
-use Rattle.folding.specs.Folding.{mateOf}
+use Rattle.splitting.specs.Splitting.{mateOf}
 use borrow.Author.Needs.{needs}
 use native.Mathlib.Omega.{arith}
 use Rattle.folding.proofs.mate.Statement.{statement}

@@ -1,5 +1,7 @@
 -- `folding::pair_of` meets its contract: the search goes over the positions of the first n corners. Assumes nothing.
 use mathlib.Core.Path.{sym}
+use Prim.Native.Nat.{_≤_}
+use lib.ListN.{length, take}
 use lib.Seq.{length-take-le}
 use Rattle.folding.proofs.Cutting.{pair-found, pair-missing}
 use native.Mathlib.Omega.{arith}
@@ -27,15 +29,23 @@ slice-aggregate-mate c = sym (length-take-le _ _ (omega arith))
 
 mate-requires : tie.Need-mate-requires
 mate-requires c κs =
-    rw (length-take-le (c .before .before .before .before .before .args .n) (c .before .before .before .before .places-of .result) (omega arith)) (c .before .if1 .taken)
+    let n = c .before .before .before .before .before .args .n in
+    let places = c .before .before .before .before .places-of .result in
+    rw (length-take-le n places (omega arith)) (c .before .if1 .taken)
 
 returns : tie.Need-returns
 returns c =
-    pair-found (c .before .before .before .before .before .before .args .poly) (c .before .before .before .before .before .places-of .result) (c .before .before .before .before .before .before .args .n) _ _ (c .before .before .before .before .before .places-of .ensures) (c .before .before .before .first .ensures) (c .mate .ensures)
+    let a = c .before .before .before .before .before .before .args in
+    let places = c .before .before .before .before .before .places-of in
+    pair-found (a .poly) (places .result) (a .n) _ _ (places .ensures) (c .before .before .before .first .ensures) (c .mate .ensures)
 
 returns-2 : tie.Need-returns-2
 returns-2 c =
-    pair-missing (c .before .before .before .before .args .poly) (c .before .before .before .places-of .result) (c .before .before .before .before .args .n) (c .before .first .result) _ (c .before .before .before .places-of .ensures) (c .before .first .ensures) (rw (length-take-le (c .before .before .before .before .args .n) (c .before .before .before .before .args .poly) (omega arith)) (c .if1 .left))
+    let a = c .before .before .before .before .args in
+    let places = c .before .before .before .places-of in
+    let first = c .before .first in
+    let none : length (take (a .n) (a .poly)) ≤ first .result = rw (length-take-le (a .n) (a .poly) (omega arith)) (c .if1 .left) in
+    pair-missing (a .poly) (places .result) (a .n) (first .result) _ (places .ensures) (first .ensures) none
 
 pub pair-of-spec : {M : Type 1} → statement M
 pair-of-spec =

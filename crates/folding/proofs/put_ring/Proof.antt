@@ -6,7 +6,8 @@ use Rattle.folding.proofs.put_ring.Tie as tie
 
 returns : tie.Need-returns
 returns c =
-    ring-none (c .before .before .before .args .poly) (c .before .before .before .args .n) (c .before .before .before .good .0 .1 .0 .1) (c .before .before .before .pre .0 .small) (c .before .before .before .pre .1) _ _ _ _ (c .if1 .taken)
+    let start = c .before .before .before in
+    ring-none (start .args .poly) (start .args .n) (start .good .0 .1 .0 .1) (start .pre .0 .small) (start .pre .1) _ _ _ _ (c .if1 .taken)
 
 mul-put-row : tie.Need-mul-put-row
 mul-put-row c = search needs
@@ -37,7 +38,10 @@ same-length-2 c = search needs
 
 returns-2 : tie.Need-returns-2
 returns-2 c =
-    ring-put (c .before .before .before .before .before .before .before .args .poly) (c .before .before .before .before .before .before .before .args .n) (c .before .before .before .before .before .before .before .good .0 .1 .0 .1) (c .before .before .before .before .before .before .before .pre .0 .small) (c .before .before .before .before .before .before .before .pre .1) _ _ _ _ _ (c .before .before .before .before .if1 .left) (c .before .before .put-row .ensures)
+    let start = c .before .before .before .before .before .before .before in
+    let long = c .before .before .before .before .if1 .left in
+    let put = c .before .before .put-row .ensures in
+    ring-put (start .args .poly) (start .args .n) (start .good .0 .1 .0 .1) (start .pre .0 .small) (start .pre .1) _ _ _ _ _ long put
 
 pub put-ring-spec : {M : Type 1} → statement M
 put-ring-spec =

@@ -38,7 +38,10 @@ loop-less c = search needs
 
 loop-again : tie.Need-loop-again Inv-loop μ-loop
 loop-again c =
-    write-turns (c .before .before .before .before .before .before .before .before .args .t1) _ _ _ _ _ _ (row-threes (c .before .before .before .before .before .before .before .before .args .t1) _ (c .before .before .before .before .before .before .before .before .good .0 .1 .1)) (omega arith) (omega arith) (c .before .before .put-corner .ensures) (c .before .before .before .before .before .before .loop .inv)
+    let start = c .before .before .before .before .before .before .before .before in
+    let row = start .args .t1 in
+    let threes = row-threes row _ (start .good .0 .1 .1) in
+    write-turns row _ _ _ _ _ _ threes (omega arith) (omega arith) (c .before .before .put-corner .ensures) (c .before .before .before .before .before .before .loop .inv)
 
 same-length : tie.Need-same-length Inv-loop μ-loop
 same-length c = search needs

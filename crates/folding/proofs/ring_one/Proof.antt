@@ -15,7 +15,9 @@ copied-requires c κs = search needs
 
 returns : tie.Need-returns
 returns c =
-    ap (take (c .before .args .j - c .before .args .i)) (c .copied .ensures) ∙ one-cut _ (c .before .args .n) _ _ (c .before .good .0 .1 .0 .1) (c .before .pre)
+    let start = c .before in
+    let m = start .args .j - start .args .i in
+    ap (take m) (c .copied .ensures) ∙ one-cut _ (start .args .n) _ _ (start .good .0 .1 .0 .1) (start .pre)
 
 pub ring-one-spec : {M : Type 1} → statement M
 ring-one-spec = tie.close (tie.spec sub-copied copied-requires returns)

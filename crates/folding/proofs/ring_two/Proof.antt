@@ -21,7 +21,11 @@ copied-requires-2 c κs = search needs
 
 returns : tie.Need-returns
 returns c =
-    ap (take (c .before .before .args .n - (c .before .before .args .j - c .before .before .args .i))) (c .copied2 .ensures) ∙ two-cut _ _ (c .before .before .args .n) _ _ (c .before .before .good .0 .1 .0 .1) (c .before .before .pre) (c .before .copied .ensures)
+    let start = c .before .before in
+    let n = start .args .n in
+    let m = start .args .j - start .args .i in
+    ap (take (n - m)) (c .copied2 .ensures)
+    ∙ two-cut _ _ n _ _ (start .good .0 .1 .0 .1) (start .pre) (c .before .copied .ensures)
 
 pub ring-two-spec : {M : Type 1} → statement M
 ring-two-spec =

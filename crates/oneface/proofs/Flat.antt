@@ -1,0 +1,110 @@
+-- A face's flat part of the list of corners, read corner by corner: a triangle, a quadrangle, a row. Assumes nothing.
+use mathlib.Core.Path.{_≡_, sym, ap, _∙_}
+use mathlib.Core.Bool.{true}
+use mathlib.Core.List.{List, [], _∷_, map}
+use Prim.Native.Nat.{ℕ, suc, _+_, _*_, _≤_, _<_}
+use native.Mathlib.Omega.{arith}
+use lib.ListN.{length, getD, take, set, length-map, List·getD-map, drop-of-length-le}
+use lib.Seq.{sets}
+use borrow.Author.Tests.{eqb-true}
+use Rattle.lists.specs.Lists.{every, joined}
+use Rattle.lists.proofs.Bools.{and-left, and-right}
+use Rattle.lists.proofs.Writing.{Copying, copy-ends, sets-append}
+use Rattle.lists.proofs.Copies.{front-turns, take-written}
+use Rattle.mesh.specs.Limits.{width}
+use Rattle.mesh.specs.Mesh.{Corner, Ring, position, threes, cornerAt}
+use Rattle.mesh.proofs.Corners.{isCorner, threes-step, length-threes, getD-threes}
+use Rattle.grouping.specs.Push.{Placed}
+use Rattle.folding.proofs.Placing.{placed-ring}
+
+-- three corners, four corners
+pub threes-3 : (cs : List ℕ) → length cs ≡ width * 3 → threes cs ≡ cornerAt cs 0 ∷ cornerAt cs 1 ∷ cornerAt cs 2 ∷ []
+threes-3 cs h =
+    let z : length cs ≤ width * 3 = omega arith in
+    threes-step cs 0 (omega arith)
+    ∙ ap (λ (r : Ring). cornerAt cs 0 ∷ r) (threes-step cs 1 (omega arith))
+    ∙ ap (λ (r : Ring). cornerAt cs 0 ∷ cornerAt cs 1 ∷ r) (threes-step cs 2 (omega arith))
+    ∙ ap (λ (l : List ℕ). cornerAt cs 0 ∷ cornerAt cs 1 ∷ cornerAt cs 2 ∷ threes l) (drop-of-length-le cs z)
+
+pub threes-4 : (cs : List ℕ) → length cs ≡ width * 4 → threes cs ≡ cornerAt cs 0 ∷ cornerAt cs 1 ∷ cornerAt cs 2 ∷ cornerAt cs 3 ∷ []
+threes-4 cs h =
+    let z : length cs ≤ width * 4 = omega arith in
+    threes-step cs 0 (omega arith)
+    ∙ ap (λ (r : Ring). cornerAt cs 0 ∷ r) (threes-step cs 1 (omega arith))
+    ∙ ap (λ (r : Ring). cornerAt cs 0 ∷ cornerAt cs 1 ∷ r) (threes-step cs 2 (omega arith))
+    ∙ ap (λ (r : Ring). cornerAt cs 0 ∷ cornerAt cs 1 ∷ cornerAt cs 2 ∷ r) (threes-step cs 3 (omega arith))
+    ∙ ap (λ (l : List ℕ). cornerAt cs 0 ∷ cornerAt cs 1 ∷ cornerAt cs 2 ∷ cornerAt cs 3 ∷ threes l) (drop-of-length-le cs z)
+
+-- The positions of a face under way: the first k are read.
+module _ (cs : List ℕ) (n : ℕ) (h : length cs ≡ width * n) where
+  corners : length (threes cs) ≡ n
+  corners = length-threes cs ∙ (omega arith)
+
+  pub places-turn : (l l' : List ℕ) (k : ℕ) → k < n → Copying (map position (threes cs)) l l' 0 k
+      → Copying (map position (threes cs)) l (set l' k (getD cs (width * k) 0)) 0 (k + 1)
+  places-turn l l' k b c =
+      let m : length (map position (threes cs)) ≡ n = length-map (threes cs) position ∙ corners in
+      let e : getD (map position (threes cs)) k 0 ≡ getD cs (width * k) 0 =
+      List·getD-map position (threes cs) k [] ∙ ap position (getD-threes cs k (omega arith)) in
+      rw e at (front-turns 0 (map position (threes cs)) l l' k (omega arith) c)
+
+  pub places-end : (l l' : List ℕ) (k : ℕ) → n ≤ length l → n ≤ k → Copying (map position (threes cs)) l l' 0 k → take n l' ≡ map position (threes cs)
+  places-end l l' k b a c =
+      let m : length (map position (threes cs)) ≡ n = length-map (threes cs) position ∙ corners in
+      ap (take n) (copy-ends 0 (map position (threes cs)) l l' 0 k (omega arith) c) ∙ take-written l (map position (threes cs)) n m b
+
+  -- the row
+  pub row-turn : (l l' : Ring) (k : ℕ) → k < n → Copying (threes cs) l l' 0 k → Copying (threes cs) l (set l' k (cornerAt cs k)) 0 (k + 1)
+  row-turn l l' k b c = rw (getD-threes cs k (omega arith)) at (front-turns [] (threes cs) l l' k (omega (arith, corners)) c)
+
+  pub row-end : (l l' : Ring) (k : ℕ) → n ≤ length l → n ≤ k → Copying (threes cs) l l' 0 k → take n l' ≡ threes cs
+  row-end l l' k b a c =
+      ap (take n) (copy-ends [] (threes cs) l l' 0 k (omega (arith, corners)) c) ∙ take-written l (threes cs) n corners b
+
+-- ---- corners that are written one behind the other
+
+-- one corner, and then the rest of the ring
+corner-then : (x : Corner) (r : Ring) (o o1 : List ℕ) (b : ℕ) → isCorner x ≡ true → o1 ≡ sets o b x → sets o b (joined (x ∷ r)) ≡ sets o1 (b + width) (joined r)
+corner-then x r o o1 b w e =
+    sets-append o b x (joined r)
+    ∙ ap (λ (k : ℕ). sets (sets o b x) (b + k) (joined r)) (eqb-true (length x) width w)
+    ∙ ap (λ (l : List ℕ). sets l (b + width) (joined r)) (sym e)
+
+triangle-written : (t : Ring) (o o1 o2 o3 : List ℕ) (b : ℕ) → length t ≡ 3 → every isCorner t ≡ true → o1 ≡ sets o b (getD t 0 [])
+    → o2 ≡ sets o1 (b + width) (getD t 1 []) → o3 ≡ sets o2 (b + width * 2) (getD t 2 []) → o3 ≡ sets o b (joined t)
+triangle-written [] o o1 o2 o3 b h w e f g = absurd (let z : _≡_ {A = ℕ} 0 3 = h in omega arith)
+triangle-written (x ∷ []) o o1 o2 o3 b h w e f g = absurd (let z : _≡_ {A = ℕ} 1 3 = h in omega arith)
+triangle-written (x ∷ y ∷ []) o o1 o2 o3 b h w e f g = absurd (let z : _≡_ {A = ℕ} 2 3 = h in omega arith)
+triangle-written (x ∷ y ∷ z ∷ []) o o1 o2 o3 b h w e f g =
+    let v = and-right (isCorner x) (every isCorner (y ∷ z ∷ [])) w in
+    let u = and-right (isCorner y) (every isCorner (z ∷ [])) v in
+    let i : b + width + width ≡ b + width * 2 = omega arith in
+    sym (corner-then x (y ∷ z ∷ []) o o1 b (and-left (isCorner x) (every isCorner (y ∷ z ∷ [])) w) e
+    ∙ corner-then y (z ∷ []) o1 o2 (b + width) (and-left (isCorner y) (every isCorner (z ∷ [])) v) f
+    ∙ ap (λ (k : ℕ). sets o2 k (joined (z ∷ []))) i
+    ∙ corner-then z [] o2 o3 (b + width * 2) (and-left (isCorner z) true u) g)
+triangle-written (x ∷ y ∷ z ∷ u ∷ t) o o1 o2 o3 b h w e f g = absurd (let q : suc (suc (suc (suc (length t)))) ≡ 3 = h in omega arith)
+
+pub triangle-placed : (t : Ring) (o o1 o2 o3 l : List ℕ) (c f : ℕ) → length t ≡ 3 → every isCorner t ≡ true → o1 ≡ sets o (width * c) (getD t 0 [])
+    → o2 ≡ sets o1 (width * c + width) (getD t 1 []) → o3 ≡ sets o2 (width * c + width * 2) (getD t 2 []) → Placed (t ∷ []) o o3 l (set l f 3) c f (c + 3) (f + 1)
+triangle-placed t o o1 o2 o3 l c f h w x y z =
+    rw h at (placed-ring t o o3 l c f (triangle-written t o o1 o2 o3 (width * c) h w x y z))
+
+quadrangle-written : (t : Ring) (o o1 o2 o3 o4 : List ℕ) (b : ℕ) → length t ≡ 4 → every isCorner t ≡ true → o1 ≡ sets o b (getD t 0 [])
+    → o2 ≡ sets o1 (b + width) (getD t 1 []) → o3 ≡ sets o2 (b + width * 2) (getD t 2 []) → o4 ≡ sets o3 (b + width * 3) (getD t 3 []) → o4 ≡ sets o b (joined t)
+quadrangle-written [] o o1 o2 o3 o4 b h w e f g j = absurd (let z : _≡_ {A = ℕ} 0 4 = h in omega arith)
+quadrangle-written (x ∷ t) o o1 o2 o3 o4 b h w e f g j =
+    let i : b + width + width ≡ b + width * 2 = omega arith in
+    let k : b + width + width * 2 ≡ b + width * 3 = omega arith in
+    let v = and-right (isCorner x) (every isCorner t) w in
+    let l : length t ≡ 3 = let z : suc (length t) ≡ 4 = h in omega arith in
+    let g' = g ∙ ap (λ (n : ℕ). sets o2 n (getD t 1 [])) (sym i) in
+    let j' = j ∙ ap (λ (n : ℕ). sets o3 n (getD t 2 [])) (sym k) in
+    sym (corner-then x t o o1 b (and-left (isCorner x) (every isCorner t) w) e
+    ∙ sym (triangle-written t o1 o2 o3 o4 (b + width) l v f g' j'))
+
+pub quadrangle-placed : (t : Ring) (o o1 o2 o3 o4 l : List ℕ) (c f : ℕ) → length t ≡ 4 → every isCorner t ≡ true → o1 ≡ sets o (width * c) (getD t 0 [])
+    → o2 ≡ sets o1 (width * c + width) (getD t 1 []) → o3 ≡ sets o2 (width * c + width * 2) (getD t 2 []) → o4 ≡ sets o3 (width * c + width * 3) (getD t 3 [])
+    → Placed (t ∷ []) o o4 l (set l f 4) c f (c + 4) (f + 1)
+quadrangle-placed t o o1 o2 o3 o4 l c f h w x y z u =
+    rw h at (placed-ring t o o4 l c f (quadrangle-written t o o1 o2 o3 o4 (width * c) h w x y z u))

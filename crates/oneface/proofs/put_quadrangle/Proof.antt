@@ -1,0 +1,106 @@
+-- `oneface::put_quadrangle` meets its contract: four corners, one behind the other. Assumes nothing.
+use Rattle.folding.proofs.Rows.{row-threes}
+use Rattle.oneface.proofs.Flat.{quadrangle-placed}
+use borrow.Author.Needs.{needs}
+use Rattle.oneface.proofs.put_quadrangle.Statement.{statement}
+use Rattle.oneface.proofs.put_quadrangle.Tie as tie
+
+array-copy-out-put-corner : tie.Need-array-copy-out-put-corner
+array-copy-out-put-corner c = search needs
+
+mul-put-corner : tie.Need-mul-put-corner
+mul-put-corner c = search needs
+
+put-corner-requires : tie.Need-put-corner-requires
+put-corner-requires c κs = search needs
+
+array-copy-out-put-corner-2 : tie.Need-array-copy-out-put-corner-2
+array-copy-out-put-corner-2 c = search needs
+
+mul-put-corner-2 : tie.Need-mul-put-corner-2
+mul-put-corner-2 c = search needs
+
+add-put-corner : tie.Need-add-put-corner
+add-put-corner c = search needs
+
+put-corner-requires-2 : tie.Need-put-corner-requires-2
+put-corner-requires-2 c κs = search needs
+
+array-copy-out-put-corner-3 : tie.Need-array-copy-out-put-corner-3
+array-copy-out-put-corner-3 c = search needs
+
+mul-put-corner-3 : tie.Need-mul-put-corner-3
+mul-put-corner-3 c = search needs
+
+add-put-corner-2 : tie.Need-add-put-corner-2
+add-put-corner-2 c = search needs
+
+put-corner-requires-3 : tie.Need-put-corner-requires-3
+put-corner-requires-3 c κs = search needs
+
+array-copy-out-put-corner-4 : tie.Need-array-copy-out-put-corner-4
+array-copy-out-put-corner-4 c = search needs
+
+mul-put-corner-4 : tie.Need-mul-put-corner-4
+mul-put-corner-4 c = search needs
+
+add-put-corner-3 : tie.Need-add-put-corner-3
+add-put-corner-3 c = search needs
+
+put-corner-requires-4 : tie.Need-put-corner-requires-4
+put-corner-requires-4 c κs = search needs
+
+mul-lens : tie.Need-mul-lens
+mul-lens c = search needs
+
+slice-write-lens : tie.Need-slice-write-lens
+slice-write-lens c = search needs
+
+add-t19 : tie.Need-add-t19
+add-t19 c = search needs
+
+add-t14 : tie.Need-add-t14
+add-t14 c = search needs
+
+same-length : tie.Need-same-length
+same-length c = search needs
+
+same-length-2 : tie.Need-same-length-2
+same-length-2 c = search needs
+
+returns : tie.Need-returns
+returns c =
+    let start = c .before .before .before .before .before .before .before .before .before .before .before .before .before .before .before .before .before .before .before .before .before .before in
+    let quad = start .args .t1 in
+    let threes = row-threes quad _ (start .good .0 .1 .1) in
+    let first = c .before .before .before .before .before .before .before .before .before .before .before .before .before .before .before .before .before .put-corner .ensures in
+    let second = c .before .before .before .before .before .before .before .before .before .before .before .before .put-corner2 .ensures in
+    let third = c .before .before .before .before .before .before .before .put-corner3 .ensures in
+    quadrangle-placed quad _ _ _ _ _ _ _ _ (start .good .0 .1 .0 .1) threes first second third (c .before .before .put-corner4 .ensures)
+
+pub put-quadrangle-spec : {M : Type 1} → statement M
+put-quadrangle-spec =
+    tie.close
+    (tie.spec
+    array-copy-out-put-corner
+    mul-put-corner
+    put-corner-requires
+    array-copy-out-put-corner-2
+    mul-put-corner-2
+    add-put-corner
+    put-corner-requires-2
+    array-copy-out-put-corner-3
+    mul-put-corner-3
+    add-put-corner-2
+    put-corner-requires-3
+    array-copy-out-put-corner-4
+    mul-put-corner-4
+    add-put-corner-3
+    put-corner-requires-4
+    mul-lens
+    slice-write-lens
+    add-t19
+    add-t14
+    same-length
+    same-length-2
+    returns)

@@ -1,0 +1,2 @@
+-- steps of the code; the rules stand in folding's specs/Folding.antt
+pub mod Working
