@@ -49,9 +49,9 @@ verdictNumber Verdict.Oriented = 2
 verdictNumber Verdict.Closed = 3
 
 -- the verdict of a mesh: it is answered only with 0
-pub record VerdictAnswer (m : Mesh) (before behind number : ℕ) : Type 0 where
+pub record VerdictAnswer (m : Mesh) (before afterwards number : ℕ) : Type 0 where
   pub returned : number ≡ meshNumber m
-  pub answered : behind ≡ after number (verdictNumber (verdict (meshEdgesOf m))) before
+  pub answered : afterwards ≡ after number (verdictNumber (verdict (meshEdgesOf m))) before
 
 -- what hem edges answer: the number returned, and how many there are
 abbrev pub hemmedBy : ℕ → ℕ → HemEdges

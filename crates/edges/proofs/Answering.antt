@@ -75,8 +75,8 @@ module _ (m : Mesh) (starts ends : List ℕ) where
       record {
         number = e;
         count = sym (refused (length (hems (meshEdgesOf m))) 0 (hemNumber m (length starts) (length ends)) z);
-        starting = sym (refused (sets starts 0 (map start (hems (meshEdgesOf m)))) starts (hemNumber m (length starts) (length ends)) z);
-        ending = sym (refused (sets ends 0 (map end (hems (meshEdgesOf m)))) ends (hemNumber m (length starts) (length ends)) z);
+        starting = sym (refused _ starts (hemNumber m (length starts) (length ends)) z);
+        ending = sym (refused _ ends (hemNumber m (length starts) (length ends)) z);
       }
 
   module _ (n : ℕ) (e : n ≡ meshNumber m) where

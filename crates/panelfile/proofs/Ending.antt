@@ -23,10 +23,16 @@ use Rattle.grouping.proofs.Pushed.{every-pushed}
 use Rattle.grouping.proofs.Accepting.{threes-flat, accepted-faces}
 use Rattle.panelfile.specs.declared.Progress.{Progress}
 use Rattle.panelfile.specs.declared.Panel.{Panel}
-use Rattle.panelfile.specs.Reading.{Drawn, readAll, meshDrawn, finish, fullRoom, panelNumber, panelMesh}
+use Rattle.panelfile.specs.Reading.{Drawn, Reader, readAll, meshDrawn, finish, fullRoom, panelNumber, panelMesh}
 use Rattle.panelfile.specs.Working.{Drawing, Full}
 use Rattle.panelfile.specs.Answer.{PanelRead, Handed, refusedWith}
 use Rattle.panelfile.proofs.Sane.{all-sane}
+
+-- a refusal's number stands, whatever is looked at behind it
+stands : (s : List ℕ) (z : Reader) (k : ℕ) → (k ≡ 0 → ⊥) → z .number ≡ k → k ≡ finish s z
+unfolding finish
+stands s z zero h e = absurd (h refl)
+stands s z (suc k) h e = rw e
 
 module _ (file : List ℕ) (x : Progress) (p t n : List Float) (c s : List ℕ) (d : Drawing file x p t n c s) where
   abbrev drawn : Drawn
@@ -70,9 +76,7 @@ module _ (file : List ℕ) (x : Progress) (p t n : List Float) (c s : List ℕ) 
 
   -- ---- the number at the end
   pub end-refused : (x .number ≡ 0 → ⊥) → x .number ≡ finish file (readAll file)
-  unfolding finish
-  end-refused h =
-      d .holds .refusal ∙ sym (first-is (readAll file .number) (when (ltb (readAll file .at) (length file)) 13 ∷ when (some (astrayAt (meshDrawn drawn)) (joined (drawn .faces))) 5 ∷ []) (λ e. h (d .holds .refusal ∙ e)))
+  end-refused h = stands file (readAll file) (x .number) h (sym (d .holds .refusal))
 
   pub end-follows : x .number ≡ 0 → x .at < length file → 13 ≡ finish file (readAll file)
   unfolding finish

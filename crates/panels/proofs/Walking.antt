@@ -59,7 +59,7 @@ module _ (f x : ℕ) (seen stack flat : List ℕ) (top n : ℕ) (l : Listing f s
   -- a face that is listed changes nothing
   pub visit-skips : (getD seen x 0 ≡ 0 → ⊥) → Stepped f (look [] (x ∷ []) (stateOf stack top flat n)) flat n seen stack flat top n
   visit-skips ne = record {
-    state = ap (λ (b : Bool). cond b (stateOf stack top flat n) (x ∷ stackOf stack top, take n flat ++ (x ∷ []))) (sym (is-seen ne));
+    state = rw (is-seen ne);
     listing = l;
     more = omega arith;
     rest = refl;
