@@ -62,7 +62,7 @@ class Kind:
 
 
 class Drawing:
-    """What was read: entries of three kinds, and faces with the lines where they stand."""
+    """What was read: entries of three kinds, and faces with the lines where they stand. Position p is the drawing's v numbers[p] + 1."""
 
     def __init__(self, positions_only=False):
         self.kinds = [
@@ -72,6 +72,7 @@ class Drawing:
         ]
         self.taken = self.kinds[:1] if positions_only else self.kinds
         self.faces = []
+        self.numbers = []
         self.notes = {}
 
     def take(self, line, words):
@@ -116,6 +117,7 @@ class Drawing:
             for corner in corners:
                 for kind, i in zip(self.kinds, corner):
                     kind.check(line, i)
+        self.numbers = list(range(len(self.kinds[0].entries)))
 
     def join_equal(self):
         """Positions with equal coordinates become the first of them; gives back how many went."""
@@ -129,6 +131,7 @@ class Drawing:
         gone = len(positions.entries) - len(kept)
         positions.entries = [positions.entries[i] for i in kept]
         positions.lines = [positions.lines[i] for i in kept]
+        self.numbers = kept
         self.faces = [(line, [(to[c[0]], *c[1:]) for c in corners]) for line, corners in self.faces]
         return gone
 
