@@ -7,13 +7,14 @@ from dataclasses import dataclass
 from xml.sax.saxutils import escape
 
 from panel_format import plain
-from views import SIZE, best_views, scaled
+from views import SIZE, area_of, best_views, scaled
 
 MARK = "made by draw_hems"
 HEMS = ("#c1121f", "#1d4ed8", "#15803d", "#b45309", "#7e22ce", "#0e7490", "#be185d", "#4d7c0f", "#334155", "#9a3412")
 TINTS = ("#f6e7bd", "#cfe3f5", "#d9f0d3", "#f5d5dd", "#e3d7f4", "#cdeeea", "#f7dcc4", "#e4e4e0")
 PANE, HEAD, GAP, ROW = 470, 64, 20, 20
-MOST_ROWS = 80
+MOST_ROWS = 40
+MOST_BADGES = 60  # with more hems than this a small number must do, and positions have none
 
 
 @dataclass
@@ -32,35 +33,55 @@ def shade(tint, by):
 
 
 class Labels:
-    """Places for labels that don't cover one another."""
+    """Places for labels that don't cover one another and, where it can be had, no marked line. Boxes are kept by the cells they touch."""
+
+    CELL = 24
 
     def __init__(self):
-        self.boxes = []
+        self.cells = {}
+
+    def around(self, x, y, w, h):
+        for i in range(int((x - w) // self.CELL), int((x + w) // self.CELL) + 1):
+            for j in range(int((y - h) // self.CELL), int((y + h) // self.CELL) + 1):
+                yield self.cells.setdefault((i, j), [])
+
+    def put(self, box, weight):
+        for cell in self.around(*box):
+            cell.append((box, weight))
+
+    def put_line(self, x1, y1, x2, y2):
+        steps = int(math.hypot(x2 - x1, y2 - y1) // 6) + 1
+        for k in range(steps + 1):
+            self.put((x1 + (x2 - x1) * k / steps, y1 + (y2 - y1) * k / steps, 2, 2), 1)
 
     def clash(self, x, y, w, h):
-        return sum(
-            max(0, min(x + w, X + W) - max(x - w, X - W)) * max(0, min(y + h, Y + H) - max(y - h, Y - H))
-            for X, Y, W, H in self.boxes
-        )
+        """How much is covered of labels, and of labels and lines."""
+        labels = lines = 0.0
+        for cell in self.around(x, y, w, h):
+            for (X, Y, W, H), weight in cell:
+                over = max(0, min(x + w, X + W) - max(x - w, X - W)) * max(0, min(y + h, Y + H) - max(y - h, Y - H))
+                labels += over * (weight > 1)
+                lines += over * weight
+        return labels, lines
 
     def place(self, x, y, w, h, away, distances, must):
-        """Near (x, y), first on the side that points away; None where there is no room and none must be."""
+        """Near (x, y), first on the side that points away; None where a label would be covered and none must be put."""
         best = None
         for distance in distances:
             for turn in (0, 30, -30, 60, -60, 90, -90, 120, -120, 150, -150, 180):
                 angle = away + math.radians(turn)
                 X, Y = x + distance * math.cos(angle), y + distance * math.sin(angle)
-                clash = self.clash(X, Y, w, h)
-                if clash == 0 or best is None or clash < best[0]:
-                    best = (clash, X, Y)
-                if clash == 0:
+                labels, lines = self.clash(X, Y, w, h)
+                if best is None or round(lines, 3) < best[0]:
+                    best = (round(lines, 3), labels, X, Y)
+                if best[0] == 0:
                     break
             if best[0] == 0:
                 break
-        if best[0] > 0 and not must:
+        if best[1] > 0 and not must:
             return None
-        self.boxes.append((best[1], best[2], w, h))
-        return best[1:]
+        self.put((best[2], best[3], w, h), 4)
+        return best[2:]
 
 
 class Pane:
@@ -91,8 +112,9 @@ class Pane:
         order = sorted(range(len(rings)), key=lambda f: (round(sum(flat[p][2] for p in rings[f]) / len(rings[f]), 6), f))
         for f in order:
             points = [flat[p] for p in rings[f]]
-            area = sum(a[0] * b[1] - a[1] * b[0] for a, b in zip(points, points[1:] + points[:1]))
-            fill = shade(TINTS[panels[f] % len(TINTS)], 1.0 if area >= 0 else 0.84)
+            across = area_of(points)
+            slant = across[2] / (math.hypot(*across) or 1.0)
+            fill = shade(TINTS[panels[f] % len(TINTS)], 0.9 + 0.1 * slant if slant >= 0 else 0.8 - 0.06 * slant)
             path = " ".join("{:.1f},{:.1f}".format(*self.at(p)) for p in points)
             yield f'<polygon points="{path}" fill="{fill}" fill-opacity="0.86" stroke="#8d8a80" stroke-width="0.8"/>'
 
@@ -107,6 +129,8 @@ class Pane:
                     style = 'stroke-width="1.6" stroke-dasharray="4 3"' if hidden else f'stroke-width="{3.4 if mark.label else 1.8}"'
                     line = f'<line x1="{x1:.1f}" y1="{y1:.1f}" x2="{x2:.1f}" y2="{y2:.1f}" stroke="{mark.colour}" {style} stroke-linecap="round"/>'
                     (behind if hidden else front).append(line)
+                    if mark.label and not hidden and len(marks) <= MOST_BADGES:
+                        self.labels.put_line(x1, y1, x2, y2)
                     length = round(math.hypot(x2 - x1, y2 - y1) - 1e6 * hidden, 3)
                     if sight is None or length > sight[0]:
                         sight = (length, (x1 + x2) / 2, (y1 + y2) / 2, hidden)
@@ -118,6 +142,9 @@ class Pane:
         for mark, sight in zip(marks, sights):
             if mark.label and sight:
                 _, x, y, hidden = sight
+                if len(marks) > MOST_BADGES:
+                    yield small(x, y + 2.4, mark.label, 7, mark.colour)
+                    continue
                 w = 5 + 4 * len(mark.label)
                 X, Y = self.labels.place(x, y, max(w, 10), 10, self.away(x, y), (16, 24, 34, 46), must=True)
                 yield f'<line x1="{x:.1f}" y1="{y:.1f}" x2="{X:.1f}" y2="{Y:.1f}" stroke="{mark.colour}" stroke-width="1"/>'
@@ -126,7 +153,7 @@ class Pane:
     def numbers(self, marks):
         """The sheet's numbers of the positions along labelled marks, where there is room for them and no cloth before them."""
         seen = set()
-        for mark in marks:
+        for mark in marks if len(marks) <= MOST_BADGES else ():
             for p in (p for edge in mark.edges for p in edge if mark.label):
                 x, y = self.at(self.view.flat[p])
                 if p in seen or self.view.hidden(self.view.flat[p]):
@@ -135,10 +162,15 @@ class Pane:
                 w = 2 + 3.2 * len(str(p))
                 place = self.labels.place(x, y, w, 6, self.away(x, y), (11, 15), must=False)
                 if place:
-                    yield (
-                        f'<text x="{place[0]:.1f}" y="{place[1] + 3.6:.1f}" font-size="10.5" fill="#222" stroke="#fff" stroke-width="2.6" '
-                        f'paint-order="stroke" text-anchor="middle">{p}</text>'
-                    )
+                    yield small(place[0], place[1] + 3.6, p, 10.5, "#222")
+
+
+def small(x, y, text, size, colour):
+    """A number on a white ground that follows its shape."""
+    return (
+        f'<text x="{x:.1f}" y="{y:.1f}" font-size="{size}" fill="{colour}" stroke="#fff" stroke-width="2.6" '
+        f'paint-order="stroke" text-anchor="middle">{text}</text>'
+    )
 
 
 def badge(mark, x, y, hollow=False):
@@ -195,7 +227,8 @@ def svg(title, subtitle, cover, points, marks):
         body += lines
         body += pane.badges(marks, sights)
         body += pane.numbers(marks)
-        body.append(words(left + 6, HEAD + 14, side_of(view) if len(views) > 1 else "", 11.5))
+        if len(views) > 1:
+            body.append(words(left + 6, HEAD + 14, side_of(view), 11.5))
     top = HEAD + (PANE if views else 0) + 30
     below, bottom = key(marks, cover.panels, top)
     width = 2 * PANE + 3 * GAP

@@ -118,19 +118,17 @@ def shown(view, points, edges):
 
 
 def best_views(points, rings, loops):
-    """The side that shows most of these marks, each a list of edges, and the one that shows best what the first leaves; one alone for a
-    flat cover."""
+    """The side that shows these marks best, each a list of edges, and the one from the back that shows best what it leaves; one alone
+    for a flat cover."""
     few = loops[:: len(loops) // 60 + 1]
     views = [View(points, rings, *side) for side in sides(points)]
     if len(views) == 1:
         return views
     sights = [[shown(view, points, edges) for edges in few] for view in views]
     first = max(range(len(views)), key=lambda k: round(sum(sights[k]), 6))
-    opposite = (views[first].around + 180) % 360
+    turns = [(view.around - views[first].around) % 360 for view in views]
 
     def both(k):
-        good = sum(max(pair) for pair in zip(sights[k], sights[first]))
-        return round(good + (0.05 if views[k].around % 360 == opposite and views[k].above == 30 else 0.0), 6)
+        return round(sum(max(pair) for pair in zip(sights[k], sights[first])) + 0.05 * (turns[k] == 180 and views[k].above == 30), 6)
 
-    second = max((k for k in range(len(views)) if k != first), key=both)
-    return [views[first], views[second]]
+    return [views[first], views[max((k for k, turn in enumerate(turns) if 120 <= turn <= 240), key=both)]]
