@@ -1,0 +1,133 @@
+"""The panel file of document 01, for the tools: its limits, its records, a writer, and a reader that refuses by the same numbers.
+
+Outside the proofs. The numbers of a refusal have their words in refusals.txt, which ./meshsheet reads too.
+"""
+import os
+import struct
+import sys
+
+ENTRIES = 2048
+CORNERS = 4096
+CORNERS_OF_A_FACE = 32
+BYTES = 65536
+MISSING = 0xFFFFFFFF
+
+END, FACE = 0, 4
+# Positions, texture points and normals: the number of the record, and how many coordinates it holds.
+WIDTHS = {1: 3, 2: 2, 3: 3}
+HEADER = 4
+
+
+class Refused(Exception):
+    """What cannot be taken, in one plain sentence."""
+
+
+def plain(text, most=None):
+    """Text that a terminal can show: no control character, and only the start of what is long."""
+    cut = text if most is None else text[:most]
+    return "".join(c if c.isprintable() else ascii(c)[1:-1] for c in cut)
+
+
+def quoted(word):
+    """A word in quotes, and only the start of a long one."""
+    return f"'{plain(word, 40)}'" + (".." if len(word) > 40 else "")
+
+
+def tell(tool, text):
+    print(f"{tool}: {plain(text)}", file=sys.stderr)
+
+
+def record(kind, body):
+    return struct.pack("<HH", len(body), kind) + body
+
+
+def entry_record(kind, numbers):
+    return record(kind, struct.pack(f"<{WIDTHS[kind]}d", *numbers))
+
+
+def face_record(corners):
+    """A face of corners (position, texture point, normal), None where one is missing."""
+    flat = [MISSING if i is None else i for corner in corners for i in corner]
+    return record(FACE, struct.pack(f"<B{len(flat)}I", len(corners), *flat))
+
+
+def size_of_entry(kind):
+    return HEADER + 8 * WIDTHS[kind]
+
+
+def size_of_face(corners):
+    return HEADER + 1 + 12 * corners
+
+
+def words_of(number):
+    """What a refusal means for a file."""
+    with open(os.path.join(os.path.dirname(os.path.abspath(__file__)), "refusals.txt"), encoding="utf-8") as file:
+        texts = dict(line.rstrip("\n").split(" ", 1) for line in file)
+    return texts.get(str(number), "")
+
+
+def refuse(number):
+    raise Refused(f"refused {number}: {words_of(number)}")
+
+
+def wrong_length(kind, length):
+    if kind == FACE:
+        return length % 12 != 1 or length > 1 + 12 * 255
+    return length != (0 if kind == END else 8 * WIDTHS[kind])
+
+
+def records_of(data):
+    """The records in front of the end record, kind and body, in the document's order of refusals."""
+    at = 0
+    while True:
+        if len(data) < at + HEADER:
+            refuse(11)
+        length, kind = struct.unpack_from("<HH", data, at)
+        at += HEADER
+        if kind not in (END, FACE, *WIDTHS) or wrong_length(kind, length):
+            refuse(12)
+        if len(data) < at + length:
+            refuse(11)
+        if kind == END:
+            break
+        yield kind, data[at : at + length]
+        at += length
+    if at != len(data):
+        refuse(13)
+
+
+def face_of(body):
+    """The corners of a face, None where an index is missing."""
+    if len(body) != 1 + 12 * body[0]:
+        refuse(12)
+    if body[0] > CORNERS_OF_A_FACE:
+        refuse(3)
+    flat = [None if i == MISSING else i for i in struct.unpack(f"<{3 * body[0]}I", body[1:])]
+    return [tuple(flat[i : i + 3]) for i in range(0, len(flat), 3)]
+
+
+def read(data):
+    """Entries by kind, and the faces as they stand in the file: (number of the face record, counted from 0, and its corners)."""
+    if len(data) > BYTES:
+        refuse(1)
+    entries = {kind: [] for kind in WIDTHS}
+    faces, seen, corners = [], 0, 0
+    for kind, body in records_of(data):
+        if kind != FACE:
+            entries[kind].append(struct.unpack(f"<{WIDTHS[kind]}d", body))
+            if len(entries[kind]) > ENTRIES:
+                refuse(1)
+            continue
+        face = face_of(body)
+        if len(face) >= 3:
+            corners += len(face)
+            if corners > CORNERS:
+                refuse(1)
+            faces.append((seen, face))
+        seen += 1
+    for _, face in faces:
+        for corner in face:
+            for i, kind in zip(corner, WIDTHS):
+                if (i is None and kind == 1) or (i is not None and i >= len(entries[kind])):
+                    refuse(5)
+    return entries, faces
