@@ -109,7 +109,7 @@ fn is_fresh(
     j: usize,
 ) -> bool
     requires { ⌜ (Listed w n (now s) (now cells)) × (i < n) × (j < n) × (n ≤ length (now seen)) ⌝ }
-    ensures { λ r. ⌜ r ≡ fresh t w (now (s .entry)) (now (cells .entry)) (now (seen .entry)) i j ⌝ }
+    ensures { λ r. ⌜ r ≡ fresh (nearBy t w (now (s .entry)) (now (cells .entry))) (now (seen .entry)) i j ⌝ }
 {
     if !is_beside_at(cells, w, n, i, j) {
         return false;
@@ -133,7 +133,7 @@ fn next_near(
     from: usize,
 ) -> usize
     requires { ⌜ (Listed w n (now s) (now cells)) × (i < n) × (from ≤ n) × (n ≤ length (now seen)) ⌝ }
-    ensures { λ r. ⌜ Next (fresh t w (now (s .entry)) (now (cells .entry)) (now (seen .entry)) i) low from r ⌝ }
+    ensures { λ r. ⌜ Next (fresh (nearBy t w (now (s .entry)) (now (cells .entry))) (now (seen .entry)) i) low from r ⌝ }
 {
     let mut k = from;
     while low < k {
