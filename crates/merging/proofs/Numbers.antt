@@ -77,11 +77,19 @@ module _ (m : Mesh) (t : Float) (room : ℕ) (zero : mergeNumber m t room ≡ 0)
       record { mesh = mesh-0; fit = fit; bounded = bounded; near = near; long = ltb-false room (length (m .corners)) l }
 
   -- rows 7 and 8, list by list
-  pub positions-bounded : some boundless (m .positions) ≡ false
+  first-two : (some boundless (m .positions) || some boundless (m .textures)) ≡ false
   unfolding anyBoundless
-  positions-bounded =
-      or-false-left (some boundless (m .positions)) (some boundless (m .textures))
-      (or-false-left (some boundless (m .positions) || some boundless (m .textures)) (some boundless (m .normals)) (clear .bounded))
+  first-two = or-false-left (some boundless (m .positions) || some boundless (m .textures)) (some boundless (m .normals)) (clear .bounded)
+
+  pub positions-bounded : some boundless (m .positions) ≡ false
+  positions-bounded = or-false-left (some boundless (m .positions)) (some boundless (m .textures)) first-two
+
+  pub textures-bounded : some boundless (m .textures) ≡ false
+  textures-bounded = or-false-right (some boundless (m .positions)) (some boundless (m .textures)) first-two
+
+  pub normals-bounded : some boundless (m .normals) ≡ false
+  unfolding anyBoundless
+  normals-bounded = or-false-right (some boundless (m .positions) || some boundless (m .textures)) (some boundless (m .normals)) (clear .bounded)
 
   pub textures-near : some (distant t) (m .textures) ≡ false
   unfolding anyDistant
