@@ -18,8 +18,12 @@ use Rattle.floating.proofs.Bounded.{signOf, unitsOf, units-are}
 use Rattle.floating.proofs.Upto.{Exact, Upto, upto-more, upto-sum, upto-difference, upto-product, exact-at}
 use Rattle.floating.proofs.InBox.{All, bound}
 
+-- the most points that a centre is the sum of
+abbrev pub crowd : ℕ
+crowd = 2048
+
 -- so many times 2^60, in units, is a number that the format holds
-pub exact-bound : (n : ℕ) → n ≤ 2049 → Exact binary64 (n * bound)
+pub exact-bound : (n : ℕ) → n ≤ crowd + 1 → Exact binary64 (n * bound)
 exact-bound n l = exact-at binary64 (lit< tt) (lit≤ tt) n 60 (omega arith) (lit≤ tt)
 
 -- ---- squares
@@ -35,13 +39,13 @@ area = 2 ^ (120 + low binary64)
 exact-area : (n : ℕ) → n ≤ 3 → Exact binary64 (n * sides * area)
 exact-area n l = exact-at binary64 (lit< tt) (lit≤ tt) (n * sides) 120 (omega arith) (lit≤ tt)
 
-area-holds : 2049 * bound * (2049 * bound) ≤ 1 * sides * area * 2 ^ low binary64
+area-holds : (crowd + 1) * bound * ((crowd + 1) * bound) ≤ 1 * sides * area * 2 ^ low binary64
 area-holds = lit≤ tt
 
-pub square-upto : (p q : Float) → Upto binary64 bound p → Upto binary64 (2048 * bound) q → Upto binary64 (1 * sides * area) (square p q)
+pub square-upto : (p q : Float) → Upto binary64 bound p → Upto binary64 (crowd * bound) q → Upto binary64 (1 * sides * area) (square p q)
 square-upto p q h k =
-    let d : Upto binary64 (2049 * bound) (sub binary64 p q) = upto-difference binary64 bound (2048 * bound) (2049 * bound) p q h k (exact-bound 2049 (lit≤ tt)) (lit≤ tt) in
-    upto-product binary64 (2049 * bound) (2049 * bound) (1 * sides * area) (sub binary64 p q) (sub binary64 p q) d d (exact-area 1 (lit≤ tt)) area-holds
+    let d : Upto binary64 ((crowd + 1) * bound) (sub binary64 p q) = upto-difference binary64 bound (crowd * bound) ((crowd + 1) * bound) p q h k (exact-bound (crowd + 1) (lit≤ tt)) (lit≤ tt) in
+    upto-product binary64 ((crowd + 1) * bound) ((crowd + 1) * bound) (1 * sides * area) (sub binary64 p q) (sub binary64 p q) d d (exact-area 1 (lit≤ tt)) area-holds
 
 -- a number that no squared distance exceeds, in units
 abbrev pub farthest : ℕ
@@ -50,7 +54,7 @@ farthest = 3 * sides * area
 fewer : (n a : ℕ) → n ≤ 3 → n * sides * a ≤ 3 * sides * a
 fewer n a h = mul-le-mul-right a (let z : n * sides ≤ 3 * sides = omega arith in z)
 
-sums-upto : (n : ℕ) (a : Float) (ps qs : List Float) → n + length ps ≤ 3 → Upto binary64 (n * sides * area) a → All (Upto binary64 bound) ps → All (Upto binary64 (2048 * bound)) qs → Upto binary64 farthest (sumFrom a ps qs)
+sums-upto : (n : ℕ) (a : Float) (ps qs : List Float) → n + length ps ≤ 3 → Upto binary64 (n * sides * area) a → All (Upto binary64 bound) ps → All (Upto binary64 (crowd * bound)) qs → Upto binary64 farthest (sumFrom a ps qs)
 unfolding sumFrom
 sums-upto n a [] qs l h c d = upto-more binary64 (n * sides * area) farthest a (fewer n area (omega arith)) h
 sums-upto n a (p ∷ ps) [] l h c d = upto-more binary64 (n * sides * area) farthest a (fewer n area (omega arith)) h
@@ -68,7 +72,7 @@ sums-upto n a (p ∷ ps) (q ∷ qs) l h c d =
 pub nought-upto : (c : ℕ) → Upto binary64 c nought
 nought-upto c = record { sign = false; size = 0; value = (refl, refl); most = omega arith }
 
-pub squared-upto : (ps qs : List Float) → length ps ≤ 3 → All (Upto binary64 bound) ps → All (Upto binary64 (2048 * bound)) qs → Upto binary64 farthest (squared ps qs)
+pub squared-upto : (ps qs : List Float) → length ps ≤ 3 → All (Upto binary64 bound) ps → All (Upto binary64 (crowd * bound)) qs → Upto binary64 farthest (squared ps qs)
 unfolding squared
 squared-upto [] qs l c d = nought-upto farthest
 squared-upto (p ∷ ps) [] l c d = nought-upto farthest

@@ -14,6 +14,7 @@ use borrow.Author.Tests.{lt-ltb, le-ltb, ltb-true, ltb-false}
 use Rattle.lists.specs.Lists.{has}
 use Rattle.lists.proofs.Bools.{by-cases, true-false}
 use Rattle.lists.proofs.Members.{In, in-cases, in-head, in-tail}
+use Rattle.mesh.specs.Limits.{entryLimit}
 use Rattle.floating.specs.Points.{row}
 use Rattle.floating.specs.Near.{nought, squared}
 use Rattle.floating.proofs.Upto.{Upto, upto-finite, upto-more, upto-sum, upto-quotient, Least1, counted-least}
@@ -52,7 +53,7 @@ row-length w s i h = let e = length-take w (drop (w * i) s) in omega arith
 one-more : (n b : ℕ) → n * b + b ≤ (n + 1) * b
 one-more n b = omega arith
 
-added-upto : (n : ℕ) (ps qs : List Float) → n + 1 ≤ 2048 → All (summed n) ps → All small qs → All (summed (n + 1)) (added ps qs)
+added-upto : (n : ℕ) (ps qs : List Float) → n + 1 ≤ entryLimit → All (summed n) ps → All small qs → All (summed (n + 1)) (added ps qs)
 unfolding added
 added-upto n [] qs l h k = tt
 added-upto n (p ∷ ps) [] l h k = tt
@@ -65,23 +66,23 @@ all-more : (n m : ℕ) (l : List Float) → n * bound ≤ m * bound → All (sum
 all-more n m [] h k = tt
 all-more n m (x ∷ l) h k = (upto-more binary64 (n * bound) (m * bound) x h (k .0), all-more n m l h (k .1))
 
-no-more : (n b : ℕ) → n ≤ 2048 → n * b ≤ 2048 * b
+no-more : (n b : ℕ) → n ≤ entryLimit → n * b ≤ entryLimit * b
 no-more n b h = mul-le-mul-right b h
 
-sum-upto : (w : ℕ) (s : List Float) (n : ℕ) (acc : List Float) (g : List ℕ) → All small s → n + length g ≤ 2048 → All (summed n) acc → All (summed 2048) (sumFrom w s acc g)
+sum-upto : (w : ℕ) (s : List Float) (n : ℕ) (acc : List Float) (g : List ℕ) → All small s → n + length g ≤ entryLimit → All (summed n) acc → All (summed entryLimit) (sumFrom w s acc g)
 unfolding sumFrom
-sum-upto w s n acc [] a l h = all-more n 2048 acc (no-more n bound (omega arith)) h
+sum-upto w s n acc [] a l h = all-more n entryLimit acc (no-more n bound (omega arith)) h
 sum-upto w s n acc (i ∷ g) a l h = sum-upto w s (n + 1) (added acc (row w s i)) g a (omega arith) (added-upto n acc (row w s i) (omega arith) h (row-small w s i a))
 
 noughts : (w : ℕ) → All (summed 0) (replicate w nought)
 noughts zero = tt
 noughts (suc w) = (nought-upto (0 * bound), noughts w)
 
-divided : (d : Float) → Least1 binary64 d → (l : List Float) → All (summed 2048) l → All (summed 2048) (map (λ x. div binary64 x d) l)
+divided : (d : Float) → Least1 binary64 d → (l : List Float) → All (summed entryLimit) l → All (summed entryLimit) (map (λ x. div binary64 x d) l)
 divided d e [] h = tt
-divided d e (x ∷ l) h = (upto-quotient binary64 (2048 * bound) x d (h .0) (exact-bound 2048 (lit≤ tt)) e, divided d e l (h .1))
+divided d e (x ∷ l) h = (upto-quotient binary64 (entryLimit * bound) x d (h .0) (exact-bound entryLimit (lit≤ tt)) e, divided d e l (h .1))
 
-centre-upto : (w : ℕ) (s : List Float) (g : List ℕ) → All small s → 1 ≤ length g → length g ≤ 2048 → All (summed 2048) (centreOf w s g)
+centre-upto : (w : ℕ) (s : List Float) (g : List ℕ) → All small s → 1 ≤ length g → length g ≤ entryLimit → All (summed entryLimit) (centreOf w s g)
 unfolding centreOf
 centre-upto w s g a l h =
     divided (counted g) (counted-least binary64 (lit< tt) (lit≤ tt) (length g) l (omega arith)) (sumFrom w s (replicate w nought) g)
@@ -177,14 +178,14 @@ module _ (w : ℕ) (s c : List Float) where
 -- ---- a group of at most 2,048 points
 
 module _ (w : ℕ) (s : List Float) (narrow : w ≤ 3) (a : All small s) where
-  dist-upto : (g : List ℕ) → 1 ≤ length g → length g ≤ 2048 → (i : ℕ) → Upto binary64 farthest (apart w s g i)
+  dist-upto : (g : List ℕ) → 1 ≤ length g → length g ≤ entryLimit → (i : ℕ) → Upto binary64 farthest (apart w s g i)
   dist-upto g l h i = squared-upto (row w s i) (centreOf w s g) (row-length w s i narrow) (row-small w s i a) (centre-upto w s g a l h)
 
-  picked : (j : ℕ) (g : List ℕ) → suc (length g) ≤ 2048 → Picked (far w s (centreOf w s (j ∷ g))) j (representative w s (j ∷ g)) g
+  picked : (j : ℕ) (g : List ℕ) → suc (length g) ≤ entryLimit → Picked (far w s (centreOf w s (j ∷ g))) j (representative w s (j ∷ g)) g
   unfolding representative
   picked j g h = closest-picked w s (centreOf w s (j ∷ g)) (dist-upto (j ∷ g) (omega arith) h) j g
 
-  pub nearest-first : (j : ℕ) (g : List ℕ) → suc (length g) ≤ 2048 → NearestFirst w s (j ∷ g)
+  pub nearest-first : (j : ℕ) (g : List ℕ) → suc (length g) ≤ entryLimit → NearestFirst w s (j ∷ g)
   nearest-first j g h = record {
     before = ⊎-elim (λ e. []) (λ r. j ∷ r .before) (q .place);
     behind = ⊎-elim (λ e. g) (λ r. r .behind) (q .place);

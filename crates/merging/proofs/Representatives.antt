@@ -14,6 +14,7 @@ use Rattle.lists.proofs.Counting.{count-none}
 use Rattle.lists.proofs.Members.{Once}
 use Rattle.lists.proofs.Others.{has-every, once-few}
 use Rattle.lists.proofs.Parts.{every-at}
+use Rattle.mesh.specs.Limits.{entryLimit}
 use Rattle.mesh.specs.Mesh.{Mesh}
 use Rattle.mesh.proofs.Accepted.{Accepted, accepted}
 use Rattle.floating.specs.Limits.{boundless}
@@ -56,7 +57,7 @@ module _ (t : Float) (w : ℕ) (s : List Float) where
       let b : length (joined gs) ≤ n = once-few n (joined gs) once (has-every (λ (x : ℕ). ltb x n) (joined gs) (λ x e. lt-ltb x n (sets .inside x e))) in
       omega arith
 
-  pub nearest-each : w ≤ 3 → n ≤ 2048 → All small s → InEachGroup t w s
+  pub nearest-each : w ≤ 3 → n ≤ entryLimit → All small s → InEachGroup t w s
   nearest-each narrow few a k h = go (getD gs k []) (every-at lowestFirst [] gs k (sets .lowest) h) (group-few k)
     where
       go : (g : List ℕ) → lowestFirst g ≡ true → length g ≤ n → NearestFirst w s g

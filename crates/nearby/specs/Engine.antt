@@ -8,6 +8,7 @@ use lib.ListN.{length, getD, take}
 use lib.Ieee.{Float}
 use Rattle.lists.specs.Lists.{has}
 use Rattle.lists.specs.Numbers.{countBelow}
+use Rattle.mesh.specs.Limits.{entryLimit}
 use Rattle.floating.specs.Points.{row}
 use Rattle.floating.specs.Cells.{cell, place, besides}
 use Rattle.floating.specs.Near.{below}
@@ -33,7 +34,7 @@ pub record Small (cells : List ℕ) : Type 0 where
 pub record Points (w n : ℕ) (cells : List ℕ) : Type 0 where
   pub least : 2 ≤ w
   pub most : w ≤ 3
-  pub few : n ≤ 2048
+  pub few : n ≤ entryLimit
   pub long : w * n ≡ length cells
   pub small : Small cells
 
