@@ -8,4 +8,7 @@ pub mod Boxes
 pub mod Units
 pub mod Heights
 pub mod Within
+pub mod Upto
 pub mod Bounded
+pub mod InBox
+pub mod Distances

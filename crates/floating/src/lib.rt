@@ -87,7 +87,7 @@ pub fn is_distant(t: f64, x: f64) -> bool
 
 // ---- points of a flat list
 
-pub fn point_at(s: &[f64], i: usize) -> Point
+fn point_at(s: &[f64], i: usize) -> Point
     requires { ⌜ 3 * i + 3 ≤ length (now s) ⌝ }
     ensures { λ r. ⌜ r ≡ pointAt (now (s .entry)) i ⌝ }
 {
@@ -99,7 +99,7 @@ pub fn point_at(s: &[f64], i: usize) -> Point
     }
 }
 
-pub fn texel_at(s: &[f64], i: usize) -> Texel
+fn texel_at(s: &[f64], i: usize) -> Texel
     requires { ⌜ 2 * i + 2 ≤ length (now s) ⌝ }
     ensures { λ r. ⌜ r ≡ texelAt (now (s .entry)) i ⌝ }
 {
@@ -165,20 +165,20 @@ pub fn over(p: Point, d: f64) -> Point
 
 // ---- the box, and scaling
 
-pub fn lesser_of(a: f64, b: f64) -> f64
+fn lesser_of(a: f64, b: f64) -> f64
     ensures { λ r. ⌜ r ≡ lesser a b ⌝ }
 {
     if b < a { b } else { a }
 }
 
-pub fn greater_of(a: f64, b: f64) -> f64
+fn greater_of(a: f64, b: f64) -> f64
     ensures { λ r. ⌜ r ≡ greater a b ⌝ }
 {
     if a < b { b } else { a }
 }
 
 // The box that has one point more.
-pub fn with_point(b: Bounds, p: Point) -> Bounds
+fn with_point(b: Bounds, p: Point) -> Bounds
     ensures { λ r. ⌜ r ≡ boxWith b p ⌝ }
 {
     let l = b.least;
@@ -198,7 +198,7 @@ pub fn with_point(b: Bounds, p: Point) -> Bounds
 }
 
 // least + (greatest - least)/2, on each axis.
-pub fn centre_of(b: Bounds) -> Point
+fn centre_of(b: Bounds) -> Point
     ensures { λ r. ⌜ r ≡ centre b ⌝ }
 {
     let l = b.least;
@@ -211,7 +211,7 @@ pub fn centre_of(b: Bounds) -> Point
 }
 
 // The larger of greatest - least and 1, on each axis.
-pub fn divisor_of(b: Bounds) -> Point
+fn divisor_of(b: Bounds) -> Point
     ensures { λ r. ⌜ r ≡ divisor b ⌝ }
 {
     let l = b.least;
@@ -224,7 +224,7 @@ pub fn divisor_of(b: Bounds) -> Point
 }
 
 // 2·((p - centre)/divisor), on each axis.
-pub fn scaled_by(p: Point, c: Point, d: Point) -> Point
+fn scaled_by(p: Point, c: Point, d: Point) -> Point
     ensures { λ r. ⌜ r ≡ axes3 scaledOf p c d ⌝ }
 {
     Point {
@@ -235,7 +235,7 @@ pub fn scaled_by(p: Point, c: Point, d: Point) -> Point
 }
 
 // The box of all positions, of which there is one at least.
-pub fn box_of(positions: &[f64]) -> Bounds
+fn box_of(positions: &[f64]) -> Bounds
     requires { ⌜ Whole (now positions) ⌝ }
     ensures { λ r. ⌜ r ≡ boxOf (pointsOf (now (positions .entry))) ⌝ }
 {
@@ -281,7 +281,7 @@ pub fn scale(positions: &[f64], out: &mut [f64])
 // ---- cells
 
 // The whole part of the magnitude that 64 bits stand for: exact below 2^53, and 2^53 from there on.
-pub fn whole_of_bits(b: u64) -> u64
+fn whole_of_bits(b: u64) -> u64
     requires { ⌜ T (not (nanBits binary64 b)) ⌝ }
     ensures { λ r. ⌜ r ≡ wholeOf (ofBits binary64 b) ⌝ }
 {

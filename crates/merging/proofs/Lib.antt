@@ -7,3 +7,5 @@ pub mod Corners
 pub mod Scaling
 pub mod Whole
 pub mod Joined
+pub mod Nearest
+pub mod Representatives

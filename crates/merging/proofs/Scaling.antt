@@ -15,7 +15,7 @@ use Rattle.floating.specs.Limits.{unfit, boundless, distant}
 use Rattle.floating.specs.Points.{coordinates, pointsOf, Whole}
 use Rattle.floating.specs.Scaling.{boxOf, scaledIn, scaledList}
 use Rattle.floating.proofs.Boxes.{length-points, length-coordinates}
-use Rattle.floating.proofs.Bounded.{scaled-near}
+use Rattle.floating.proofs.InBox.{scaled-near}
 use Rattle.nearby.specs.Pairs.{pairs, comparedPairs}
 use Rattle.merging.specs.Merging.{mergedTo}
 use Rattle.merging.specs.Working.{Mergeable, Settled, Scalable}
@@ -39,17 +39,20 @@ none-merged t s to m h = (
 
 -- ---- some positions
 
+pub scaled-length : (s : List Float) → length s % 3 ≡ 0 → length (scaledList s) ≡ length s
+unfolding scaledList
+scaled-length s h =
+    let b = boxOf (pointsOf s) in
+    let e : length (each coordinates (map (scaledIn b) (pointsOf s))) ≡ 3 * length (map (scaledIn b) (pointsOf s)) = length-coordinates (map (scaledIn b) (pointsOf s)) in
+    let k : length (map (scaledIn b) (pointsOf s)) ≡ length s / 3 = length-map (pointsOf s) (scaledIn b) ∙ length-points s in
+    omega arith
+
 module _ (s : List Float) (t : Float) (g : Scalable s t) where
   pub whole : (length s ≡ 0 → ⊥) → Whole s
   whole h = record { some = omega (arith, g .even, h); even = g .even }
 
   length-scaled : length (scaledList s) ≡ length s
-  unfolding scaledList
-  length-scaled =
-      let b = boxOf (pointsOf s) in
-      let e : length (each coordinates (map (scaledIn b) (pointsOf s))) ≡ 3 * length (map (scaledIn b) (pointsOf s)) = length-coordinates (map (scaledIn b) (pointsOf s)) in
-      let k : length (map (scaledIn b) (pointsOf s)) ≡ length s / 3 = length-map (pointsOf s) (scaledIn b) ∙ length-points s in
-      omega (arith, g .even)
+  length-scaled = scaled-length s (g .even)
 
   -- the scaled list stands at the front of its room
   pub scaled-are : (room room' : List Float) → length room ≡ pointNumbers → room' ≡ sets room 0 (scaledList s) → take (length s) room' ≡ scaledList s
@@ -64,7 +67,7 @@ module _ (s : List Float) (t : Float) (g : Scalable s t) where
           most = lit≤ tt;
           few = omega (arith, g .few);
           long = omega (arith, g .even, length-scaled);
-          near = scaled-near t s ft (g .fit) f (g .bounded);
+          near = scaled-near s f (g .bounded) t ft (g .fit);
           room = r;
         })
 

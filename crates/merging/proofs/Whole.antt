@@ -25,7 +25,7 @@ use Rattle.merging.specs.Centre.{pick}
 use Rattle.merging.specs.Merging.{mergeNumber, mergedTo, unlessMissing, positionPairs, texturePairs, normalPairs, mergedCorner, mergedCorners, PutTogether}
 use Rattle.merging.specs.Working.{Mergeable, Settled, Scalable, sentCorner, Indexed}
 use Rattle.merging.specs.declared.Merged.{Merged}
-use Rattle.merging.proofs.Numbers.{Clear, clear}
+use Rattle.merging.proofs.Numbers.{Clear, clear, positions-bounded, textures-near, normals-near}
 
 -- an index by a map, and by what the map says
 sent-same : (f g : ℕ → ℕ) (n i : ℕ) → ((i ≡ missing → ⊥) → i < n) → ((k : ℕ) → k < n → f k ≡ g k) → unlessMissing f i ≡ unlessMissing g i
@@ -38,10 +38,10 @@ sent-same f g n i h e =
 pub refused : (m : Mesh) (t : Float) (out : List ℕ) (n : ℕ) → n ≡ mergeNumber m t (length out) → (n ≡ 0 → ⊥) → PutTogether m t out (record { number = n; positions = 0; textures = 0; normals = 0 }) out
 refused m t out n e h = record {
   number = e;
-  positions = sym (old (positionPairs m t) 0);
-  textures = sym (old (texturePairs m t) 0);
-  normals = sym (old (normalPairs m t) 0);
-  corners = sym (old (sets out 0 (mergedCorners m t)) out);
+  positions = sym (old _ 0);
+  textures = sym (old _ 0);
+  normals = sym (old _ 0);
+  corners = sym (old _ out);
 }
   where
     old : {A : Type 0} (x y : A) → after (mergeNumber m t (length out)) x y ≡ y
@@ -55,7 +55,7 @@ module _ (m : Mesh) (t : Float) (out : List ℕ) (earns : mergeNumber m t (lengt
   a = accepted m (c .mesh)
 
   pub positions-ready : Scalable (m .positions) t
-  positions-ready = record { few = a .limits .positions; even = a .whole .positions; bounded = c .positions; fit = c .fit }
+  positions-ready = record { few = a .limits .positions; even = a .whole .positions; bounded = positions-bounded m t (length out) earns; fit = c .fit }
 
   pub positions-few : length (m .positions) / 3 ≤ entryLimit
   positions-few = omega (arith, a .limits .positions)
@@ -66,7 +66,7 @@ module _ (m : Mesh) (t : Float) (out : List ℕ) (earns : mergeNumber m t (lengt
     most = lit≤ tt;
     few = omega (arith, a .limits .textures);
     long = omega (arith, a .whole .textures);
-    near = c .textures;
+    near = textures-near m t (length out) earns;
     room = omega (arith, a .limits .textures);
   }
 
@@ -76,7 +76,7 @@ module _ (m : Mesh) (t : Float) (out : List ℕ) (earns : mergeNumber m t (lengt
     most = lit≤ tt;
     few = omega (arith, a .limits .normals);
     long = omega (arith, a .whole .normals);
-    near = c .normals;
+    near = normals-near m t (length out) earns;
     room = omega (arith, a .limits .normals);
   }
 

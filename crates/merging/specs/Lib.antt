@@ -1,3 +1,4 @@
 pub mod Centre
 pub mod Merging
+pub mod Nearest
 pub mod Working

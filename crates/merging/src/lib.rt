@@ -69,7 +69,7 @@ pub fn put_together_same_attrs(
 // ---- the number
 
 // The first row of 1 to 9 whose rule says so, or 0; `room` is that of the lent list of corners.
-pub fn number(
+fn number(
     positions: &[f64],
     textures: &[f64],
     normals: &[f64],

@@ -6,6 +6,7 @@ use native.Mathlib.Omega.{arith}
 use native.Mathlib.Numerals.{add-one}
 use Rattle.lists.specs.Lists.{bump}
 use Rattle.lists.specs.Numbers.{countBelow}
+use Rattle.mesh.specs.Limits.{entryLimit}
 use Rattle.lists.proofs.Numbers.{count-below-step}
 use Rattle.nearby.specs.Pairs.{pairs}
 
@@ -54,14 +55,14 @@ module _ (p : ℕ → Bool) (j : ℕ) where
 pub record Paired (r : ℕ → ℕ → Bool) (n found j : ℕ) : Type 0 where
   pub within : j ≤ n
   pub is : found ≡ pairs r j
-  pub few : found ≤ 2048 * j
+  pub few : found ≤ entryLimit * j
 
 module _ (r : ℕ → ℕ → Bool) (n : ℕ) where
   pub paired-none : Paired r n 0 0
   unfolding pairs
   paired-none = record { within = omega arith; is = refl; few = omega arith }
 
-  pub paired-more : (found j c : ℕ) → n ≤ 2048 → j < n → c ≡ countBelow (λ i. r i j) j → Paired r n found j → Paired r n (found + c) (j + 1)
+  pub paired-more : (found j c : ℕ) → n ≤ entryLimit → j < n → c ≡ countBelow (λ i. r i j) j → Paired r n found j → Paired r n (found + c) (j + 1)
   unfolding pairs
   paired-more found j c s h e g =
       let l : countBelow (λ i. r i j) j ≤ j = count-le (λ i. r i j) j in

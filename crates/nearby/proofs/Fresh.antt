@@ -23,29 +23,29 @@ module _ (t : Float) (w : ℕ) (s : List Float) (cells : List ℕ) (seen : List 
   abbrev close : Bool
   close = below t (row w s i) (row w s j)
 
-  pub not-beside : besideAt w cells i j ≡ false → false ≡ fresh t w s cells seen i j
-  unfolding fresh
+  pub not-beside : besideAt w cells i j ≡ false → false ≡ fresh (nearBy t w s cells) seen i j
+  unfolding fresh nearBy
   not-beside e = rw e
 
-  pub not-new : getD seen j false ≡ true → false ≡ fresh t w s cells seen i j
-  unfolding fresh
+  pub not-new : getD seen j false ≡ true → false ≡ fresh (nearBy t w s cells) seen i j
+  unfolding fresh nearBy
   not-new e = rw e (sym (and-false-right (besideAt w cells i j && close) false refl))
 
-  pub by-distance : besideAt w cells i j ≡ true → getD seen j false ≡ false → (p q : Point) (d : Float) → leading w p ≡ row w s i → leading w q ≡ row w s j → d ≡ squared (leading w p) (leading w q) → lt d (mul binary64 t t) ≡ fresh t w s cells seen i j
-  unfolding fresh
+  pub by-distance : besideAt w cells i j ≡ true → getD seen j false ≡ false → (p q : Point) (d : Float) → leading w p ≡ row w s i → leading w q ≡ row w s j → d ≡ squared (leading w p) (leading w q) → lt d (mul binary64 t t) ≡ fresh (nearBy t w s cells) seen i j
+  unfolding fresh nearBy
   by-distance e f p q d a b c = rw (e, f) (ap (λ (x : Float). lt x (mul binary64 t t)) (c ∙ ap (λ (l : List Float). squared l (leading w q)) a ∙ ap (squared (row w s i)) b) ∙ sym (and-true close))
 
 -- what being fresh, or not, says of its two parts
-module _ (t : Float) (w : ℕ) (s : List Float) (cells : List ℕ) (seen : List Bool) (i j : ℕ) where
-  pub fresh-near : fresh t w s cells seen i j ≡ true → nearBy t w s cells i j ≡ true
+module _ (r : ℕ → ℕ → Bool) (seen : List Bool) (i j : ℕ) where
+  pub fresh-near : fresh r seen i j ≡ true → r i j ≡ true
   unfolding fresh
-  fresh-near e = and-left (nearBy t w s cells i j) (not (getD seen j false)) e
+  fresh-near e = and-left (r i j) (not (getD seen j false)) e
 
-  pub fresh-new : fresh t w s cells seen i j ≡ true → getD seen j false ≡ false
+  pub fresh-new : fresh r seen i j ≡ true → getD seen j false ≡ false
   unfolding fresh
-  fresh-new e = not-true (getD seen j false) (and-right (nearBy t w s cells i j) (not (getD seen j false)) e)
+  fresh-new e = not-true (getD seen j false) (and-right (r i j) (not (getD seen j false)) e)
 
-  pub fresh-not : fresh t w s cells seen i j ≡ false → nearBy t w s cells i j ≡ true → getD seen j false ≡ true
+  pub fresh-not : fresh r seen i j ≡ false → r i j ≡ true → getD seen j false ≡ true
   unfolding fresh
   fresh-not e f = not-false (getD seen j false) (rw f at e)
 

@@ -1,5 +1,4 @@
--- What the walk of a group promises, whatever 'near' is: it takes no point of an earlier group, and its stack is empty at the end.
--- Assumes nothing.
+-- What the walk of a group promises, whatever 'near' is: it takes no point of an earlier group. Assumes nothing.
 use mathlib.Core.Path.{_≡_, refl, sym, ap, _∙_}
 use mathlib.Core.Bool.{Bool, true, false, _||_}
 use mathlib.Core.List.{List, [], _∷_, _++_}

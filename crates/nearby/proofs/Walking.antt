@@ -5,48 +5,47 @@ use mathlib.Core.List.{List}
 use Prim.Native.Nat.{ℕ, _+_, _-_, _≤_, _<_}
 use native.Mathlib.Omega.{arith}
 use lib.ListN.{length, getD, set, length-set}
-use lib.Ieee.{Float}
-use Rattle.nearby.specs.Engine.{nearBy, fresh, Next}
+use Rattle.nearby.specs.Engine.{fresh, Next}
 use Rattle.nearby.proofs.Fresh.{fresh-near, fresh-new, fresh-not}
 use Rattle.nearby.proofs.Frames.{Good, work, frame-goes, frame-goes-less, next-small, room-left, depth-under, frame-comes, frame-comes-less}
 
-module _ (t : Float) (w : ℕ) (s : List Float) (cells : List ℕ) {n : ℕ} {before : List ℕ} {start : ℕ} {order : List ℕ} {seen : List Bool} {node left : List ℕ} {taken depth next : ℕ} (g : Good (nearBy t w s cells) n before start order seen node left taken depth) (some : 0 < depth) (q : Next (fresh t w s cells seen (getD node (depth - 1) 0)) start (getD left (depth - 1) 0) next) where
+module _ {r : ℕ → ℕ → Bool} {n : ℕ} {before : List ℕ} {start : ℕ} {order : List ℕ} {seen : List Bool} {node left : List ℕ} {taken depth next : ℕ} (g : Good r n before start order seen node left taken depth) (some : 0 < depth) (q : Next (fresh r seen (getD node (depth - 1) 0)) start (getD left (depth - 1) 0) next) where
   abbrev i : ℕ
   i = getD node (depth - 1) 0
 
-  old : (k : ℕ) → fresh t w s cells seen i k ≡ false → nearBy t w s cells i k ≡ true → getD seen k false ≡ true
-  old k = fresh-not t w s cells seen i k
+  old : (k : ℕ) → fresh r seen i k ≡ false → r i k ≡ true → getD seen k false ≡ true
+  old k = fresh-not r seen i k
 
-  pub goes : next ≡ 0 → Good (nearBy t w s cells) n before start order seen node left taken (depth - 1)
-  goes = frame-goes g some (fresh t w s cells seen i) next q old
+  pub goes : next ≡ 0 → Good r n before start order seen node left taken (depth - 1)
+  goes = frame-goes g some (fresh r seen i) next q old
 
   pub goes-less : work n left taken (depth - 1) < work n left taken depth
-  goes-less = frame-goes-less g some (fresh t w s cells seen i) next q old
+  goes-less = frame-goes-less g some (fresh r seen i) next q old
 
   module _ (found : next ≡ 0 → ⊥) where
-    here : fresh t w s cells seen i (next - 1) ≡ true
+    here : fresh r seen i (next - 1) ≡ true
     here = q .here (omega (arith, found)) .2
 
-    close : nearBy t w s cells i (next - 1) ≡ true
-    close = fresh-near t w s cells seen i (next - 1) here
+    close : r i (next - 1) ≡ true
+    close = fresh-near r seen i (next - 1) here
 
     new : getD seen (next - 1) false ≡ false
-    new = fresh-new t w s cells seen i (next - 1) here
+    new = fresh-new r seen i (next - 1) here
 
     pub next-in : next - 1 < n
-    next-in = next-small g some (fresh t w s cells seen i) next q old found close new
+    next-in = next-small g some (fresh r seen i) next q old found close new
 
     pub taken-in : taken < n
-    taken-in = room-left g some (fresh t w s cells seen i) next q old found close new
+    taken-in = room-left g some (fresh r seen i) next q old found close new
 
     pub deeper-in : depth < n
-    deeper-in = depth-under g some (fresh t w s cells seen i) next q old found close new
+    deeper-in = depth-under g some (fresh r seen i) next q old found close new
 
-    pub comes : Good (nearBy t w s cells) n before start (set order taken (next - 1)) (set seen (next - 1) true) (set node depth (next - 1)) (set (set left (depth - 1) (next - 1)) depth n) (taken + 1) (depth + 1)
-    comes = frame-comes g some (fresh t w s cells seen i) next q old found close new
+    pub comes : Good r n before start (set order taken (next - 1)) (set seen (next - 1) true) (set node depth (next - 1)) (set (set left (depth - 1) (next - 1)) depth n) (taken + 1) (depth + 1)
+    comes = frame-comes g some (fresh r seen i) next q old found close new
 
     pub comes-less : work n (set (set left (depth - 1) (next - 1)) depth n) (taken + 1) (depth + 1) < work n left taken depth
-    comes-less = frame-comes-less g some (fresh t w s cells seen i) next q old found close new
+    comes-less = frame-comes-less g some (fresh r seen i) next q old found close new
 
 -- ---- lengths do not change
 

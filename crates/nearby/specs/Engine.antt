@@ -8,6 +8,7 @@ use lib.ListN.{length, getD, take}
 use lib.Ieee.{Float}
 use Rattle.lists.specs.Lists.{has}
 use Rattle.lists.specs.Numbers.{countBelow}
+use Rattle.mesh.specs.Limits.{entryLimit}
 use Rattle.floating.specs.Points.{row}
 use Rattle.floating.specs.Cells.{cell, place, besides}
 use Rattle.floating.specs.Near.{below}
@@ -33,7 +34,7 @@ pub record Small (cells : List ℕ) : Type 0 where
 pub record Points (w n : ℕ) (cells : List ℕ) : Type 0 where
   pub least : 2 ≤ w
   pub most : w ≤ 3
-  pub few : n ≤ 2048
+  pub few : n ≤ entryLimit
   pub long : w * n ≡ length cells
   pub small : Small cells
 
@@ -55,10 +56,9 @@ pub record Next (p : ℕ → Bool) (low from r : ℕ) : Type 0 where
   pub after : (k : ℕ) → low ≤ k → r ≤ k → k < from → p k ≡ false
   pub here : 0 < r → (low < r) × (r ≤ from) × (p (r - 1) ≡ true)
 
--- whether j is near i and not taken
-unfoldable pub fresh : Float → ℕ → List Float → List ℕ → List Bool → ℕ → ℕ → Bool
-unfolding nearBy
-fresh t w s cells seen i j = nearBy t w s cells i j && not (getD seen j false)
+-- whether j is near i, by r, and not taken
+unfoldable pub fresh : (ℕ → ℕ → Bool) → List Bool → ℕ → ℕ → Bool
+fresh r seen i j = r i j && not (getD seen j false)
 
 -- what walking a group from `start` asks: it is the lowest point left
 pub record Starts (w n : ℕ) (s : List Float) (cells order : List ℕ) (seen : List Bool) (node left : List ℕ) (start done : ℕ) : Type 0 where

@@ -34,7 +34,7 @@ unfolding popped
 walk r n before zero x = x
 walk r n before (suc f) x = walk r n before f (popped r n before (x .stack) (x .group))
 
--- often enough for n points: then the stack is empty
+-- often enough for n points: each of them is taken once, and pushes n points at most
 abbrev pub often : ℕ → ℕ
 often n = suc (n * (n + 1))
 

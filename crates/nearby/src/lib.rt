@@ -1,8 +1,8 @@
 // The points of one list: their cells, how many pairs are compared, and the walk of a group of near points.
 //
-// The Rust finds near points by a map of blocks. Here each point's cells are worked out once, as whole numbers; each pair is
-// looked at twice: once to count it, once in the walk. Only where the cells of two points are beside each other on every axis,
-// and one of them is new, is a distance worked out.
+// The Rust finds near points by a map of blocks. Here each point's cells are worked out once, as whole numbers. The count looks at
+// each pair once; the walk looks at it once from each of its two points, but for points below the group's first. A distance
+// is worked out only where the cells of two points are beside each other on every axis, and the second is not taken.
 ghost use mathlib.Core.Path.{_≡_};
 ghost use mathlib.Core.Bool.{Bool, true, false, _&&_};
 ghost use mathlib.Core.List.{List, [], _∷_, _++_};
@@ -109,7 +109,7 @@ fn is_fresh(
     j: usize,
 ) -> bool
     requires { ⌜ (Listed w n (now s) (now cells)) × (i < n) × (j < n) × (n ≤ length (now seen)) ⌝ }
-    ensures { λ r. ⌜ r ≡ fresh t w (now (s .entry)) (now (cells .entry)) (now (seen .entry)) i j ⌝ }
+    ensures { λ r. ⌜ r ≡ fresh (nearBy t w (now (s .entry)) (now (cells .entry))) (now (seen .entry)) i j ⌝ }
 {
     if !is_beside_at(cells, w, n, i, j) {
         return false;
@@ -133,7 +133,7 @@ fn next_near(
     from: usize,
 ) -> usize
     requires { ⌜ (Listed w n (now s) (now cells)) × (i < n) × (from ≤ n) × (n ≤ length (now seen)) ⌝ }
-    ensures { λ r. ⌜ Next (fresh t w (now (s .entry)) (now (cells .entry)) (now (seen .entry)) i) low from r ⌝ }
+    ensures { λ r. ⌜ Next (fresh (nearBy t w (now (s .entry)) (now (cells .entry))) (now (seen .entry)) i) low from r ⌝ }
 {
     let mut k = from;
     while low < k {

@@ -63,52 +63,52 @@ next-near-requires : tie.Need-next-near-requires Inv-loop μ-loop
 next-near-requires c κs = (c .before .before .before .before .before .before .before .before .before .before .before .pre .listed, node-in (c .before .before .before .before .loop .inv .0) (c .before .before .before .loop-test .taken), left-in (c .before .before .before .before .loop .inv .0) (c .before .before .before .loop-test .taken), c .before .before .before .before .loop .inv .0 .held .seen-room)
 
 loop-less : tie.Need-loop-less Inv-loop μ-loop
-loop-less c = goes-less (c .before .before .before .before .before .before .before .before .before .before .before .before .before .args .t) (c .before .before .before .before .before .before .before .before .before .before .before .before .before .args .w) (now (c .before .before .before .before .before .before .before .before .before .before .before .before .before .args .s)) (now (c .before .before .before .before .before .before .before .before .before .before .before .before .before .args .cells)) (c .before .before .before .before .before .before .loop .inv .0) (c .before .before .before .before .before .loop-test .taken) (c .before .next-near .ensures)
+loop-less c = goes-less (c .before .before .before .before .before .before .loop .inv .0) (c .before .before .before .before .before .loop-test .taken) (c .before .next-near .ensures)
 
 loop-again : tie.Need-loop-again Inv-loop μ-loop
-loop-again c = (goes (c .before .before .before .before .before .before .before .before .before .before .before .before .before .args .t) (c .before .before .before .before .before .before .before .before .before .before .before .before .before .args .w) (now (c .before .before .before .before .before .before .before .before .before .before .before .before .before .args .s)) (now (c .before .before .before .before .before .before .before .before .before .before .before .before .before .args .cells)) (c .before .before .before .before .before .before .loop .inv .0) (c .before .before .before .before .before .loop-test .taken) (c .before .next-near .ensures) (c .if1 .taken), c .before .before .before .before .before .before .loop .inv .1)
+loop-again c = (goes (c .before .before .before .before .before .before .loop .inv .0) (c .before .before .before .before .before .loop-test .taken) (c .before .next-near .ensures) (c .if1 .taken), c .before .before .before .before .before .before .loop .inv .1)
 
 sub-j : tie.Need-sub-j Inv-loop μ-loop
 sub-j c = omega (arith, c .if1 .left)
 
 mul-left : tie.Need-mul-left Inv-loop μ-loop
-mul-left c = omega (arith, deeper-in (c .before .before .before .before .before .before .before .before .before .before .before .before .before .args .t) (c .before .before .before .before .before .before .before .before .before .before .before .before .before .args .w) (now (c .before .before .before .before .before .before .before .before .before .before .before .before .before .args .s)) (now (c .before .before .before .before .before .before .before .before .before .before .before .before .before .args .cells)) (c .before .before .before .before .before .before .loop .inv .0) (c .before .before .before .before .before .loop-test .taken) (c .before .next-near .ensures) (c .if1 .left), taken-in (c .before .before .before .before .before .before .before .before .before .before .before .before .before .args .t) (c .before .before .before .before .before .before .before .before .before .before .before .before .before .args .w) (now (c .before .before .before .before .before .before .before .before .before .before .before .before .before .args .s)) (now (c .before .before .before .before .before .before .before .before .before .before .before .before .before .args .cells)) (c .before .before .before .before .before .before .loop .inv .0) (c .before .before .before .before .before .loop-test .taken) (c .before .next-near .ensures) (c .if1 .left), next-in (c .before .before .before .before .before .before .before .before .before .before .before .before .before .args .t) (c .before .before .before .before .before .before .before .before .before .before .before .before .before .args .w) (now (c .before .before .before .before .before .before .before .before .before .before .before .before .before .args .s)) (now (c .before .before .before .before .before .before .before .before .before .before .before .before .before .args .cells)) (c .before .before .before .before .before .before .loop .inv .0) (c .before .before .before .before .before .loop-test .taken) (c .before .next-near .ensures) (c .if1 .left), c .before .before .before .before .before .before .before .before .before .before .before .before .before .pre .listed .points .few)
+mul-left c = omega (arith, deeper-in (c .before .before .before .before .before .before .loop .inv .0) (c .before .before .before .before .before .loop-test .taken) (c .before .next-near .ensures) (c .if1 .left), taken-in (c .before .before .before .before .before .before .loop .inv .0) (c .before .before .before .before .before .loop-test .taken) (c .before .next-near .ensures) (c .if1 .left), next-in (c .before .before .before .before .before .before .loop .inv .0) (c .before .before .before .before .before .loop-test .taken) (c .before .next-near .ensures) (c .if1 .left), c .before .before .before .before .before .before .before .before .before .before .before .before .before .pre .listed .points .few)
 
 slice-write-left-2 : tie.Need-slice-write-left-2 Inv-loop μ-loop
-slice-write-left-2 c = omega (arith, deeper-in (c .before .before .before .before .before .before .before .before .before .before .before .before .before .args .t) (c .before .before .before .before .before .before .before .before .before .before .before .before .before .args .w) (now (c .before .before .before .before .before .before .before .before .before .before .before .before .before .args .s)) (now (c .before .before .before .before .before .before .before .before .before .before .before .before .before .args .cells)) (c .before .before .before .before .before .before .loop .inv .0) (c .before .before .before .before .before .loop-test .taken) (c .before .next-near .ensures) (c .if1 .left), taken-in (c .before .before .before .before .before .before .before .before .before .before .before .before .before .args .t) (c .before .before .before .before .before .before .before .before .before .before .before .before .before .args .w) (now (c .before .before .before .before .before .before .before .before .before .before .before .before .before .args .s)) (now (c .before .before .before .before .before .before .before .before .before .before .before .before .before .args .cells)) (c .before .before .before .before .before .before .loop .inv .0) (c .before .before .before .before .before .loop-test .taken) (c .before .next-near .ensures) (c .if1 .left), next-in (c .before .before .before .before .before .before .before .before .before .before .before .before .before .args .t) (c .before .before .before .before .before .before .before .before .before .before .before .before .before .args .w) (now (c .before .before .before .before .before .before .before .before .before .before .before .before .before .args .s)) (now (c .before .before .before .before .before .before .before .before .before .before .before .before .before .args .cells)) (c .before .before .before .before .before .before .loop .inv .0) (c .before .before .before .before .before .loop-test .taken) (c .before .next-near .ensures) (c .if1 .left), c .before .before .before .before .before .before .before .before .before .before .before .before .before .pre .listed .points .few, c .before .before .before .before .before .before .loop .inv .0 .left-room)
+slice-write-left-2 c = omega (arith, deeper-in (c .before .before .before .before .before .before .loop .inv .0) (c .before .before .before .before .before .loop-test .taken) (c .before .next-near .ensures) (c .if1 .left), taken-in (c .before .before .before .before .before .before .loop .inv .0) (c .before .before .before .before .before .loop-test .taken) (c .before .next-near .ensures) (c .if1 .left), next-in (c .before .before .before .before .before .before .loop .inv .0) (c .before .before .before .before .before .loop-test .taken) (c .before .next-near .ensures) (c .if1 .left), c .before .before .before .before .before .before .before .before .before .before .before .before .before .pre .listed .points .few, c .before .before .before .before .before .before .loop .inv .0 .left-room)
 
 mul-order-2 : tie.Need-mul-order-2 Inv-loop μ-loop
-mul-order-2 c = omega (arith, deeper-in (c .before .before .before .before .before .before .before .before .before .before .before .before .before .args .t) (c .before .before .before .before .before .before .before .before .before .before .before .before .before .args .w) (now (c .before .before .before .before .before .before .before .before .before .before .before .before .before .args .s)) (now (c .before .before .before .before .before .before .before .before .before .before .before .before .before .args .cells)) (c .before .before .before .before .before .before .loop .inv .0) (c .before .before .before .before .before .loop-test .taken) (c .before .next-near .ensures) (c .if1 .left), taken-in (c .before .before .before .before .before .before .before .before .before .before .before .before .before .args .t) (c .before .before .before .before .before .before .before .before .before .before .before .before .before .args .w) (now (c .before .before .before .before .before .before .before .before .before .before .before .before .before .args .s)) (now (c .before .before .before .before .before .before .before .before .before .before .before .before .before .args .cells)) (c .before .before .before .before .before .before .loop .inv .0) (c .before .before .before .before .before .loop-test .taken) (c .before .next-near .ensures) (c .if1 .left), next-in (c .before .before .before .before .before .before .before .before .before .before .before .before .before .args .t) (c .before .before .before .before .before .before .before .before .before .before .before .before .before .args .w) (now (c .before .before .before .before .before .before .before .before .before .before .before .before .before .args .s)) (now (c .before .before .before .before .before .before .before .before .before .before .before .before .before .args .cells)) (c .before .before .before .before .before .before .loop .inv .0) (c .before .before .before .before .before .loop-test .taken) (c .before .next-near .ensures) (c .if1 .left), c .before .before .before .before .before .before .before .before .before .before .before .before .before .pre .listed .points .few)
+mul-order-2 c = omega (arith, deeper-in (c .before .before .before .before .before .before .loop .inv .0) (c .before .before .before .before .before .loop-test .taken) (c .before .next-near .ensures) (c .if1 .left), taken-in (c .before .before .before .before .before .before .loop .inv .0) (c .before .before .before .before .before .loop-test .taken) (c .before .next-near .ensures) (c .if1 .left), next-in (c .before .before .before .before .before .before .loop .inv .0) (c .before .before .before .before .before .loop-test .taken) (c .before .next-near .ensures) (c .if1 .left), c .before .before .before .before .before .before .before .before .before .before .before .before .before .pre .listed .points .few)
 
 slice-write-order-2 : tie.Need-slice-write-order-2 Inv-loop μ-loop
-slice-write-order-2 c = omega (arith, deeper-in (c .before .before .before .before .before .before .before .before .before .before .before .before .before .args .t) (c .before .before .before .before .before .before .before .before .before .before .before .before .before .args .w) (now (c .before .before .before .before .before .before .before .before .before .before .before .before .before .args .s)) (now (c .before .before .before .before .before .before .before .before .before .before .before .before .before .args .cells)) (c .before .before .before .before .before .before .loop .inv .0) (c .before .before .before .before .before .loop-test .taken) (c .before .next-near .ensures) (c .if1 .left), taken-in (c .before .before .before .before .before .before .before .before .before .before .before .before .before .args .t) (c .before .before .before .before .before .before .before .before .before .before .before .before .before .args .w) (now (c .before .before .before .before .before .before .before .before .before .before .before .before .before .args .s)) (now (c .before .before .before .before .before .before .before .before .before .before .before .before .before .args .cells)) (c .before .before .before .before .before .before .loop .inv .0) (c .before .before .before .before .before .loop-test .taken) (c .before .next-near .ensures) (c .if1 .left), next-in (c .before .before .before .before .before .before .before .before .before .before .before .before .before .args .t) (c .before .before .before .before .before .before .before .before .before .before .before .before .before .args .w) (now (c .before .before .before .before .before .before .before .before .before .before .before .before .before .args .s)) (now (c .before .before .before .before .before .before .before .before .before .before .before .before .before .args .cells)) (c .before .before .before .before .before .before .loop .inv .0) (c .before .before .before .before .before .loop-test .taken) (c .before .next-near .ensures) (c .if1 .left), c .before .before .before .before .before .before .before .before .before .before .before .before .before .pre .listed .points .few, c .before .before .before .before .before .before .loop .inv .0 .held .order-room)
+slice-write-order-2 c = omega (arith, deeper-in (c .before .before .before .before .before .before .loop .inv .0) (c .before .before .before .before .before .loop-test .taken) (c .before .next-near .ensures) (c .if1 .left), taken-in (c .before .before .before .before .before .before .loop .inv .0) (c .before .before .before .before .before .loop-test .taken) (c .before .next-near .ensures) (c .if1 .left), next-in (c .before .before .before .before .before .before .loop .inv .0) (c .before .before .before .before .before .loop-test .taken) (c .before .next-near .ensures) (c .if1 .left), c .before .before .before .before .before .before .before .before .before .before .before .before .before .pre .listed .points .few, c .before .before .before .before .before .before .loop .inv .0 .held .order-room)
 
 slice-write-seen-2 : tie.Need-slice-write-seen-2 Inv-loop μ-loop
-slice-write-seen-2 c = omega (arith, deeper-in (c .before .before .before .before .before .before .before .before .before .before .before .before .before .args .t) (c .before .before .before .before .before .before .before .before .before .before .before .before .before .args .w) (now (c .before .before .before .before .before .before .before .before .before .before .before .before .before .args .s)) (now (c .before .before .before .before .before .before .before .before .before .before .before .before .before .args .cells)) (c .before .before .before .before .before .before .loop .inv .0) (c .before .before .before .before .before .loop-test .taken) (c .before .next-near .ensures) (c .if1 .left), taken-in (c .before .before .before .before .before .before .before .before .before .before .before .before .before .args .t) (c .before .before .before .before .before .before .before .before .before .before .before .before .before .args .w) (now (c .before .before .before .before .before .before .before .before .before .before .before .before .before .args .s)) (now (c .before .before .before .before .before .before .before .before .before .before .before .before .before .args .cells)) (c .before .before .before .before .before .before .loop .inv .0) (c .before .before .before .before .before .loop-test .taken) (c .before .next-near .ensures) (c .if1 .left), next-in (c .before .before .before .before .before .before .before .before .before .before .before .before .before .args .t) (c .before .before .before .before .before .before .before .before .before .before .before .before .before .args .w) (now (c .before .before .before .before .before .before .before .before .before .before .before .before .before .args .s)) (now (c .before .before .before .before .before .before .before .before .before .before .before .before .before .args .cells)) (c .before .before .before .before .before .before .loop .inv .0) (c .before .before .before .before .before .loop-test .taken) (c .before .next-near .ensures) (c .if1 .left), c .before .before .before .before .before .before .before .before .before .before .before .before .before .pre .listed .points .few, c .before .before .before .before .before .before .loop .inv .0 .held .seen-room)
+slice-write-seen-2 c = omega (arith, deeper-in (c .before .before .before .before .before .before .loop .inv .0) (c .before .before .before .before .before .loop-test .taken) (c .before .next-near .ensures) (c .if1 .left), taken-in (c .before .before .before .before .before .before .loop .inv .0) (c .before .before .before .before .before .loop-test .taken) (c .before .next-near .ensures) (c .if1 .left), next-in (c .before .before .before .before .before .before .loop .inv .0) (c .before .before .before .before .before .loop-test .taken) (c .before .next-near .ensures) (c .if1 .left), c .before .before .before .before .before .before .before .before .before .before .before .before .before .pre .listed .points .few, c .before .before .before .before .before .before .loop .inv .0 .held .seen-room)
 
 mul-node : tie.Need-mul-node Inv-loop μ-loop
-mul-node c = omega (arith, deeper-in (c .before .before .before .before .before .before .before .before .before .before .before .before .before .args .t) (c .before .before .before .before .before .before .before .before .before .before .before .before .before .args .w) (now (c .before .before .before .before .before .before .before .before .before .before .before .before .before .args .s)) (now (c .before .before .before .before .before .before .before .before .before .before .before .before .before .args .cells)) (c .before .before .before .before .before .before .loop .inv .0) (c .before .before .before .before .before .loop-test .taken) (c .before .next-near .ensures) (c .if1 .left), taken-in (c .before .before .before .before .before .before .before .before .before .before .before .before .before .args .t) (c .before .before .before .before .before .before .before .before .before .before .before .before .before .args .w) (now (c .before .before .before .before .before .before .before .before .before .before .before .before .before .args .s)) (now (c .before .before .before .before .before .before .before .before .before .before .before .before .before .args .cells)) (c .before .before .before .before .before .before .loop .inv .0) (c .before .before .before .before .before .loop-test .taken) (c .before .next-near .ensures) (c .if1 .left), next-in (c .before .before .before .before .before .before .before .before .before .before .before .before .before .args .t) (c .before .before .before .before .before .before .before .before .before .before .before .before .before .args .w) (now (c .before .before .before .before .before .before .before .before .before .before .before .before .before .args .s)) (now (c .before .before .before .before .before .before .before .before .before .before .before .before .before .args .cells)) (c .before .before .before .before .before .before .loop .inv .0) (c .before .before .before .before .before .loop-test .taken) (c .before .next-near .ensures) (c .if1 .left), c .before .before .before .before .before .before .before .before .before .before .before .before .before .pre .listed .points .few)
+mul-node c = omega (arith, deeper-in (c .before .before .before .before .before .before .loop .inv .0) (c .before .before .before .before .before .loop-test .taken) (c .before .next-near .ensures) (c .if1 .left), taken-in (c .before .before .before .before .before .before .loop .inv .0) (c .before .before .before .before .before .loop-test .taken) (c .before .next-near .ensures) (c .if1 .left), next-in (c .before .before .before .before .before .before .loop .inv .0) (c .before .before .before .before .before .loop-test .taken) (c .before .next-near .ensures) (c .if1 .left), c .before .before .before .before .before .before .before .before .before .before .before .before .before .pre .listed .points .few)
 
 slice-write-node-2 : tie.Need-slice-write-node-2 Inv-loop μ-loop
-slice-write-node-2 c = omega (arith, deeper-in (c .before .before .before .before .before .before .before .before .before .before .before .before .before .args .t) (c .before .before .before .before .before .before .before .before .before .before .before .before .before .args .w) (now (c .before .before .before .before .before .before .before .before .before .before .before .before .before .args .s)) (now (c .before .before .before .before .before .before .before .before .before .before .before .before .before .args .cells)) (c .before .before .before .before .before .before .loop .inv .0) (c .before .before .before .before .before .loop-test .taken) (c .before .next-near .ensures) (c .if1 .left), taken-in (c .before .before .before .before .before .before .before .before .before .before .before .before .before .args .t) (c .before .before .before .before .before .before .before .before .before .before .before .before .before .args .w) (now (c .before .before .before .before .before .before .before .before .before .before .before .before .before .args .s)) (now (c .before .before .before .before .before .before .before .before .before .before .before .before .before .args .cells)) (c .before .before .before .before .before .before .loop .inv .0) (c .before .before .before .before .before .loop-test .taken) (c .before .next-near .ensures) (c .if1 .left), next-in (c .before .before .before .before .before .before .before .before .before .before .before .before .before .args .t) (c .before .before .before .before .before .before .before .before .before .before .before .before .before .args .w) (now (c .before .before .before .before .before .before .before .before .before .before .before .before .before .args .s)) (now (c .before .before .before .before .before .before .before .before .before .before .before .before .before .args .cells)) (c .before .before .before .before .before .before .loop .inv .0) (c .before .before .before .before .before .loop-test .taken) (c .before .next-near .ensures) (c .if1 .left), c .before .before .before .before .before .before .before .before .before .before .before .before .before .pre .listed .points .few, c .before .before .before .before .before .before .loop .inv .0 .node-room)
+slice-write-node-2 c = omega (arith, deeper-in (c .before .before .before .before .before .before .loop .inv .0) (c .before .before .before .before .before .loop-test .taken) (c .before .next-near .ensures) (c .if1 .left), taken-in (c .before .before .before .before .before .before .loop .inv .0) (c .before .before .before .before .before .loop-test .taken) (c .before .next-near .ensures) (c .if1 .left), next-in (c .before .before .before .before .before .before .loop .inv .0) (c .before .before .before .before .before .loop-test .taken) (c .before .next-near .ensures) (c .if1 .left), c .before .before .before .before .before .before .before .before .before .before .before .before .before .pre .listed .points .few, c .before .before .before .before .before .before .loop .inv .0 .node-room)
 
 mul-left-2 : tie.Need-mul-left-2 Inv-loop μ-loop
-mul-left-2 c = omega (arith, deeper-in (c .before .before .before .before .before .before .before .before .before .before .before .before .before .args .t) (c .before .before .before .before .before .before .before .before .before .before .before .before .before .args .w) (now (c .before .before .before .before .before .before .before .before .before .before .before .before .before .args .s)) (now (c .before .before .before .before .before .before .before .before .before .before .before .before .before .args .cells)) (c .before .before .before .before .before .before .loop .inv .0) (c .before .before .before .before .before .loop-test .taken) (c .before .next-near .ensures) (c .if1 .left), taken-in (c .before .before .before .before .before .before .before .before .before .before .before .before .before .args .t) (c .before .before .before .before .before .before .before .before .before .before .before .before .before .args .w) (now (c .before .before .before .before .before .before .before .before .before .before .before .before .before .args .s)) (now (c .before .before .before .before .before .before .before .before .before .before .before .before .before .args .cells)) (c .before .before .before .before .before .before .loop .inv .0) (c .before .before .before .before .before .loop-test .taken) (c .before .next-near .ensures) (c .if1 .left), next-in (c .before .before .before .before .before .before .before .before .before .before .before .before .before .args .t) (c .before .before .before .before .before .before .before .before .before .before .before .before .before .args .w) (now (c .before .before .before .before .before .before .before .before .before .before .before .before .before .args .s)) (now (c .before .before .before .before .before .before .before .before .before .before .before .before .before .args .cells)) (c .before .before .before .before .before .before .loop .inv .0) (c .before .before .before .before .before .loop-test .taken) (c .before .next-near .ensures) (c .if1 .left), c .before .before .before .before .before .before .before .before .before .before .before .before .before .pre .listed .points .few)
+mul-left-2 c = omega (arith, deeper-in (c .before .before .before .before .before .before .loop .inv .0) (c .before .before .before .before .before .loop-test .taken) (c .before .next-near .ensures) (c .if1 .left), taken-in (c .before .before .before .before .before .before .loop .inv .0) (c .before .before .before .before .before .loop-test .taken) (c .before .next-near .ensures) (c .if1 .left), next-in (c .before .before .before .before .before .before .loop .inv .0) (c .before .before .before .before .before .loop-test .taken) (c .before .next-near .ensures) (c .if1 .left), c .before .before .before .before .before .before .before .before .before .before .before .before .before .pre .listed .points .few)
 
 slice-write-left-3 : tie.Need-slice-write-left-3 Inv-loop μ-loop
-slice-write-left-3 c = simp length-set (omega (arith, deeper-in (c .before .before .before .before .before .before .before .before .before .before .before .before .before .args .t) (c .before .before .before .before .before .before .before .before .before .before .before .before .before .args .w) (now (c .before .before .before .before .before .before .before .before .before .before .before .before .before .args .s)) (now (c .before .before .before .before .before .before .before .before .before .before .before .before .before .args .cells)) (c .before .before .before .before .before .before .loop .inv .0) (c .before .before .before .before .before .loop-test .taken) (c .before .next-near .ensures) (c .if1 .left), taken-in (c .before .before .before .before .before .before .before .before .before .before .before .before .before .args .t) (c .before .before .before .before .before .before .before .before .before .before .before .before .before .args .w) (now (c .before .before .before .before .before .before .before .before .before .before .before .before .before .args .s)) (now (c .before .before .before .before .before .before .before .before .before .before .before .before .before .args .cells)) (c .before .before .before .before .before .before .loop .inv .0) (c .before .before .before .before .before .loop-test .taken) (c .before .next-near .ensures) (c .if1 .left), next-in (c .before .before .before .before .before .before .before .before .before .before .before .before .before .args .t) (c .before .before .before .before .before .before .before .before .before .before .before .before .before .args .w) (now (c .before .before .before .before .before .before .before .before .before .before .before .before .before .args .s)) (now (c .before .before .before .before .before .before .before .before .before .before .before .before .before .args .cells)) (c .before .before .before .before .before .before .loop .inv .0) (c .before .before .before .before .before .loop-test .taken) (c .before .next-near .ensures) (c .if1 .left), c .before .before .before .before .before .before .before .before .before .before .before .before .before .pre .listed .points .few, c .before .before .before .before .before .before .loop .inv .0 .left-room))
+slice-write-left-3 c = simp length-set (omega (arith, deeper-in (c .before .before .before .before .before .before .loop .inv .0) (c .before .before .before .before .before .loop-test .taken) (c .before .next-near .ensures) (c .if1 .left), taken-in (c .before .before .before .before .before .before .loop .inv .0) (c .before .before .before .before .before .loop-test .taken) (c .before .next-near .ensures) (c .if1 .left), next-in (c .before .before .before .before .before .before .loop .inv .0) (c .before .before .before .before .before .loop-test .taken) (c .before .next-near .ensures) (c .if1 .left), c .before .before .before .before .before .before .before .before .before .before .before .before .before .pre .listed .points .few, c .before .before .before .before .before .before .loop .inv .0 .left-room))
 
 add-taken-2 : tie.Need-add-taken-2 Inv-loop μ-loop
-add-taken-2 c = omega (arith, deeper-in (c .before .before .before .before .before .before .before .before .before .before .before .before .before .args .t) (c .before .before .before .before .before .before .before .before .before .before .before .before .before .args .w) (now (c .before .before .before .before .before .before .before .before .before .before .before .before .before .args .s)) (now (c .before .before .before .before .before .before .before .before .before .before .before .before .before .args .cells)) (c .before .before .before .before .before .before .loop .inv .0) (c .before .before .before .before .before .loop-test .taken) (c .before .next-near .ensures) (c .if1 .left), taken-in (c .before .before .before .before .before .before .before .before .before .before .before .before .before .args .t) (c .before .before .before .before .before .before .before .before .before .before .before .before .before .args .w) (now (c .before .before .before .before .before .before .before .before .before .before .before .before .before .args .s)) (now (c .before .before .before .before .before .before .before .before .before .before .before .before .before .args .cells)) (c .before .before .before .before .before .before .loop .inv .0) (c .before .before .before .before .before .loop-test .taken) (c .before .next-near .ensures) (c .if1 .left), next-in (c .before .before .before .before .before .before .before .before .before .before .before .before .before .args .t) (c .before .before .before .before .before .before .before .before .before .before .before .before .before .args .w) (now (c .before .before .before .before .before .before .before .before .before .before .before .before .before .args .s)) (now (c .before .before .before .before .before .before .before .before .before .before .before .before .before .args .cells)) (c .before .before .before .before .before .before .loop .inv .0) (c .before .before .before .before .before .loop-test .taken) (c .before .next-near .ensures) (c .if1 .left), c .before .before .before .before .before .before .before .before .before .before .before .before .before .pre .listed .points .few)
+add-taken-2 c = omega (arith, deeper-in (c .before .before .before .before .before .before .loop .inv .0) (c .before .before .before .before .before .loop-test .taken) (c .before .next-near .ensures) (c .if1 .left), taken-in (c .before .before .before .before .before .before .loop .inv .0) (c .before .before .before .before .before .loop-test .taken) (c .before .next-near .ensures) (c .if1 .left), next-in (c .before .before .before .before .before .before .loop .inv .0) (c .before .before .before .before .before .loop-test .taken) (c .before .next-near .ensures) (c .if1 .left), c .before .before .before .before .before .before .before .before .before .before .before .before .before .pre .listed .points .few)
 
 add-depth : tie.Need-add-depth Inv-loop μ-loop
-add-depth c = omega (arith, deeper-in (c .before .before .before .before .before .before .before .before .before .before .before .before .before .args .t) (c .before .before .before .before .before .before .before .before .before .before .before .before .before .args .w) (now (c .before .before .before .before .before .before .before .before .before .before .before .before .before .args .s)) (now (c .before .before .before .before .before .before .before .before .before .before .before .before .before .args .cells)) (c .before .before .before .before .before .before .loop .inv .0) (c .before .before .before .before .before .loop-test .taken) (c .before .next-near .ensures) (c .if1 .left), taken-in (c .before .before .before .before .before .before .before .before .before .before .before .before .before .args .t) (c .before .before .before .before .before .before .before .before .before .before .before .before .before .args .w) (now (c .before .before .before .before .before .before .before .before .before .before .before .before .before .args .s)) (now (c .before .before .before .before .before .before .before .before .before .before .before .before .before .args .cells)) (c .before .before .before .before .before .before .loop .inv .0) (c .before .before .before .before .before .loop-test .taken) (c .before .next-near .ensures) (c .if1 .left), next-in (c .before .before .before .before .before .before .before .before .before .before .before .before .before .args .t) (c .before .before .before .before .before .before .before .before .before .before .before .before .before .args .w) (now (c .before .before .before .before .before .before .before .before .before .before .before .before .before .args .s)) (now (c .before .before .before .before .before .before .before .before .before .before .before .before .before .args .cells)) (c .before .before .before .before .before .before .loop .inv .0) (c .before .before .before .before .before .loop-test .taken) (c .before .next-near .ensures) (c .if1 .left), c .before .before .before .before .before .before .before .before .before .before .before .before .before .pre .listed .points .few)
+add-depth c = omega (arith, deeper-in (c .before .before .before .before .before .before .loop .inv .0) (c .before .before .before .before .before .loop-test .taken) (c .before .next-near .ensures) (c .if1 .left), taken-in (c .before .before .before .before .before .before .loop .inv .0) (c .before .before .before .before .before .loop-test .taken) (c .before .next-near .ensures) (c .if1 .left), next-in (c .before .before .before .before .before .before .loop .inv .0) (c .before .before .before .before .before .loop-test .taken) (c .before .next-near .ensures) (c .if1 .left), c .before .before .before .before .before .before .before .before .before .before .before .before .before .pre .listed .points .few)
 
 loop-less-2 : tie.Need-loop-less-2 Inv-loop μ-loop
-loop-less-2 c = comes-less (c .before .before .before .before .before .before .before .before .before .before .before .before .before .args .t) (c .before .before .before .before .before .before .before .before .before .before .before .before .before .args .w) (now (c .before .before .before .before .before .before .before .before .before .before .before .before .before .args .s)) (now (c .before .before .before .before .before .before .before .before .before .before .before .before .before .args .cells)) (c .before .before .before .before .before .before .loop .inv .0) (c .before .before .before .before .before .loop-test .taken) (c .before .next-near .ensures) (c .if1 .left)
+loop-less-2 c = comes-less (c .before .before .before .before .before .before .loop .inv .0) (c .before .before .before .before .before .loop-test .taken) (c .before .next-near .ensures) (c .if1 .left)
 
 loop-again-2 : tie.Need-loop-again-2 Inv-loop μ-loop
-loop-again-2 c = (comes (c .before .before .before .before .before .before .before .before .before .before .before .before .before .args .t) (c .before .before .before .before .before .before .before .before .before .before .before .before .before .args .w) (now (c .before .before .before .before .before .before .before .before .before .before .before .before .before .args .s)) (now (c .before .before .before .before .before .before .before .before .before .before .before .before .before .args .cells)) (c .before .before .before .before .before .before .loop .inv .0) (c .before .before .before .before .before .loop-test .taken) (c .before .next-near .ensures) (c .if1 .left), long-turns _ _ _ _ (c .before .before .before .before .before .before .loop .order) (c .before .before .before .before .before .before .loop .seen) (c .before .before .before .before .before .before .loop .node) (c .before .before .before .before .before .before .loop .left) (c .before .before .before .before .before .before .loop .taken) (c .before .next-near .result - 1) (c .before .before .before .before .before .before .loop .depth - 1) (c .before .before .before .before .before .before .loop .depth) (c .before .before .before .before .before .before .before .before .before .before .before .before .before .args .n) (c .before .before .before .before .before .before .loop .inv .1))
+loop-again-2 c = (comes (c .before .before .before .before .before .before .loop .inv .0) (c .before .before .before .before .before .loop-test .taken) (c .before .next-near .ensures) (c .if1 .left), long-turns _ _ _ _ (c .before .before .before .before .before .before .loop .order) (c .before .before .before .before .before .before .loop .seen) (c .before .before .before .before .before .before .loop .node) (c .before .before .before .before .before .before .loop .left) (c .before .before .before .before .before .before .loop .taken) (c .before .next-near .result - 1) (c .before .before .before .before .before .before .loop .depth - 1) (c .before .before .before .before .before .before .loop .depth) (c .before .before .before .before .before .before .before .before .before .before .before .before .before .args .n) (c .before .before .before .before .before .before .loop .inv .1))
 
 same-length : tie.Need-same-length Inv-loop μ-loop
 same-length c = c .before .loop .inv .1 .order-long ∙ simp length-set

@@ -2,13 +2,13 @@
 use mathlib.Core.Path.{sym, _∙_}
 use native.Mathlib.Omega.{arith}
 use borrow.Author.Needs.{needs}
-use Rattle.nearby.specs.Engine.{fresh}
+use Rattle.nearby.specs.Engine.{nearBy, fresh}
 use Rattle.nearby.proofs.Fresh.{Seeking, seek-begins, seek-turns, seek-finds, seek-fails}
 use Rattle.nearby.proofs.next_near.Statement.{statement}
 use Rattle.nearby.proofs.next_near.Tie as tie
 
 abbrev Inv-loop : tie.InvT-loop
-Inv-loop s w t cells n seen i low from k₀ k = Seeking (fresh t w s cells seen i) low from k
+Inv-loop s w t cells n seen i low from k₀ k = Seeking (fresh (nearBy t w s cells) seen i) low from k
 
 abbrev μ-loop : tie.MeasureT-loop
 μ-loop s w t cells n seen i low from k₀ k = k
