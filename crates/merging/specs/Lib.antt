@@ -1,3 +1,4 @@
 pub mod Centre
 pub mod Merging
 pub mod Working
+pub mod Promises
