@@ -1,5 +1,5 @@
 -- A call on a mesh: what was lent, what is there afterwards and what was answered, any of it that the contract allows. Lists that are
--- lent have the stated room. Assumes nothing.
+-- lent have the stated room. The contracts are those of the list in crate determined, which are tied to the source. Assumes nothing.
 use mathlib.Core.Path.{_≡_}
 use mathlib.Core.Bool.{Bool}
 use mathlib.Core.List.{List}
@@ -8,17 +8,15 @@ use lib.ListN.{length, take}
 use Rattle.mesh.specs.Limits.{width}
 use Rattle.mesh.specs.Mesh.{Mesh}
 use Rattle.edges.specs.Edges.{Edge}
-use Rattle.edges.specs.Answers.{answerOf, judged, HemAnswer}
 use Rattle.edges.specs.declared.ShellCondition.{ShellCondition}
 use Rattle.edges.specs.declared.Judged.{Judged}
 use Rattle.edges.specs.declared.Judged.the-variants.{Found}
 use Rattle.edges.specs.declared.HemEdges.{HemEdges}
 use Rattle.wires.specs.Hems.{pairs}
-use Rattle.wires.specs.Answers.{PortedAnswer, HouseAnswer}
 use Rattle.wires.specs.declared.Wires.{Wires}
-use Rattle.panels.specs.Contract.{Answered}
 use Rattle.lines.specs.Working.{parts}
 use Rattle.panels.specs.declared.Answer.{Answer}
+use Rattle.determined.specs.Determined.{verdictCall, hemCall, portedCall, houseCall, panelsCall}
 
 -- how many corners a mesh has: the stated room of most lists
 abbrev pub cornersOf : Mesh → ℕ
@@ -28,7 +26,7 @@ cornersOf m = length (m .corners) / width
 
 pub record VerdictCall (m : Mesh) : Type 0 where
   pub answer : Judged
-  pub contract : answerOf answer ≡ judged m
+  pub contract : verdictCall .Allows m answer
 
 -- it answers this verdict
 abbrev pub says : {m : Mesh} → VerdictCall m → ShellCondition → Type 0
@@ -42,7 +40,7 @@ pub record HemCall (m : Mesh) : Type 0 where
   pub starts′ : List ℕ
   pub ends′ : List ℕ
   pub answer : HemEdges
-  pub contract : HemAnswer m starts ends starts′ ends′ answer
+  pub contract : hemCall .Allows (m, (starts, ends)) (answer, (starts′, ends′))
   pub starts-room : cornersOf m ≤ length starts
   pub ends-room : cornersOf m ≤ length ends
 
@@ -69,7 +67,7 @@ pub record HouseCall (m : Mesh) : Type 0 where
   pub flat : List ℕ
   pub lengths : List ℕ
   pub left : WiresLeft
-  pub contract : HouseAnswer m flat lengths (left .flat) (left .lengths) (left .answer .number) (left .answer .flat) (left .answer .wires)
+  pub contract : houseCall .Allows (m, (flat, lengths)) (left .answer, (left .flat, left .lengths))
   pub flat-room : cornersOf m ≤ length flat
   pub lengths-room : cornersOf m ≤ length lengths
 
@@ -77,7 +75,7 @@ pub record PortedCall (m : Mesh) : Type 0 where
   pub flat : List ℕ
   pub lengths : List ℕ
   pub left : WiresLeft
-  pub contract : PortedAnswer m flat lengths (left .flat) (left .lengths) (left .answer .number) (left .answer .flat) (left .answer .wires)
+  pub contract : portedCall .Allows (m, (flat, lengths)) (left .answer, (left .flat, left .lengths))
   pub flat-room : 2 * cornersOf m ≤ length flat
   pub lengths-room : cornersOf m ≤ length lengths
 
@@ -89,7 +87,7 @@ pub record PanelCall (normals : Bool) (m : Mesh) : Type 0 where
   pub flat′ : List ℕ
   pub lengths′ : List ℕ
   pub answer : Answer
-  pub contract : Answered m normals flat lengths (answer .number) (answer .faces) (answer .panels) flat′ lengths′
+  pub contract : panelsCall .Allows (m, normals, (flat, lengths)) (answer, (flat′, lengths′))
   pub flat-room : cornersOf m ≤ length flat
   pub lengths-room : cornersOf m ≤ length lengths
 

@@ -23,6 +23,7 @@ use Rattle.mesh.proofs.Faces.{isRing, rings-are, rings-back, sizes-back, corner
 use Rattle.mesh.proofs.Numbers.{clear, clear-0}
 use Rattle.mesh.proofs.Accepted.{Accepted, accepted, within-back, even-back}
 use Rattle.compaction.specs.Compaction.{firstUses, renumber, entries, usedPositions, usedTextures, usedNormals, renumbered, compacted}
+use Rattle.compaction.specs.Promises.{AcceptedAgain, EveryPositionUsed, EveryTextureUsed, EveryNormalUsed, PositionsFewer, TexturesFewer, NormalsFewer, SameFaces, SecondTimeSame}
 use Rattle.compaction.specs.Working.{column, Pointed}
 use Rattle.compaction.proofs.Uses.{uses-few, uses-below}
 use Rattle.compaction.proofs.Entries.{entries-again}
@@ -143,15 +144,15 @@ module _ (m : Mesh) (z : meshNumber m ≡ 0) where
   normals-counted = omega (arith, normals-long)
 
   -- no more than were given
-  pub positions-fewer : positionCount (compacted m) ≤ positionCount m
+  pub positions-fewer : PositionsFewer m
   unfolding usedPositions
   positions-fewer = omega (arith, positions-counted, used-few (pointed-positions m z), pointed-positions m z .whole)
 
-  pub textures-fewer : textureCount (compacted m) ≤ textureCount m
+  pub textures-fewer : TexturesFewer m
   unfolding usedTextures
   textures-fewer = omega (arith, textures-counted, used-few (pointed-textures m z), pointed-textures m z .whole)
 
-  pub normals-fewer : normalCount (compacted m) ≤ normalCount m
+  pub normals-fewer : NormalsFewer m
   unfolding usedNormals
   normals-fewer = omega (arith, normals-counted, used-few (pointed-normals m z), pointed-normals m z .whole)
 
@@ -202,7 +203,7 @@ module _ (m : Mesh) (z : meshNumber m ≡ 0) where
       ap (astrayAt (compacted m)) (List·getD-map (renumbered m) (threes (m .corners)) k [])
       ∙ none-astray k (rw (length-map (threes (m .corners)) (renumbered m)) at h))
 
-  pub accepted-compacted : meshNumber (compacted m) ≡ 0
+  pub accepted-compacted : AcceptedAgain m
   unfolding misfit ungrouped compacted
   accepted-compacted =
       let a : Accepted m = accepted m z in
@@ -230,17 +231,17 @@ module _ (m : Mesh) (z : meshNumber m ≡ 0) where
 
   -- ---- every entry is used, and different indices stay different
 
-  pub every-position-used : (i : ℕ) → i < positionCount (compacted m) → has i (map position (threes (compacted m .corners))) ≡ true
+  pub every-position-used : EveryPositionUsed m
   unfolding usedPositions
   every-position-used i h =
       ap (has i) (positions-renumbered m) ∙ every-number (map position (threes (m .corners))) i (rw positions-counted at h)
 
-  pub every-texture-used : (i : ℕ) → i < textureCount (compacted m) → has i (map texture (threes (compacted m .corners))) ≡ true
+  pub every-texture-used : EveryTextureUsed m
   unfolding usedTextures
   every-texture-used i h =
       ap (has i) (textures-renumbered m) ∙ every-number (map texture (threes (m .corners))) i (rw textures-counted at h)
 
-  pub every-normal-used : (i : ℕ) → i < normalCount (compacted m) → has i (map normal (threes (compacted m .corners))) ≡ true
+  pub every-normal-used : EveryNormalUsed m
   unfolding usedNormals
   every-normal-used i h =
       ap (has i) (normals-renumbered m) ∙ every-number (map normal (threes (m .corners))) i (rw normals-counted at h)
@@ -296,7 +297,7 @@ module _ (m : Mesh) (z : meshNumber m ≡ 0) where
       ∙ ap threes (sym (each-joined (faces m)) ∙ corners-back (m .sizes) (m .corners) (accepted m z .whole .adds))
 
   -- the faces are those that were given, each corner renumbered
-  pub faces-compacted : faces (compacted m) ≡ map (map (renumbered m)) (faces m)
+  pub faces-compacted : SameFaces m
   unfolding faces compacted
   faces-compacted =
       let fs = faces m in
@@ -345,7 +346,7 @@ module _ (m : Mesh) (z : meshNumber m ≡ 0) where
       ∙ map-same (λ c. renumbered (compacted m) (renumbered m c)) (renumbered m) [] (threes (m .corners)) corner-twice
 
   -- compacting a second time changes nothing
-  pub compacted-again : compacted (compacted m) ≡ compacted m
+  pub compacted-again : SecondTimeSame m
   unfolding compacted usedPositions usedTextures usedNormals
   compacted-again =
       let p = entries-twice (pointed-positions m z) (map position (threes (compacted m .corners))) (positions-renumbered m) in

@@ -1,2 +1,3 @@
 pub mod Compaction
 pub mod Working
+pub mod Promises

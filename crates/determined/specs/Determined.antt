@@ -2,7 +2,7 @@
 -- lent list afterwards, for accepted and refused input alike. Two results that it allows on one input are equal. Assumes nothing.
 use Prim.Native.Nat.{ℕ}
 use mathlib.Core.Path.{_≡_}
-use mathlib.Core.Bool.{Bool}
+use mathlib.Core.Bool.{Bool, false}
 use mathlib.Core.List.{List, [], _∷_}
 use lib.Ieee.{Float}
 use Rattle.mesh.specs.Mesh.{Mesh}
@@ -46,7 +46,7 @@ pub data OfEach (P : Call → Type 0) : List Call → Type 1 where
 abbrev pub equals : {G R : Type 0} → (G → R) → Call
 equals {G} {R} f = record { Given = G; Result = R; Allows = λ g r. r ≡ f g }
 
--- ---- the calls, each with the contract of its function
+-- ---- the calls, each with the contract of its function: `Tied` holds them to the sources
 
 -- `mesh::number`
 abbrev pub number : Call

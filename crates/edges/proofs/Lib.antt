@@ -17,3 +17,4 @@ pub mod Ordered
 pub mod Composed
 pub mod Answering
 pub mod OfHems
+pub mod Closing

@@ -22,6 +22,7 @@ use Rattle.edges.specs.Edges.{Edge, same, key, before, insert, keys, use
 use Rattle.edges.specs.Answers.{start, end, meshEdgesOf}
 use Rattle.edges.specs.Runs.{Edged}
 use Rattle.edges.proofs.SameEdge.{same-true, same-refl}
+use Rattle.edges.specs.Promises.{HemsUsed, HemsWithin}
 use Rattle.edges.proofs.OnlyHems.{isHem, hems-member}
 use Rattle.edges.proofs.Grouped.{inside}
 use Rattle.edges.proofs.Uses.{length-uses, uses-inside}
@@ -79,7 +80,7 @@ last-in k d (x ∷ es) = go (same k (key x)) refl (last-in k x es) (last-in k d 
 odd-some : (p : Edge → Bool) (es : List Edge) → odd (count p es) ≡ true → some p es ≡ true
 odd-some p es h = by-cases (some p es) (λ e. e) (λ e. clash h (ap odd (count-none p es e)))
 
-pub hems-used : (es : List Edge) (e : Edge) → some (same e) (hems es) ≡ true → some (same e) es ≡ true
+pub hems-used : HemsUsed
 hems-used es e h =
     let m : isHem es e ≡ true = sym (hems-member es e) ∙ h in
     let o : odd (uses (key e) es) ≡ true = and-left (odd (uses (key e) es)) (same e (lastOr (key e) (key e) es)) m in
@@ -144,6 +145,6 @@ pub mesh-hems-inside : (m : Mesh) → meshNumber m ≡ 0 → every (inside (posi
 unfolding faces
 mesh-hems-inside m h = hems-inside (m .corners) (m .sizes) (positionCount m) (edged m h)
 
-pub mesh-hems-within : (m : Mesh) → meshNumber m ≡ 0 → length (hems (meshEdgesOf m)) ≤ length (m .corners) / width
+pub mesh-hems-within : HemsWithin
 unfolding faces
 mesh-hems-within m h = hems-within (m .corners) (m .sizes) (positionCount m) (edged m h)

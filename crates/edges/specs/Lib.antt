@@ -1,3 +1,4 @@
 pub mod Edges
 pub mod Runs
 pub mod Answers
+pub mod Promises

@@ -15,6 +15,7 @@ use Rattle.lists.specs.Lists.{some}
 use Rattle.lists.proofs.Bools.{by-cases, true-false, or-false-left, or-false-right}
 use Rattle.floating.specs.Limits.{far, quotient, distant}
 use Rattle.floating.specs.Cells.{signed, cut, cell, within, compared, place, beside, besides}
+use Rattle.floating.specs.Promises.{ComparedByPlaces}
 
 -- ---- two integers, and their places above -B
 
@@ -78,7 +79,7 @@ cut-small (fin s m e) h =
 abbrev placed : Float → Float → ℕ
 placed t x = place (cell t x)
 
-pub compared-is : (t : Float) (ps qs : List Float) → some (distant t) ps ≡ false → some (distant t) qs ≡ false → besides (map (placed t) ps) (map (placed t) qs) ≡ compared t ps qs
+pub compared-is : ComparedByPlaces
 unfolding compared
 compared-is t [] qs h k = refl
 compared-is t (p ∷ ps) [] h k = refl

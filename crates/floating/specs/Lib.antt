@@ -5,3 +5,4 @@ pub mod Bits
 pub mod Cells
 pub mod Near
 pub mod Promised
+pub mod Promises

@@ -21,10 +21,11 @@ use Rattle.floating.specs.Near.{squared}
 use Rattle.nearby.specs.Pairs.{nearAt}
 use Rattle.nearby.specs.Walk.{groups}
 use Rattle.nearby.proofs.Both.{near-both}
-use Rattle.nearby.proofs.Reaching.{Near}
-use Rattle.nearby.proofs.Connected.{ConnectedSets, groups-connected}
+use Rattle.nearby.specs.Promises.{Near, ConnectedSets}
+use Rattle.nearby.proofs.Connected.{groups-connected}
 use Rattle.merging.specs.Centre.{Best, best, centreOf, closest, representative, sentTo}
 use Rattle.merging.specs.Merging.{mergedTo}
+use Rattle.merging.specs.Promises.{ChainedBecomeOne, OnlyChainedBecomeOne}
 
 -- ---- the representative stands in its group
 
@@ -120,11 +121,11 @@ module _ (t : Float) (w : ℕ) (s : List Float) where
   merged-connected i l = connected .chained i (sentTo w s gs i) (sent-in w s gs i (placed i l))
 
   -- points that a chain connects become one, and no others do
-  pub connected-merged : (i j : ℕ) → i < n → Reach (Near (nearAt t w s) n) i j → mergedTo t w s i ≡ mergedTo t w s j
+  pub connected-merged : ChainedBecomeOne t w s
   unfolding mergedTo
   connected-merged i j l r = sent-same w s gs i j each-once (connected .grouped i j l r)
 
-  pub merged-chained : (i j : ℕ) → i < n → j < n → mergedTo t w s i ≡ mergedTo t w s j → Reach (Near (nearAt t w s) n) i j
+  pub merged-chained : OnlyChainedBecomeOne t w s
   merged-chained i j l m e =
       reach-trans
       (merged-connected i l)

@@ -14,6 +14,7 @@ use Rattle.floating.specs.Points.{row}
 use Rattle.floating.specs.Cells.{cell, within, compared}
 use Rattle.floating.specs.Near.{square, sumFrom, squared, below, near}
 use Rattle.nearby.specs.Pairs.{nearAt}
+use Rattle.nearby.specs.Promises.{NearBothWays}
 
 -- ---- cells
 
@@ -136,5 +137,5 @@ near-rows t ps qs =
     ap (λ (u : Bool). u && below t ps qs) (compared-both t ps qs)
     ∙ ap (λ (x : Float). compared t qs ps && lt x (mul binary64 t t)) (squared-both ps qs)
 
-pub near-both : (t : Float) (w : ℕ) (s : List Float) (i j : ℕ) → nearAt t w s i j ≡ nearAt t w s j i
+pub near-both : NearBothWays
 near-both t w s i j = near-rows t (row w s i) (row w s j)

@@ -18,23 +18,11 @@ use Rattle.lists.proofs.Members.{In, Once, once-in, in-tail}
 use Rattle.lists.proofs.Others.{has-every, once-head}
 use Rattle.nearby.specs.Pairs.{nearAt}
 use Rattle.nearby.specs.Walk.{unlessHas, groupFrom, groupsBelow, groups}
+use Rattle.nearby.specs.Promises.{Near, lowestFirst, ConnectedSets, GroupsConnected}
 use Rattle.nearby.proofs.Both.{near-both}
 use Rattle.lists.proofs.Chains.{Reach}
 use Rattle.lists.proofs.Classes.{together, Ended, Parted, parted-none, parted-same, parted-more, together-reach, reach-together}
-use Rattle.nearby.proofs.Reaching.{Near, group-first, group-ended}
-
--- the first of a group is below all others
-abbrev pub lowestFirst : List ℕ → Bool
-lowestFirst [] = false
-lowestFirst (i ∷ g) = every (ltb i) g
-
--- gs are the connected sets of n points, where r says which are near, each walked from its lowest index
-pub record ConnectedSets (r : ℕ → ℕ → Bool) (n : ℕ) (gs : List (List ℕ)) : Type 0 where
-  pub once : (i : ℕ) → i < n → count (eqb i) (joined gs) ≡ 1
-  pub inside : (i : ℕ) → In i (joined gs) → i < n
-  pub chained : (i j : ℕ) → together i j gs ≡ true → Reach (Near r n) i j
-  pub grouped : (i j : ℕ) → i < n → Reach (Near r n) i j → together i j gs ≡ true
-  pub lowest : every lowestFirst gs ≡ true
+use Rattle.nearby.proofs.Reaching.{group-first, group-ended}
 
 -- ---- the groups of the points below k
 
@@ -112,5 +100,5 @@ module _ (r : ℕ → ℕ → Bool) (n : ℕ) (both : (i j : ℕ) → r i j ≡ 
       }
 
 -- the groups of the points of a list s, of width w, at a tolerance t
-pub groups-connected : (t : Float) (w : ℕ) (s : List Float) → ConnectedSets (nearAt t w s) (length s / w) (groups (nearAt t w s) (length s / w))
+pub groups-connected : GroupsConnected
 groups-connected t w s = connected-sets (nearAt t w s) (length s / w) (near-both t w s)

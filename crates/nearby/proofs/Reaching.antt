@@ -17,14 +17,11 @@ use Rattle.lists.proofs.Counting.{clash, or-either}
 use Rattle.lists.proofs.Parts.{some-append}
 use Rattle.lists.proofs.Members.{In, in-cases, in-left, in-right, in-append, in-one, in-snoc, in-last, has-keep, Once, once-one, once-snoc, free, free-snoc}
 use Rattle.nearby.specs.Walk.{descending, Walk, at, walk, often, groupFrom}
+use Rattle.nearby.specs.Promises.{Near}
 use Rattle.nearby.proofs.Counting.{count-le}
 use Rattle.nearby.proofs.Frames.{turn-old, turn-new, walk-ends}
 use Rattle.lists.proofs.Chains.{Reach, here, reach-trans, reach-one}
 use Rattle.lists.proofs.Classes.{Ended}
-
--- a and b are two of n points, and near
-abbrev pub Near : (ℕ → ℕ → Bool) → ℕ → ℕ → ℕ → Type 0
-Near r n a b = (a < n) × (b < n) × (r a b ≡ true)
 
 -- ---- the numbers below n that pass
 

@@ -1,3 +1,4 @@
 pub mod Pairs
 pub mod Walk
 pub mod Engine
+pub mod Promises

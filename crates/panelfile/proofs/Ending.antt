@@ -24,6 +24,7 @@ use Rattle.grouping.proofs.Accepting.{threes-flat, accepted-faces}
 use Rattle.panelfile.specs.declared.Progress.{Progress}
 use Rattle.panelfile.specs.declared.Panel.{Panel}
 use Rattle.panelfile.specs.Reading.{Drawn, Reader, readAll, meshDrawn, finish, fullRoom, panelNumber, panelMesh}
+use Rattle.panelfile.specs.Promises.{ReadIsAccepted}
 use Rattle.panelfile.specs.Working.{Drawing, Full}
 use Rattle.panelfile.specs.Answer.{PanelRead, Handed, refusedWith}
 use Rattle.panelfile.proofs.Sane.{all-sane}
@@ -160,7 +161,7 @@ module _ (file : List ℕ) (p t n : List Float) (c s : List ℕ) where
   }
 
 -- an accepted file's mesh is an accepted mesh
-pub read-accepted : (file : List ℕ) → finish file (readAll file) ≡ 0 → meshNumber (panelMesh file) ≡ 0
+pub read-accepted : ReadIsAccepted
 unfolding finish panelMesh meshDrawn
 read-accepted file e =
     let z = readAll file in

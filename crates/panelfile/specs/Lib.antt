@@ -2,3 +2,4 @@ pub mod Records
 pub mod Reading
 pub mod Working
 pub mod Answer
+pub mod Promises

@@ -17,6 +17,7 @@ use Rattle.lists.proofs.Counting.{bump-plus, bump-up, count-append, count-all, 
 use Rattle.edges.specs.Edges.{runEdges, ringEdges, meshEdges, Edge, same, verdict, Irregular, Regular, hems}
 use Rattle.edges.proofs.Uses.{length-run}
 use Rattle.wires.specs.Hems.{Balanced, ins, outs}
+use Rattle.wires.specs.Promises.{EveryHemOnce}
 use Rattle.wires.specs.House.{lesser, leastStart, leastEnd, without, Walk, longer, walk, wiresIn, houseWires}
 use Rattle.wires.proofs.Balance.{at, without-count, hems-balanced}
 
@@ -221,7 +222,5 @@ unfolding houseWires
 house-used h b = wires-used (length h) (length h) h (omega arith) (omega arith) b
 
 -- where the verdict is Oriented or Closed every hem edge is used exactly once by the house wires, and nothing else is
-pub every-hem-once :
-    (fs : List (List ℕ)) → (verdict (meshEdges fs) ≡ Irregular → ⊥) → (verdict (meshEdges fs) ≡ Regular → ⊥)
-    → (p : Edge → Bool) → count p (meshEdges (houseWires (hems (meshEdges fs)))) ≡ count p (hems (meshEdges fs))
+pub every-hem-once : EveryHemOnce
 every-hem-once fs n r = house-used (hems (meshEdges fs)) (hems-balanced fs n r) .all

@@ -14,3 +14,4 @@ pub mod Rising
 pub mod BlankTables
 pub mod HemLists
 pub mod Answering
+pub mod SingleStarts

@@ -63,7 +63,7 @@ from-without s e (x ∷ g) = go (same e x) refl (eqb s (x .0)) refl (from-withou
     go false p true q h = rw (p, q, h)
     go false p false q h = rw q h
 
-outs-from : (s : ℕ) (g : List Edge) → outs s g ≡ length (from s g)
+pub outs-from : (s : ℕ) (g : List Edge) → outs s g ≡ length (from s g)
 outs-from s [] = refl
 outs-from s (x ∷ g) = go (eqb s (x .0)) (outs-from s g)
   where

@@ -4,3 +4,4 @@ pub mod Hems
 pub mod Tables
 pub mod Tracing
 pub mod Answers
+pub mod Promises

@@ -1,0 +1,26 @@
+-- Each contract of the source is, word for word, what the list of the calls says of it. Assumes nothing.
+use Rattle.determined.specs.Determined.{Call, Determined}
+use Rattle.determined.specs.Tied.{Tied, OneResult, AllTied}
+
+-- so what is said of the list is said of the sources: a call whose results are determined has a source whose contract allows one result
+pub source-determined :
+    {K A R E : Type 0} (Post : K → A → R → E → Type 0) (c : Call) (given : A → c .Given) (result : R → E → c .Result)
+    → Tied Post c given result → Determined c → OneResult Post result
+source-determined Post c given result tie one κs a r q e f h k =
+    one (given a) (result r e) (result q f) (tie κs a r e h) (tie κs a q f k)
+
+pub all-tied : AllTied
+all-tied = record {
+  number-tied = λ κs a r e h. h;
+  face-tied = λ κs a r e h. h;
+  compaction-tied = λ κs a r e h. h;
+  removal-tied = λ κs a r e h. h;
+  merging-tied = λ κs a r e h. h;
+  verdict-tied = λ κs a r e h. h;
+  hem-tied = λ κs a r e h. h;
+  ported-tied = λ κs a r e h. h;
+  house-tied = λ κs a r e h. h;
+  panels-tied = λ κs a r e h. h;
+  read-tied = λ κs a r e h. h;
+  sheet-tied = λ κs a r e h. h;
+}

@@ -1,0 +1,89 @@
+-- The list of the calls is no retelling: each contract, as the source of its function has it, says what the list says. The kit hands
+-- out a contract as `Post`: lifetimes, arguments, answer, arguments afterwards. A weaker `ensures` in any of the twelve sources is
+-- refused here. Assumes nothing.
+use Prim.Native.Nat.{ℕ}
+use mathlib.Core.Path.{_≡_}
+use mathlib.Core.List.{List}
+use lib.Ieee.{Float}
+use denote.Ref.{RefT, now}
+use Rattle.mesh.specs.Mesh.{Mesh, meshOf}
+use Rattle.compaction.specs.Compaction as compaction
+use Rattle.folded.specs.Folded as removal
+use Rattle.determined.specs.Determined.{Call, TwoLists, number, face, compactionCall, removalCall, mergingCall, verdictCall, hemCall, portedCall, houseCall, panelsCall, readCall, sheetCall}
+use Rattle.mesh.proofs.number.Reads as mesh-number
+use Rattle.mesh.proofs.face.Reads as mesh-face
+use Rattle.compaction.proofs.remove_unused_attrs.Reads as remove-unused-attrs
+use Rattle.folded.proofs.remove_degenerate_faces.Reads as remove-degenerate-faces
+use Rattle.merging.proofs.put_together_same_attrs.Reads as put-together-same-attrs
+use Rattle.edges.proofs.shell_condition.Reads as shell-condition
+use Rattle.edges.proofs.hem_edges.Reads as hem-edges
+use Rattle.wires.proofs.extract_boundaries.Reads as extract-boundaries
+use Rattle.wires.proofs.house_wires.Reads as house-wires
+use Rattle.panels.proofs.components.Reads as components
+use Rattle.panelfile.proofs.read_panel.Reads as read-panel
+use Rattle.sheet.proofs.sheet.Reads as sheet
+
+-- ---- arguments, as a contract has them: one behind the other
+
+-- a lent list, and the arguments behind it
+abbrev pub Lends : Type 0 → Type 0 → Type 0
+Lends X Rest = RefT (List X) × Rest
+
+-- the five lists of a mesh, and the arguments behind them
+abbrev pub LendsMesh : Type 0 → Type 0
+LendsMesh Rest = Lends Float (Lends Float (Lends Float (Lends ℕ (Lends ℕ Rest))))
+
+module _ {Rest : Type 0} where
+  -- the mesh that the five lists are
+  abbrev pub meshIn : LendsMesh Rest → Mesh
+  meshIn a = meshOf (now (a .0)) (now (a .1 .0)) (now (a .1 .1 .0)) (now (a .1 .1 .1 .0)) (now (a .1 .1 .1 .1 .0))
+
+  -- what stands behind them
+  abbrev pub behind : LendsMesh Rest → Rest
+  behind a = a .1 .1 .1 .1 .1
+
+  -- what one lent list holds, and what two hold
+  abbrev pub list : {X : Type 0} → Lends X Rest → List X
+  list a = now (a .0)
+
+  abbrev pub twoLists : Lends ℕ (Lends ℕ Rest) → TwoLists
+  twoLists a = (now (a .0), now (a .1 .0))
+
+  -- the lists that compaction and removal lend
+  abbrev pub compactedLists : Lends ℕ (Lends Float (Lends Float (Lends Float Rest))) → compaction.Result
+  compactedLists a = compaction.resultOf (now (a .0)) (now (a .1 .0)) (now (a .1 .1 .0)) (now (a .1 .1 .1 .0))
+
+  abbrev pub removedLists : Lends ℕ (Lends ℕ Rest) → removal.Result
+  removedLists a = removal.resultOf (now (a .0)) (now (a .1 .0))
+
+-- ---- the ties
+
+-- whatever this contract of the source lets its function answer and leave is a result that the call of the list allows
+abbrev pub Tied :
+    {K A R E : Type 0} → (K → A → R → E → Type 0) → (c : Call) → (A → c .Given) → (R → E → c .Result) → Type 0
+Tied {K} {A} {R} {E} Post c given result = (κs : K) (a : A) (r : R) (e : E) → Post κs a r e → c .Allows (given a) (result r e)
+
+-- two results that a contract of the source allows on the same arguments are equal, as far as the caller sees them
+abbrev pub OneResult :
+    {K A R E B : Type 0} → (K → A → R → E → Type 0) → (R → E → B) → Type 0
+OneResult {K} {A} {R} {E} Post result =
+    (κs : K) (a : A) (r q : R) (e f : E) → Post κs a r e → Post κs a q f → result r e ≡ result q f
+
+-- the twelve calls
+pub record AllTied : Type 0 where
+  pub number-tied : Tied mesh-number.Post number meshIn (λ r e. r)
+  pub face-tied : Tied mesh-face.Post face (λ a. (meshIn a, behind a .0)) (λ r e. now r)
+  pub compaction-tied :
+      Tied remove-unused-attrs.Post compactionCall (λ a. (meshIn a, compactedLists (behind a))) (λ r e. (r, compactedLists (behind e)))
+  pub removal-tied :
+      Tied remove-degenerate-faces.Post removalCall (λ a. (meshIn a, removedLists (behind a))) (λ r e. (r, removedLists (behind e)))
+  pub merging-tied :
+      Tied put-together-same-attrs.Post mergingCall (λ a. (meshIn a, behind a .0, list (behind a .1))) (λ r e. (r, list (behind e .1)))
+  pub verdict-tied : Tied shell-condition.Post verdictCall meshIn (λ r e. r)
+  pub hem-tied : Tied hem-edges.Post hemCall (λ a. (meshIn a, twoLists (behind a))) (λ r e. (r, twoLists (behind e)))
+  pub ported-tied : Tied extract-boundaries.Post portedCall (λ a. (meshIn a, twoLists (behind a))) (λ r e. (r, twoLists (behind e)))
+  pub house-tied : Tied house-wires.Post houseCall (λ a. (meshIn a, twoLists (behind a))) (λ r e. (r, twoLists (behind e)))
+  pub panels-tied :
+      Tied components.Post panelsCall (λ a. (meshIn a, behind a .0, twoLists (behind a .1))) (λ r e. (r, twoLists (behind e .1)))
+  pub read-tied : Tied read-panel.Post readCall (λ a. (list a, meshIn (a .1))) (λ r e. (r, meshIn (e .1)))
+  pub sheet-tied : Tied sheet.Post sheetCall (λ a. (list a, list (a .1))) (λ r e. (r, list (e .1)))
