@@ -18,7 +18,7 @@ use Rattle.lists.proofs.Bools.{true-false, or-neither, or-false-left, or-false-
 use Rattle.floating.specs.Limits.{power, unfit, boundless, distant}
 use Rattle.floating.specs.Points.{point, coordinates, pointsOf}
 use Rattle.floating.specs.Scaling.{centreOf, divisorOf, scaledOf, around, boxWith, boxFrom, boxOf, scaledIn, scaledList}
-use Rattle.floating.specs.Promised.{Doubles, ScaledNear}
+use Rattle.floating.specs.Promises.{Doubles, ScaledNear}
 use Rattle.floating.specs.declared.Point.{Point}
 use Rattle.floating.specs.declared.Bounds.{Bounds}
 use Rattle.floating.proofs.Upto.{Upto}

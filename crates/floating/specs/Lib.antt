@@ -4,5 +4,4 @@ pub mod Scaling
 pub mod Bits
 pub mod Cells
 pub mod Near
-pub mod Promised
 pub mod Promises

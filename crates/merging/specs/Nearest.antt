@@ -12,7 +12,7 @@ use Rattle.mesh.specs.Mesh.{Mesh}
 use Rattle.floating.specs.Points.{row}
 use Rattle.floating.specs.Near.{squared}
 use Rattle.floating.specs.Scaling.{scaledList}
-use Rattle.floating.specs.Promised.{Doubles}
+use Rattle.floating.specs.Promises.{Doubles}
 use Rattle.nearby.specs.Pairs.{nearAt}
 use Rattle.nearby.specs.Walk.{groups}
 use Rattle.merging.specs.Centre.{centreOf, representative}
