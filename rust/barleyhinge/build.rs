@@ -19,7 +19,10 @@ fn main() {
     let folder = given.unwrap_or_else(|| here.join("../../target/staticlib"));
     let archive = folder.join("libbarleyhinge.a");
     if !Path::new(&archive).exists() {
-        stop(format!("{} is not there: 'rt staticlib barleyhinge' makes it, and BARLEYHINGE_LIB names its folder", archive.display()));
+        stop(format!(
+            "{} is not there: 'rt staticlib barleyhinge' makes it, and BARLEYHINGE_LIB names its folder",
+            archive.display()
+        ));
     }
     println!("cargo:rerun-if-env-changed=BARLEYHINGE_LIB");
     println!("cargo:rerun-if-changed={}", archive.display());
