@@ -1,8 +1,10 @@
 /* The library tried from C: reads a panel file from standard input, cleans it and prints its sheet, as document 01 has it; then a line
-   from each call that the sheet does not need. A refusal prints 'refused' and its number. Last comes the sheet again, from the one call that makes all of it. rust/barleyhinge/examples/cover.rs is the same
-   from Rust; tools/try_library builds and runs both. */
+   from each call that the sheet does not need. A refusal prints 'refused' and its number. Last comes the sheet again, from the one call
+   that makes all of it. One byte more than a file may have is read, so that a longer one is refused and not cut.
+   rust/barleyhinge/examples/cover.rs is the same from Rust; tools/try_library builds and runs both. */
 #include "barleyhinge.h"
 #include <stdio.h>
+#include <string.h>
 
 /* A mesh at the full limits. */
 struct mesh {
@@ -20,10 +22,12 @@ struct mesh {
 
 static struct mesh drawn, left, clean;
 static uint32_t flat[2 * BH_MAX_CORNERS], lengths[BH_MAX_CORNERS];
-static const char *const verdicts[] = {"Irregular", "Regular", "Oriented", "Closed"};
 
 /* Reads, removes folded faces, compacts; the number of the first refusal, or 0. */
 static uint32_t draw(const uint8_t *file, size_t file_len) {
+    if (file_len > BH_MAX_FILE) {
+        return BH_OVER_LIMIT;
+    }
     uint32_t number = bh_read_panel(
         file, file_len, ROOM(drawn.positions), ROOM(drawn.textures), ROOM(drawn.normals), ROOM(drawn.corners), ROOM(drawn.sizes),
         &drawn.positioncount, &drawn.texturecount, &drawn.normalcount, &drawn.cornercount, &drawn.facecount);
@@ -58,7 +62,7 @@ static void print_sheet(void) {
     bh_shell_condition(LISTS(&clean), &verdict);
     bh_components(LISTS(&clean), false, ROOM(flat), ROOM(lengths), &numbers, &rows);
     printf("mesh %zu %zu %zu %zu\n", clean.positioncount, clean.texturecount, clean.normalcount, clean.facecount);
-    printf("verdict %s\npanels %zu\n", verdicts[verdict], rows);
+    printf("verdict %s\npanels %zu\n", bh_verdict_text(verdict), rows);
     uint32_t number = bh_house_wires(LISTS(&clean), ROOM(flat), ROOM(lengths), &numbers, &rows);
     if (number != BH_DONE) {
         printf("hems refused %u\n", number);
@@ -66,11 +70,29 @@ static void print_sheet(void) {
     print_rows("hem", rows);
 }
 
+/* The faces in the opposite order, so that larger ones come first, and a face of no corners; grouped again, in 'left'. */
+static void print_turned(void) {
+    static uint32_t corners[3 * BH_MAX_CORNERS], sizes[BH_MAX_FACES];
+    size_t start, len, at = 0, faces = 0;
+    for (size_t k = clean.facecount; k > 0; k--) {
+        bh_face(LISTS(&clean), k - 1, &start, &len);
+        memcpy(corners + at, clean.corners + start, len * sizeof *corners);
+        at += len;
+        sizes[faces++] = clean.sizes[k - 1];
+    }
+    if (faces < BH_MAX_FACES) {
+        sizes[faces++] = 0;
+    }
+    bh_push(corners, at, sizes, faces, ROOM(left.corners), ROOM(left.sizes), &left.cornercount, &left.facecount);
+    printf("grouped %zu of %zu\n", left.cornercount, left.facecount);
+}
+
 static void print_more(void) {
     size_t start, len, numbers, rows, pairs[3];
     printf("number %u\n", bh_mesh_number(LISTS(&clean)));
     bh_face(LISTS(&clean), clean.facecount - 1, &start, &len);
     printf("last face %zu %zu\n", start, len);
+    print_turned();
     bh_hem_edges(LISTS(&clean), ROOM(flat), ROOM(lengths), &rows);
     printf("hem edges %zu\n", rows);
     bh_extract_boundaries(LISTS(&clean), ROOM(flat), ROOM(lengths), &numbers, &rows);
@@ -82,7 +104,7 @@ static void print_more(void) {
 }
 
 int main(void) {
-    static uint8_t file[65536], text[BH_SHEET_ROOM];
+    static uint8_t file[BH_MAX_FILE + 1], text[BH_SHEET_ROOM];
     size_t length = fread(file, 1, sizeof file, stdin), bytes;
     uint32_t number = draw(file, length);
     if (number == BH_DONE) {

@@ -1,7 +1,7 @@
 /* Barleyhinge for C: the calls of the verified mesh library (crates/barleyhinge), linked from libbarleyhinge.a.
 
    'rt staticlib barleyhinge' makes the archive, target/staticlib/libbarleyhinge.a, for x86-64 Linux. tools/check_declarations holds
-   the declarations below to the source of the library, name by name, order by order, type by type.
+   the declarations below to the source of the library, name by name, order by order, type by type, and each constant to its value.
 
    A MESH is five lists that the caller keeps and the calls only read:
      positions  3 numbers to a position       at most BH_MAX_ENTRIES positions
@@ -21,9 +21,22 @@
    behind it is as it was. Calls check in ascending order of number. Any call on a mesh may answer 1 to 5; what else it may answer
    stands with it.
 
+   MEMORY. No call allocates, and none keeps anything: there are no statics, so calls may run side by side, each with lists of its own to
+   write; lists that are only read may be shared. A lent list need not be initialised. What a call needs beside its lists is stack, in KB
+   of 1,024 bytes, measured on x86-64 by tools/measure_stack, which also holds these figures to the library; none is proved:
+     bh_sheet 724, bh_components 200, bh_read_panel 192, bh_put_together_same_attrs 180, bh_extract_boundaries 164, bh_house_wires 164,
+     bh_remove_degenerate_faces 104, bh_shell_condition 104, bh_hem_edges 104, bh_remove_unused_attrs 32, bh_push 4, bh_mesh_number 4,
+     bh_face 4
+
    What is promised is proved for every input: each call's contract stands in crates/barleyhinge/src/lib.rt. */
 #ifndef BARLEYHINGE_H
 #define BARLEYHINGE_H
+
+/* The version of this interface. */
+#define BH_VERSION_MAJOR 0
+#define BH_VERSION_MINOR 2
+#define BH_VERSION_PATCH 0
+#define BH_VERSION "0.2.0"
 
 #include <stdbool.h>
 #include <stddef.h>
@@ -42,6 +55,7 @@ enum bh_limit {
     BH_MAX_CORNERS = 4096,
     BH_MAX_FACES = 1365,
     BH_MAX_FACE_CORNERS = 32,
+    BH_MAX_FILE = 65536,  /* bytes of a panel file that has a sheet; of a longer one the sheet is 'refused 1' */
     BH_SHEET_ROOM = 65536 /* bytes: room for every sheet */
 };
 
@@ -71,6 +85,38 @@ enum bh_verdict {
     BH_CLOSED = 3     /* else */
 };
 
+/* What a number says, in words. */
+static inline const char *bh_text(uint32_t number) {
+    switch (number) {
+    case BH_DONE: return "done";
+    case BH_OVER_LIMIT: return "a list is over its limit";
+    case BH_MISFIT: return "a length is no multiple of its width, or the sizes don't add up to the corners";
+    case BH_FACE_SIZE: return "a face size lies outside 3 to 32";
+    case BH_UNGROUPED: return "the sizes aren't grouped";
+    case BH_INDEX: return "an index is out of range";
+    case BH_TOLERANCE: return "the tolerance is not a number from 2^-30 to 1";
+    case BH_COORDINATE: return "a coordinate is not finite or too large";
+    case BH_QUOTIENT: return "a coordinate is too large for the tolerance";
+    case BH_ROOM: return "a lent list is too short";
+    case BH_NO_HOUSE_WIRES: return "house wires where the verdict is neither Oriented nor Closed";
+    case BH_FILE_CUT: return "the file stops too early";
+    case BH_RECORD: return "a record's kind is unknown, or its length is wrong";
+    case BH_AFTER_END: return "bytes follow the end record";
+    default: return "no number of the table";
+    }
+}
+
+/* A verdict by its name, as it stands on a sheet. */
+static inline const char *bh_verdict_text(uint32_t verdict) {
+    switch (verdict) {
+    case BH_IRREGULAR: return "Irregular";
+    case BH_REGULAR: return "Regular";
+    case BH_ORIENTED: return "Oriented";
+    case BH_CLOSED: return "Closed";
+    default: return "no verdict";
+    }
+}
+
 /* Is this a mesh? Answers 0 where it is, else the first of 1 to 5 that applies. Lends nothing. */
 uint32_t bh_mesh_number(
     const double *positions, size_t positions_len,
@@ -90,6 +136,20 @@ void bh_face(
     size_t k,
     size_t *start,
     size_t *len);
+
+/* Faces in any order become the corners and sizes of a mesh: triangles first, then quadrangles, then larger faces, each group in the
+   order in which they came. Faces of fewer than three corners are dropped. 'corners' has the corners of all faces, one face behind the
+   other, and 'sizes' how many corners each has, 0 to BH_MAX_FACE_CORNERS.
+   Lends two lists, each with the room of the list that it is made from.
+   On 0: 3 numbers in 'newcorners' for each of '*cornercount' corners, and '*facecount' sizes.
+   Answers 1, 2, 3 (a face of more than 32 corners) or 9. Indices are not looked at: bh_mesh_number does that, and answers 5. */
+uint32_t bh_push(
+    const uint32_t *corners, size_t corners_len,
+    const uint32_t *sizes, size_t sizes_len,
+    uint32_t *newcorners, size_t newcorners_len,
+    uint32_t *newsizes, size_t newsizes_len,
+    size_t *cornercount,
+    size_t *facecount);
 
 /* Compaction: entries that no corner uses go; the others are renumbered by first use, from 0, each of the three lists by itself.
    Lends four lists, each with the room of the list that it is made from. The sizes don't change and are not given back.

@@ -9,6 +9,7 @@ use Rattle.mesh.specs.Limits.{width}
 use Rattle.mesh.specs.Mesh.{Mesh}
 use Rattle.mesh.specs.Table.{shapeNumber, meshNumber, after}
 use Rattle.mesh.specs.Face.{offsetOf, facePart}
+use Rattle.faces.specs.declared.Pushed.{Pushed}
 use Rattle.compaction.specs.declared.Compacted.{Compacted}
 use Rattle.folded.specs.declared.Removed.{Removed}
 use Rattle.merging.specs.declared.Merged.{Merged}
@@ -28,6 +29,10 @@ pub record PartAnswer (m : Mesh) (k start len : ℕ) : Type 0 where
   pub part : take len (drop start (m .corners)) ≡ facePart m k
   pub begins : start ≡ startOf m k
   pub long : len ≡ length (facePart m k)
+
+-- what the grouping of faces answers: the number returned, and the counts of corners and faces
+abbrev pub pushedBy : ℕ → ℕ → ℕ → Pushed
+pushedBy number c f = record { number = number; corners = c; faces = f }
 
 -- what compaction answers: the number returned, and the counts of positions, texture points and normals
 abbrev pub compactedBy : ℕ → ℕ → ℕ → ℕ → Compacted

@@ -7,6 +7,7 @@
 ghost use mathlib.Core.Path.{_≡_};
 ghost use Rattle.mesh.specs.Mesh.{meshOf};
 ghost use Rattle.mesh.specs.Table.{meshNumber};
+ghost use Rattle.faces.specs.Faces.{Grouped};
 ghost use Rattle.compaction.specs.Compaction as compacting;
 ghost use Rattle.folded.specs.Folded as folding;
 ghost use Rattle.edges.specs.Edges.{Verdict};
@@ -55,6 +56,24 @@ pub extern "C" fn bh_face(
     if n != 0 {
         *start = mesh::WIDTH * mesh::offset(sizes, k);
     }
+}
+
+// Faces in any order, grouped: how many corners and faces are written.
+#[no_mangle]
+pub extern "C" fn bh_push(
+    corners: &[u32],
+    sizes: &[u32],
+    newcorners: &mut [u32],
+    newsizes: &mut [u32],
+    cornercount: &mut usize,
+    facecount: &mut usize,
+) -> u32
+    ensures { λ r. ⌜ Grouped (now (corners .entry)) (now (sizes .entry)) (now (newcorners .entry)) (now (newsizes .entry)) (now (newcorners .exit)) (now (newsizes .exit)) (call.pushedBy r (now (cornercount .exit)) (now (facecount .exit))) ⌝ }
+{
+    let pushed = faces::push(corners, sizes, newcorners, newsizes);
+    *cornercount = pushed.corners;
+    *facecount = pushed.faces;
+    pushed.number
 }
 
 // Compaction.

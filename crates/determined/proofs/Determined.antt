@@ -13,7 +13,7 @@ use Rattle.edges.specs.Answers.{answerOf, judged}
 use Rattle.edges.proofs.Answering.{answer-only}
 use Rattle.wires.specs.Answers.{Answered}
 use Rattle.wires.specs.declared.Wires.{Wires}
-use Rattle.determined.specs.Determined.{Call, Determined, _and_, done, equals, TwoLists, number, face, compactionCall, removalCall, mergingCall, verdictCall, hemCall, portedCall, houseCall, panelsCall, readCall, sheetCall, AllDetermined}
+use Rattle.determined.specs.Determined.{Call, Determined, _and_, done, equals, TwoLists, number, face, pushCall, compactionCall, removalCall, mergingCall, verdictCall, hemCall, portedCall, houseCall, panelsCall, readCall, sheetCall, AllDetermined}
 
 -- ---- the general law
 
@@ -39,6 +39,15 @@ verdict-determined : Determined verdictCall
 verdict-determined = one-result verdictCall answerOf judged answer-only (λ g r a. a)
 
 -- ---- field by field
+
+push-determined : Determined pushCall
+push-determined g r q a b =
+    let n : r .0 .number ≡ q .0 .number = cc in
+    let c : r .0 .corners ≡ q .0 .corners = cc in
+    let f : r .0 .faces ≡ q .0 .faces = cc in
+    let x : r .1 .0 ≡ q .1 .0 = cc in
+    let y : r .1 .1 ≡ q .1 .1 = cc in
+    λ i. (record { number = n i; corners = c i; faces = f i }, (x i, y i))
 
 compaction-determined : Determined compactionCall
 compaction-determined g r q a b =
@@ -138,6 +147,7 @@ pub all-determined : AllDetermined
 all-determined =
     number-determined
     and face-determined
+    and push-determined
     and compaction-determined
     and removal-determined
     and merging-determined

@@ -8,6 +8,8 @@ use lib.Ieee.{Float}
 use Rattle.mesh.specs.Mesh.{Mesh}
 use Rattle.mesh.specs.Table.{meshNumber}
 use Rattle.mesh.specs.Face.{facePart}
+use Rattle.faces.specs.Faces.{Grouped}
+use Rattle.faces.specs.declared.Pushed.{Pushed}
 use Rattle.compaction.specs.Compaction as compaction
 use Rattle.compaction.specs.declared.Compacted.{Compacted}
 use Rattle.folded.specs.Folded as removal
@@ -88,6 +90,14 @@ verdictCall = record { Given = Mesh; Result = Judged; Allows = λ m r. answerOf 
 abbrev pub TwoLists : Type 0
 TwoLists = List ℕ × List ℕ
 
+-- `faces::push`: the corners and the sizes of faces in any order, and the lent lists
+abbrev pub pushCall : Call
+pushCall = record {
+  Given = TwoLists × TwoLists;
+  Result = Pushed × TwoLists;
+  Allows = λ g r. Grouped (g .0 .0) (g .0 .1) (g .1 .0) (g .1 .1) (r .1 .0) (r .1 .1) (r .0);
+}
+
 -- `edges::hem_edges`
 abbrev pub hemCall : Call
 hemCall = record {
@@ -145,6 +155,7 @@ abbrev pub calls : List Call
 calls =
     number
     ∷ face
+    ∷ pushCall
     ∷ compactionCall
     ∷ removalCall
     ∷ mergingCall

@@ -1,4 +1,5 @@
-// 9: a lent result list is shorter than its stated room. Compaction with exactly that room, and with one number less in one list.
+// 9: a lent result list is shorter than its stated room. Compaction with exactly that room, and with one number less in one list; the
+// sheet with exactly its room, and with one byte less.
 use mesh::MISSING;
 
 // Compaction: the number, and the counts of positions, texture points and normals.
@@ -71,6 +72,37 @@ fn compacted(what: &[u8], c: &mut [u32], p: &mut [f64], t: &mut [f64], n: &mut [
     number(r.textures as u64);
     number(r.normals as u64);
     io::write_all(1, b"\n");
+}
+
+// The sheet: the number, its length, and how many bytes at the front of the lent list are as they were.
+pub(crate) fn sheet_rooms() {
+    let mut less = [b'.'; 65535];
+    printed(b"9 sheet, one byte short", &mut less);
+    let mut room = [b'.'; 65536];
+    printed(b"9 sheet with its room", &mut room);
+}
+
+// A file that has an end record and nothing else: no faces, so Closed.
+fn printed(what: &[u8], out: &mut [u8]) {
+    let file = [0u8; 4];
+    let r = sheet::sheet(&file, out);
+    io::write_all(1, what);
+    number(r.number as u64);
+    number(r.length as u64);
+    number(untouched(out) as u64);
+    io::write_all(1, b"\n");
+}
+
+// How many bytes stand before the first that is not '.'.
+fn untouched(out: &[u8]) -> usize {
+    let mut k: usize = 0;
+    while k < out.len() {
+        if out[k] != b'.' {
+            return k;
+        }
+        k += 1;
+    }
+    k
 }
 
 // A number behind a space.

@@ -38,7 +38,7 @@ pub fn time(call: Call, case: &Case) -> Option<Duration> {
         Call::HemEdges => fastest(|| (), |()| boundary(mesh.faces())),
         Call::ExtractBoundaries | Call::HouseWires => fastest(|| (), |()| mesh.extract_boundaries()),
         Call::Components => fastest(|| (), |()| mesh.components(true)),
-        Call::Face | Call::ReadPanel | Call::Sheet => return None,
+        Call::Face | Call::ReadPanel | Call::Sheet | Call::Push => return None,
     })
 }
 

@@ -53,6 +53,9 @@ pub struct Library {
         ) -> u32,
     >,
     pub sheet: Option<unsafe extern "C" fn(*const u8, usize, *mut u8, usize, *mut u64) -> u32>,
+    pub push: Option<
+        unsafe extern "C" fn(*const u32, usize, *const u32, usize, *mut u32, usize, *mut u32, usize, *mut u64, *mut u64) -> u32,
+    >,
 }
 
 /// What came back from the product.
@@ -131,6 +134,7 @@ impl Product for Library {
             Call::Components => self.components.is_some(),
             Call::ReadPanel => self.read_panel.is_some(),
             Call::Sheet => self.sheet.is_some(),
+            Call::Push => self.push.is_some(),
         }
     }
 
@@ -219,6 +223,22 @@ impl Library {
             Call::ExtractBoundaries => rows!(extract_boundaries),
             Call::HouseWires => rows!(house_wires),
             Call::Components => rows!(components, question.use_normal),
+            Call::Push => {
+                let (corners, corners_room) = asked.lists[0].words();
+                let (sizes, sizes_room) = asked.lists[1].words();
+                asked.number = self.push.unwrap()(
+                    mesh.corners.as_ptr(),
+                    mesh.corners.len(),
+                    mesh.sizes.as_ptr(),
+                    mesh.sizes.len(),
+                    corners,
+                    corners_room,
+                    sizes,
+                    sizes_room,
+                    counts,
+                    counts.add(1),
+                );
+            }
             Call::ReadPanel | Call::Sheet => unreachable!(),
         }
     }

@@ -3,6 +3,7 @@
 use crate::random::Random;
 use crate::{coordinates, damage, shapes};
 use judge::mesh::Corner;
+use judge::reading::numbers::mesh_number;
 use judge::{Mesh, MISSING};
 
 /// A mesh and the tolerance that its coordinates were made for.
@@ -82,6 +83,21 @@ pub fn random(random: &Random) -> Case {
         damage::mesh(random, &mut mesh);
     }
     Case { mesh, tolerance }
+}
+
+/// The same mesh with its faces in any order, now and then with faces of fewer than three corners between them, and one of 32 or 33.
+pub fn any_order(random: &Random, mesh: &Mesh) -> Mesh {
+    if [1, 2].contains(&mesh_number(mesh)) {
+        return mesh.clone();
+    }
+    let mut faces = mesh.faces();
+    random.shuffle(&mut faces);
+    let more = if random.once_in(2) { random.below(4) } else { 0 };
+    for _ in 0..more {
+        let corners = if random.once_in(12) { random.within(32, 33) } else { random.below(3) };
+        faces.insert(random.below(faces.len() + 1), vec![[random.below(5) as u32, MISSING, 0]; corners]);
+    }
+    mesh.with_faces(&faces)
 }
 
 /// How many corners to aim at.

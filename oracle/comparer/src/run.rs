@@ -102,6 +102,8 @@ fn one(
 /// What is asked about: a mesh, or a file.
 pub struct Subject {
     question: Question,
+    /// The same with its faces in any order, for `push`.
+    any_order: Question,
     is_small: bool,
 }
 
@@ -109,15 +111,22 @@ impl Subject {
     /// The mesh, or the file, with this index.
     pub fn of(random: &Random, is_file: bool, index: u64) -> Subject {
         if is_file {
-            return Subject { question: Question { file: files::random(random), ..Question::default() }, is_small: false };
+            let question = Question { file: files::random(random), ..Question::default() };
+            return Subject { question, any_order: Question::default(), is_small: false };
         }
         let is_small = index < meshes::exhaustive_count();
         let Case { mesh, tolerance } = if is_small { meshes::exhaustive(index, random) } else { meshes::random(random) };
-        Subject { question: Question { mesh, tolerance, ..Question::default() }, is_small }
+        let any_order = Question { mesh: meshes::any_order(random, &mesh), ..Question::default() };
+        Subject { question: Question { mesh, tolerance, ..Question::default() }, any_order, is_small }
     }
 
     /// The question that a call is asked. Merging takes long where there are many points, so it is not asked every time.
     pub fn question(&mut self, random: &Random, call: Call) -> Option<&Question> {
+        if call == Call::Push {
+            let stated = stated_rooms(call, &self.any_order.mesh);
+            self.any_order.rooms = if self.is_small { stated } else { damage::rooms(random, stated) };
+            return Some(&self.any_order);
+        }
         let mesh = &self.question.mesh;
         if call == Call::PutTogetherSameAttrs {
             let points = mesh.positions.len() / 3 + mesh.textures.len() / 2 + mesh.normals.len() / 3;

@@ -90,6 +90,7 @@ fn shows(call: Call) -> Option<&'static str> {
     match call {
         Call::RemoveUnusedAttrs => Some("renumbered"),
         Call::RemoveDegenerateFaces => Some("removed or split"),
+        Call::Push => Some("grouped anew"),
         Call::PutTogetherSameAttrs => Some("merged"),
         Call::ExtractBoundaries | Call::HouseWires => Some("several wires"),
         Call::Components => Some("several panels"),
@@ -99,7 +100,7 @@ fn shows(call: Call) -> Option<&'static str> {
 
 fn is_telling(call: Call, question: &Question, compared: &Compared) -> bool {
     match call {
-        Call::RemoveUnusedAttrs | Call::RemoveDegenerateFaces | Call::PutTogetherSameAttrs => {
+        Call::RemoveUnusedAttrs | Call::RemoveDegenerateFaces | Call::PutTogetherSameAttrs | Call::Push => {
             matches!(&compared.right.lists[0], Numbers::Words(corners) if *corners != question.mesh.corners)
         }
         Call::ExtractBoundaries | Call::HouseWires | Call::Components => count(compared, 1) > 1,

@@ -62,6 +62,15 @@ pub fn answers(call: Call) -> &'static [(&'static str, Wrong)] {
             &[("an index asked before bytes after the end", index_before_13), ("a negative zero read as zero", no_negative_zero)]
         }
         Call::Sheet => &[("panels by normals", panels_by_normals)],
+        Call::Push => &[
+            ("quadrangles among the larger faces", |q, right| accepted(right, || pushed_by(q, |n| (n >= 3).then(|| n.min(4))))),
+            ("larger faces by their size", |q, right| accepted(right, || pushed_by(q, |n| (n >= 3).then(|| n)))),
+            ("faces of two corners kept", |q, right| accepted(right, || pushed_by(q, |n| (n >= 2).then(|| n.clamp(3, 5))))),
+            ("faces of fewer than three corners refused", small_faces_refused),
+            ("indices looked at", |q, right| {
+                (number(q) == 5).then(|| Answer::refused(Call::Push, 5)).filter(|_| right.number == 0)
+            }),
+        ],
     }
 }
 
@@ -71,6 +80,19 @@ fn accepted(right: &Answer, wrong: impl Fn() -> Answer) -> Option<Answer> {
 
 fn number(question: &Question) -> u32 {
     numbers::mesh_number(&question.mesh)
+}
+
+/// Faces grouped by a key of their size; those without one are dropped.
+fn pushed_by(question: &Question, key: fn(usize) -> Option<usize>) -> Answer {
+    let mut faces: Vec<Vec<Corner>> = question.mesh.faces().into_iter().filter(|face| key(face.len()).is_some()).collect();
+    faces.sort_by_key(|face| key(face.len()));
+    let made = Mesh::default().with_faces(&faces);
+    Answer::unfolded(Unfolded { corners: made.corners, sizes: made.sizes })
+}
+
+fn small_faces_refused(question: &Question, right: &Answer) -> Option<Answer> {
+    let has_small = question.mesh.sizes.iter().any(|size| *size < 3);
+    (right.number == 0 && has_small).then(|| Answer::refused(Call::Push, 3))
 }
 
 fn order_before_range(question: &Question, right: &Answer) -> Option<Answer> {

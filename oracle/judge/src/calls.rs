@@ -16,11 +16,12 @@ pub enum Call {
     Components,
     ReadPanel,
     Sheet,
+    Push,
 }
 
 impl Call {
-    /// In the order of the C interface.
-    pub const ALL: [Call; 12] = [
+    /// In the order of the C interface, but that `push` stands last: the kinds of the list for crate replay go by the others' places.
+    pub const ALL: [Call; 13] = [
         Call::MeshNumber,
         Call::Face,
         Call::RemoveUnusedAttrs,
@@ -33,6 +34,7 @@ impl Call {
         Call::Components,
         Call::ReadPanel,
         Call::Sheet,
+        Call::Push,
     ];
 
     /// The name in the C interface, without its prefix.
@@ -50,6 +52,7 @@ impl Call {
             Call::Components => "components",
             Call::ReadPanel => "read_panel",
             Call::Sheet => "sheet",
+            Call::Push => "push",
         }
     }
 
@@ -60,7 +63,7 @@ impl Call {
 }
 
 /// All that a call can be given. A call looks at its own part: `face`, `tolerance` and `use_normal` belong to one call each, `file` to
-/// the two that read a panel file, `rooms` holds the length of each lent result list, in the order of the C interface.
+/// the two that read a panel file, of the mesh only the faces to `push`, `rooms` holds the length of each lent result list, in the order of the C interface.
 #[derive(Clone, Debug, Default)]
 pub struct Question {
     pub mesh: Mesh,
@@ -103,7 +106,7 @@ impl Answer {
             Call::MeshNumber => (vec![], 0),
             Call::Face => (vec![], 2),
             Call::RemoveUnusedAttrs => (vec![words(), floats(), floats(), floats()], 3),
-            Call::RemoveDegenerateFaces => (vec![words(), words()], 2),
+            Call::RemoveDegenerateFaces | Call::Push => (vec![words(), words()], 2),
             Call::PutTogetherSameAttrs => (vec![words()], 3),
             Call::ShellCondition => return Answer { number, lists: vec![], counts: vec![Count::Untouched] },
             Call::HemEdges => (vec![words(), words()], 1),

@@ -38,6 +38,11 @@ pub fn into_rust(mesh: &Mesh) -> Option<PolygonMesh> {
         uv_coords: mesh.textures.chunks(2).map(|p| Vector2::new(p[0], p[1])).collect(),
         normals: mesh.normals.chunks(3).map(|p| Vector3::new(p[0], p[1], p[2])).collect(),
     };
+    PolygonMesh::try_new(attributes, pushed(mesh)).ok()
+}
+
+/// The faces, in the order given, pushed one by one.
+fn pushed(mesh: &Mesh) -> Faces {
     let index = |number: u32| if number == MISSING { None } else { Some(number as usize) };
     let mut pushed = Faces::default();
     for face in mesh.faces() {
@@ -45,7 +50,7 @@ pub fn into_rust(mesh: &Mesh) -> Option<PolygonMesh> {
             face.iter().map(|c| StandardVertex { pos: c[0] as usize, uv: index(c[1]), nor: index(c[2]) }).collect();
         pushed.push(&corners);
     }
-    PolygonMesh::try_new(attributes, pushed).ok()
+    pushed
 }
 
 fn flat_corners(faces: &Faces) -> Vec<u32> {

@@ -69,6 +69,10 @@ fn answered(call: Call, question: &Question) -> Option<Answer> {
         Call::HemEdges => Answer::hem_edges(&hem_edges(mesh)),
         Call::ExtractBoundaries => Answer::rows(&extract_boundaries(mesh)),
         Call::Components => Answer::rows(&components(mesh, question.use_normal)),
+        Call::Push => {
+            let faces = pushed(mesh);
+            Answer::unfolded(Unfolded { corners: flat_corners(&faces), sizes: faces.face_iter().map(|face| face.len() as u32).collect() })
+        }
         Call::HouseWires | Call::ReadPanel | Call::Sheet => return None,
     })
 }

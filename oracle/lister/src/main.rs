@@ -14,9 +14,9 @@ use judge::reading::numbers::stated_rooms;
 use judge::{reading, Call, Mesh, Question};
 use record::{File, List};
 
-/// The calls that the list asks: all but the sheet.
+/// The calls that the list asks: all but the sheet and `push`.
 fn calls() -> impl Iterator<Item = Call> {
-    Call::ALL.into_iter().filter(|call| *call != Call::Sheet)
+    Call::ALL.into_iter().filter(|call| ![Call::Sheet, Call::Push].contains(call))
 }
 
 /// The numbers that a call can answer: the list has each of them.

@@ -1,16 +1,19 @@
 //! The library tried from Rust: reads a panel file from standard input, cleans it and prints its sheet, as document 01 has it; then a
-//! line from each call that the sheet does not need. A refusal prints 'refused' and its number. Last comes the sheet again,
-//! from the one call that makes all of it. examples/cover.c is the same from C;
-//! tools/try_library builds and runs both.
+//! line from each call that the sheet does not need. A refusal prints 'refused' and its number. Last comes the sheet again, from the
+//! one call that makes all of it. One byte more than a file may have is read, so that a longer one is refused and not cut.
+//! examples/cover.c is the same from C; tools/try_library builds and runs both.
 //!
 //! It has C's `main`, since the start-up code of a Rust `main` does not get through the emulator that runs x86-64 programs on Arm.
 #![no_main]
 
-use barleyhinge::{read_panel, sheet, Mesh, OwnedMesh, Refusal, Rows};
+use barleyhinge::{read_panel, sheet, Faces, Mesh, OwnedMesh, Refusal, Rows, MAX_FACES, MAX_FILE};
 use std::io::Read;
 
 /// Reads, removes folded faces, compacts.
 fn draw(file: &[u8]) -> Result<OwnedMesh, Refusal> {
+    if file.len() > MAX_FILE {
+        return Err(Refusal::OverLimit);
+    }
     let drawn = read_panel(file)?;
     let left = drawn.mesh().remove_degenerate_faces()?;
     Mesh { corners: &left.corners, sizes: &left.sizes, ..drawn.mesh() }.remove_unused_attrs()
@@ -26,7 +29,7 @@ fn print_rows(name: &str, rows: &Rows) {
 fn print_sheet(mesh: Mesh) -> Result<(), Refusal> {
     let counts = [mesh.positions.len() / 3, mesh.textures.len() / 2, mesh.normals.len() / 3, mesh.sizes.len()];
     println!("mesh {} {} {} {}", counts[0], counts[1], counts[2], counts[3]);
-    println!("verdict {:?}", mesh.shell_condition()?);
+    println!("verdict {}", mesh.shell_condition()?);
     println!("panels {}", mesh.components(false)?.lengths.len());
     match mesh.house_wires() {
         Ok(wires) => print_rows("hem", &wires),
@@ -35,11 +38,23 @@ fn print_sheet(mesh: Mesh) -> Result<(), Refusal> {
     Ok(())
 }
 
+/// The faces in the opposite order, so that larger ones come first, and a face of no corners; grouped again.
+fn turned(mesh: Mesh) -> Result<Faces, Refusal> {
+    let faces: Vec<&[u32]> = (0..mesh.sizes.len()).rev().map(|k| mesh.face(k)).collect();
+    let mut sizes: Vec<u32> = mesh.sizes.iter().rev().copied().collect();
+    if sizes.len() < MAX_FACES {
+        sizes.push(0);
+    }
+    Faces::push(&faces.concat(), &sizes)
+}
+
 fn print_more(mesh: Mesh) -> Result<(), Refusal> {
     println!("number {}", mesh.check().map_or_else(Refusal::number, |()| 0));
     let part = mesh.face(mesh.sizes.len().wrapping_sub(1));
     let start = if part.is_empty() { 0 } else { mesh.corners.len() - part.len() };
     println!("last face {start} {}", part.len());
+    let turned = turned(mesh)?;
+    println!("grouped {} of {}", turned.corners.len() / 3, turned.sizes.len());
     println!("hem edges {}", mesh.hem_edges()?.len());
     print_rows("ported", &mesh.extract_boundaries()?);
     for tolerance in [0.125, 2.0] {
@@ -55,7 +70,7 @@ fn print_more(mesh: Mesh) -> Result<(), Refusal> {
 #[no_mangle]
 pub extern "C" fn main() -> i32 {
     let mut file = vec![];
-    std::io::stdin().take(65_536).read_to_end(&mut file).unwrap();
+    std::io::stdin().take(MAX_FILE as u64 + 1).read_to_end(&mut file).unwrap();
     let done = draw(&file).and_then(|clean| {
         print_sheet(clean.mesh())?;
         print_more(clean.mesh())

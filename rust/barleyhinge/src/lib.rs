@@ -3,6 +3,9 @@
 //! Each method passes on to the library's function of the same name (`include/barleyhinge.h` says what it promises), lends it the room
 //! that is stated for it, and gives back what was written, as lists of its own. A number other than 0 comes back as a [`Refusal`].
 //!
+//! The library itself allocates nothing and has no statics, so calls may run side by side. It needs stack: 724 KB for [`sheet`], less for
+//! each other call (`include/barleyhinge.h` has the figure of each); a Rust thread has 2 MB unless it is asked for less.
+//!
 //! ```no_run
 //! use barleyhinge::{read_panel, Refusal, Verdict};
 //!
@@ -24,10 +27,20 @@ pub use numbers::{Refusal, Verdict};
 /// The index that means 'missing'.
 pub const MISSING: u32 = 4_294_967_295;
 
-/// The limits: positions, texture points or normals; corners; faces.
+/// The most positions, texture points or normals of a mesh.
 pub const MAX_ENTRIES: usize = 2_048;
+
+/// The most corners of a mesh.
 pub const MAX_CORNERS: usize = 4_096;
+
+/// The most faces of a mesh.
 pub const MAX_FACES: usize = 1_365;
+
+/// The most corners of a face.
+pub const MAX_FACE_CORNERS: usize = 32;
+
+/// The most bytes of a panel file that has a sheet; of a longer one the sheet is `refused 1`.
+pub const MAX_FILE: usize = 65_536;
 
 /// Room for every sheet, in bytes.
 pub const SHEET_ROOM: usize = 65_536;
@@ -66,7 +79,7 @@ impl OwnedMesh {
     }
 }
 
-/// The faces that removal leaves: their corners and their sizes. The attribute lists of the mesh don't change.
+/// Faces that a call gives, grouped: their corners and their sizes.
 #[derive(Clone, Debug, Default, PartialEq, Eq)]
 pub struct Faces {
     pub corners: Vec<u32>,
@@ -123,7 +136,8 @@ macro_rules! on {
 /// A call that gives rows: a flat list with this room, and lengths with room for one number per corner.
 macro_rules! rows {
     ($mesh: expr, $name: ident, $room: expr $(, $more: expr)*) => {{
-        let (mut flat, mut lengths) = (vec![0; $room], vec![0; $mesh.corner_count()]);
+        let mut flat = vec![0; $room];
+        let mut lengths = vec![0; $mesh.corner_count()];
         let (mut numbers, mut rows) = (0, 0);
         let number = on!(
             $mesh, $name $(, $more)*,
@@ -134,6 +148,34 @@ macro_rules! rows {
         lengths.truncate(rows);
         Ok(Rows { flat, lengths })
     }};
+}
+
+impl Faces {
+    /// Faces in any order, grouped: triangles first, then quadrangles, then larger faces. `corners` has the corners of all faces, one
+    /// face behind the other, and `sizes` how many corners each has; faces of fewer than three are dropped. Refuses 1, 2 and 3; indices
+    /// are looked at where the faces become part of a [`Mesh`].
+    pub fn push(corners: &[u32], sizes: &[u32]) -> Result<Faces, Refusal> {
+        let mut made = Faces { corners: vec![0; corners.len()], sizes: vec![0; sizes.len()] };
+        let (mut corner_count, mut face_count) = (0, 0);
+        let number = unsafe {
+            library::bh_push(
+                corners.as_ptr(),
+                corners.len(),
+                sizes.as_ptr(),
+                sizes.len(),
+                made.corners.as_mut_ptr(),
+                made.corners.len(),
+                made.sizes.as_mut_ptr(),
+                made.sizes.len(),
+                &mut corner_count,
+                &mut face_count,
+            )
+        };
+        Refusal::unless_done(number)?;
+        made.corners.truncate(3 * corner_count);
+        made.sizes.truncate(face_count);
+        Ok(made)
+    }
 }
 
 impl<'a> Mesh<'a> {
@@ -186,7 +228,7 @@ impl<'a> Mesh<'a> {
         Ok(made)
     }
 
-    /// Folded faces go or are cut open.
+    /// Folded faces go or are cut open. The attribute lists don't change.
     pub fn remove_degenerate_faces(self) -> Result<Faces, Refusal> {
         let mut made = Faces { corners: vec![0; self.corners.len()], sizes: vec![0; self.corner_count() / 3] };
         let (mut corners, mut faces) = (0, 0);
@@ -232,7 +274,8 @@ impl<'a> Mesh<'a> {
 
     /// The hem edges, from start to end, ascending by their lower and then their higher position.
     pub fn hem_edges(self) -> Result<Vec<[u32; 2]>, Refusal> {
-        let (mut starts, mut ends) = (vec![0; self.corner_count()], vec![0; self.corner_count()]);
+        let mut starts = vec![0; self.corner_count()];
+        let mut ends = vec![0; self.corner_count()];
         let mut count = 0;
         let number = on!(self, bh_hem_edges, starts.as_mut_ptr(), starts.len(), ends.as_mut_ptr(), ends.len(), &mut count);
         Refusal::unless_done(number)?;

@@ -22,6 +22,15 @@ extern "C" {
         len: *mut usize,
     );
 
+    pub fn bh_push(
+        corners: *const u32, corners_len: usize,
+        sizes: *const u32, sizes_len: usize,
+        newcorners: *mut u32, newcorners_len: usize,
+        newsizes: *mut u32, newsizes_len: usize,
+        cornercount: *mut usize,
+        facecount: *mut usize,
+    ) -> u32;
+
     pub fn bh_remove_unused_attrs(
         positions: *const f64, positions_len: usize,
         textures: *const f64, textures_len: usize,

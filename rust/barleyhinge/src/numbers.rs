@@ -1,7 +1,8 @@
 //! The numbers of the library, by their types.
 
-/// Why a call was refused: each number of the table but 0.
+/// Why a call was refused: each number of the table but 0. More rows may come.
 #[derive(Clone, Copy, Debug, PartialEq, Eq, PartialOrd, Ord, Hash)]
+#[non_exhaustive]
 #[repr(u32)]
 pub enum Refusal {
     /// A list is over its limit.
@@ -63,9 +64,10 @@ impl Refusal {
     }
 }
 
-impl std::fmt::Display for Refusal {
-    fn fmt(&self, f: &mut std::fmt::Formatter) -> std::fmt::Result {
-        let why = match self {
+impl Refusal {
+    /// What it says, in words; the same as `bh_text` of the C header.
+    pub fn text(self) -> &'static str {
+        match self {
             Refusal::OverLimit => "a list is over its limit",
             Refusal::Misfit => "a length is no multiple of its width, or the sizes don't add up to the corners",
             Refusal::FaceSize => "a face size lies outside 3 to 32",
@@ -79,8 +81,13 @@ impl std::fmt::Display for Refusal {
             Refusal::FileCut => "the file stops too early",
             Refusal::Record => "a record's kind is unknown, or its length is wrong",
             Refusal::AfterEnd => "bytes follow the end record",
-        };
-        write!(f, "refused {}: {why}", self.number())
+        }
+    }
+}
+
+impl std::fmt::Display for Refusal {
+    fn fmt(&self, f: &mut std::fmt::Formatter) -> std::fmt::Result {
+        write!(f, "refused {}: {}", self.number(), self.text())
     }
 }
 
@@ -98,6 +105,18 @@ pub enum Verdict {
     Oriented = 2,
     /// Else.
     Closed = 3,
+}
+
+/// Its name, as it stands on a sheet.
+impl std::fmt::Display for Verdict {
+    fn fmt(&self, f: &mut std::fmt::Formatter) -> std::fmt::Result {
+        f.pad(match self {
+            Verdict::Irregular => "Irregular",
+            Verdict::Regular => "Regular",
+            Verdict::Oriented => "Oriented",
+            Verdict::Closed => "Closed",
+        })
+    }
 }
 
 impl Verdict {

@@ -37,6 +37,12 @@ fn entries(list: &[f64], width: usize, which: &[u32]) -> Vec<f64> {
     which.iter().flat_map(|i| &list[*i as usize * width..][..width]).copied().collect()
 }
 
+/// Faces in any order, grouped as `push` does.
+pub fn push(mesh: &Mesh) -> Unfolded {
+    let mesh = Mesh::default().with_faces(&grouped(mesh.faces()));
+    Unfolded { corners: mesh.corners, sizes: mesh.sizes }
+}
+
 /// Folded faces go or are split; the results are grouped as `push` does.
 pub fn remove_degenerate_faces(mesh: &Mesh) -> Unfolded {
     let pieces = mesh.faces().into_iter().flat_map(|face| match face.len() {

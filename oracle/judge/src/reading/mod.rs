@@ -33,5 +33,6 @@ pub fn answer(call: Call, question: &Question) -> Answer {
         Call::Components => Answer::rows(&panels::components(mesh, question.use_normal)),
         Call::ReadPanel => Answer::read(panel_file::read(file).unwrap()),
         Call::Sheet => Answer::sheet(sheet::sheet(file)),
+        Call::Push => Answer::unfolded(cleaning::push(mesh)),
     }
 }

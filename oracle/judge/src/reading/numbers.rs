@@ -28,6 +28,7 @@ pub fn number(call: Call, question: &Question) -> u32 {
         Call::ReadPanel => first(&[rooms, panel_file::read(&question.file).err().unwrap_or(0)]),
         // A refused file has a sheet of its own, which says so: only its room can be refused.
         Call::Sheet => rooms,
+        Call::Push => first(&[faces_number(mesh), rooms]),
         _ => first(&[mesh_number(mesh), rooms]),
     }
 }
@@ -63,6 +64,20 @@ pub fn mesh_number(mesh: &Mesh) -> u32 {
     }
     if indices_are_off(mesh) {
         return 5;
+    }
+    0
+}
+
+/// Numbers 0 to 3 of faces in any order: those of fewer than three corners are dropped, and no attribute list is given.
+pub fn faces_number(mesh: &Mesh) -> u32 {
+    if mesh.corners.len() > 3 * CORNERS || mesh.sizes.len() > FACES {
+        return 1;
+    }
+    if 3 * mesh.sizes.iter().map(|size| *size as u64).sum::<u64>() != mesh.corners.len() as u64 {
+        return 2;
+    }
+    if mesh.sizes.iter().any(|size| *size >= FACE.end) {
+        return 3;
     }
     0
 }
@@ -111,6 +126,8 @@ pub fn stated_rooms(call: Call, mesh: &Mesh) -> Vec<usize> {
         Call::RemoveUnusedAttrs => vec![mesh.corners.len(), mesh.positions.len(), mesh.textures.len(), mesh.normals.len()],
         Call::RemoveDegenerateFaces => vec![mesh.corners.len(), corners / 3],
         Call::PutTogetherSameAttrs => vec![mesh.corners.len()],
+        // Document 01 names no call for `push`: as for compaction, the input's own lengths.
+        Call::Push => vec![mesh.corners.len(), mesh.sizes.len()],
         // Document 01 names no call for the hem edges: its starts and its ends have room as wires have.
         Call::HemEdges => vec![corners, corners],
         Call::ExtractBoundaries => vec![2 * corners, corners],

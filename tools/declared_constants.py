@@ -1,0 +1,224 @@
+"""The constants of the library's C interface: what the rules and the code say each one is, and what the Rust wrapper says.
+
+Read by check_declarations. A limit is read from mesh's constants and from the rules beside them, a number of the table from the row of the
+rules that gives it, a verdict's number from the rules of the C interface, and a stated room from the rule of number 9 of its call.
+"""
+import re
+
+LIMITS = "crates/mesh/specs/Limits.antt"
+CONSTS = "crates/mesh/src/lib.rt"
+MESH = "crates/mesh/specs/Mesh.antt"
+TABLE = "crates/mesh/specs/Table.antt"
+COMPACTION = "crates/compaction/specs/Compaction.antt"
+MERGING = "crates/merging/specs/Merging.antt"
+WIRES = "crates/wires/specs/Answers.antt"
+RECORDS = "crates/panelfile/specs/Records.antt"
+READING = "crates/panelfile/specs/Reading.antt"
+SHEET = "crates/sheet/specs/Sheet.antt"
+CALLS = "crates/barleyhinge/specs/Calls.antt"
+FACES = "crates/faces/specs/Faces.antt"
+FOLDED = "crates/folded/specs/Folded.antt"
+EDGES = "crates/edges/specs/Answers.antt"
+PANELS = "crates/panels/specs/Contract.antt"
+SOURCES = (LIMITS, CONSTS, MESH, TABLE, COMPACTION, MERGING, WIRES, RECORDS, READING, SHEET, CALLS, FACES, FOLDED, EDGES, PANELS)
+
+
+class Unreadable(Exception):
+    """A text that has none of the known forms."""
+
+
+# ---- what the rules and the code say
+
+# A limit: its name behind BH_ and in the wrapper; each place of the source that has it, which must all say the same.
+LIMIT_PLACES = {
+    "MISSING": ((MESH, r"^missing = (\d+)$"), (CONSTS, r"const MISSING: u32 = (\d+);")),
+    "MAX_ENTRIES": ((LIMITS, r"^entryLimit = (\d+)$"), (CONSTS, r"const ENTRIES: usize = (\d+);")),
+    "MAX_CORNERS": ((LIMITS, r"^cornerLimit = (\d+)$"), (CONSTS, r"const CORNERS: usize = (\d+);")),
+    "MAX_FACES": ((LIMITS, r"^faceLimit = (\d+)$"), (CONSTS, r"const FACES: usize = (\d+);")),
+    "MAX_FACE_CORNERS": ((LIMITS, r"^ringLimit = (\d+)$"), (CONSTS, r"const RING: usize = (\d+);")),
+    "MAX_FILE": ((SHEET, r"when \(ltb (\d+) \(length file\)\) 1\b"),),
+    "SHEET_ROOM": ((SHEET, r"short \(lent room (\d+) ∷ \[\]\)"),),
+}
+
+# A number of the table: its name behind BH_, its name in the wrapper, and the row that gives it.
+NUMBER_ROWS = {
+    ("OVER_LIMIT", "OverLimit"): (TABLE, r"when \(overLimits m\) (\d+)"),
+    ("MISFIT", "Misfit"): (TABLE, r"when \(uneven m\) (\d+)"),
+    ("FACE_SIZE", "FaceSize"): (TABLE, r"when \(misfit m\) (\d+)"),
+    ("UNGROUPED", "Ungrouped"): (TABLE, r"when \(ungrouped m\) (\d+)"),
+    ("INDEX", "Index"): (TABLE, r"when \(astray m\) (\d+)"),
+    ("TOLERANCE", "Tolerance"): (MERGING, r"when \(unfit t\) (\d+)"),
+    ("COORDINATE", "Coordinate"): (MERGING, r"when \(anyBoundless m\) (\d+)"),
+    ("QUOTIENT", "Quotient"): (MERGING, r"when \(anyDistant m t\) (\d+)"),
+    ("ROOM", "Room"): (COMPACTION, r"when \(tooShort m r\) (\d+)"),
+    ("NO_HOUSE_WIRES", "NoHouseWires"): (WIRES, r"when \(unwired m\) (\d+)"),
+    ("FILE_CUT", "FileCut"): (RECORDS, r"when \(ltb \(length s - at\) 4\) (\d+)"),
+    ("RECORD", "Record"): (RECORDS, r"when \(ltb 4 kind\) (\d+)"),
+    ("AFTER_END", "AfterEnd"): (READING, r"when \(ltb \(x \.at\) \(length s\)\) (\d+)"),
+}
+VERDICTS = ("Irregular", "Regular", "Oriented", "Closed")
+
+# The rule that has the stated room of each list that a call is lent, in the order of its parameters.
+ROOM_RULES = {
+    "bh_push": (FACES, "tooShort"),
+    "bh_remove_unused_attrs": (COMPACTION, "tooShort"),
+    "bh_remove_degenerate_faces": (FOLDED, "tooShort"),
+    "bh_put_together_same_attrs": (MERGING, "mergeNumber"),
+    "bh_hem_edges": (EDGES, "hemNumber"),
+    "bh_extract_boundaries": (WIRES, "portedShort"),
+    "bh_house_wires": (WIRES, "houseShort"),
+    "bh_components": (PANELS, "panelsNumber"),
+    "bh_read_panel": (READING, "fullRoom"),
+    "bh_sheet": (SHEET, "sheetNumber"),
+}
+
+
+def only_one(texts, path, pattern):
+    """The number that the pattern finds in a text, which must have it once or say the same each time."""
+    found = set(re.findall(pattern, texts[path], flags=re.M))
+    if len(found) != 1:
+        raise Unreadable(f"{path}: '{pattern}' is found {len(found)} times")
+    return int(found.pop())
+
+
+def limits_of(texts):
+    values = {}
+    for name, places in LIMIT_PLACES.items():
+        said = {only_one(texts, path, pattern) for path, pattern in places}
+        if len(said) != 1:
+            raise Unreadable(f"{name}: the code and its rules differ")
+        values[name] = said.pop()
+    return values
+
+
+def numbers_of(texts):
+    """The table: C name and wrapper's name, and the number."""
+    return {names: only_one(texts, *row) for names, row in NUMBER_ROWS.items()}
+
+
+def verdicts_of(texts):
+    return {name: only_one(texts, CALLS, rf"^verdictNumber Verdict\.{name} = (\d+)$") for name in VERDICTS}
+
+
+# ---- rooms: an expression of the rules and one of the wrapper are the same where they are so on these meshes
+
+SAMPLES = (
+    {"positions": 6144, "textures": 4096, "normals": 6144, "corners": 12288, "sizes": 1365},
+    {"positions": 33, "textures": 14, "normals": 9, "corners": 210, "sizes": 17},
+    {"positions": 3, "textures": 0, "normals": 0, "corners": 15, "sizes": 1},
+)
+
+
+def value(words, given):
+    """An expression of names, numbers and + * / with brackets, where '/' cuts."""
+    if not re.fullmatch(r"[\w\s+*/()]*", words):
+        raise Unreadable(f"a room '{words}'")
+    try:
+        return eval(words.replace("/", "//"), {"__builtins__": {}}, given)
+    except (NameError, SyntaxError, TypeError) as why:
+        raise Unreadable(f"a room '{words}'") from why
+
+
+def term(text):
+    """The first term of a text, a name or what stands in brackets, and the rest."""
+    text = text.lstrip()
+    if not text.startswith("("):
+        return re.split(r"[\s)]", text, maxsplit=1)[0], re.sub(r"^[^\s)]+", "", text)
+    depth = 0
+    for i, letter in enumerate(text):
+        depth += (letter == "(") - (letter == ")")
+        if depth == 0:
+            return text[: i + 1], text[i + 1 :]
+    raise Unreadable(f"brackets in '{text}'")
+
+
+def rooms_of_rule(text, name):
+    """The stated rooms of a definition, in their order, in this tool's words."""
+    found = re.search(rf"^{name} .*?=\s(.*?)(?=^\S|\Z)", text, flags=re.M | re.S)
+    if not found:
+        raise Unreadable(f"no definition '{name}'")
+    rooms = []
+    for behind in re.split(r"\blent ", found[1])[1:]:
+        _, rest = term(behind)
+        room, _ = term(rest)
+        room = re.sub(r"\b(?:length|cornerCount) \(m \.(\w+)\)", lambda w: f"({w[1]} / width)" if "cornerCount" in w[0] else w[1], room)
+        rooms.append(re.sub(r"\blength ([cs])\b", lambda w: {"c": "corners", "s": "sizes"}[w[1]], room))
+    return rooms
+
+
+def rooms_in(texts):
+    """Each call's stated rooms."""
+    return {call: rooms_of_rule(texts[path], name) for call, (path, name) in ROOM_RULES.items()}
+
+
+# ---- what the wrapper says
+
+
+def body_of(text, head):
+    """What stands in the braces behind this head."""
+    found = re.search(head, text)
+    if not found:
+        raise Unreadable(f"no '{head}'")
+    start = text.index("{", found.end() - 1)
+    depth = 0
+    for i in range(start, len(text)):
+        depth += (text[i] == "{") - (text[i] == "}")
+        if depth == 0:
+            return text[start + 1 : i]
+    raise Unreadable(f"no end of '{head}'")
+
+
+def enumerated(text, name):
+    """The cases of an enum, name and number; each must have its number."""
+    body = re.sub(r"//[^\n]*", "", body_of(text, rf"pub enum {name} "))
+    cases = [part.strip() for part in body.split(",") if part.strip()]
+    read = [re.fullmatch(r"(\w+) = (\d+)", case) for case in cases]
+    if not all(read):
+        raise Unreadable(f"a case of {name}")
+    return [(case[1], int(case[2])) for case in read]
+
+
+def listed(text, pattern, name):
+    """The cases of a table in the wrapper, in its order."""
+    found = re.search(pattern, text, flags=re.S)
+    if not found:
+        raise Unreadable(f"the table of {name}")
+    return re.findall(rf"{name}::(\w+)", found[1])
+
+
+def texts_of(text, name):
+    """What each case is in words."""
+    return dict(re.findall(rf'{name}::(\w+) => "([^"]*)"', text))
+
+
+def consts(text):
+    """The public constants of the wrapper; one that stands twice is no one."""
+    found = [(name, int(number.replace("_", ""))) for name, number in re.findall(r"^pub const (\w+): \w+ = ([\d_]+);$", text, flags=re.M)]
+    if len(found) != len(re.findall(r"\bconst (\w+)\s*:", text)) or len(dict(found)) != len(found):
+        raise Unreadable("a constant")
+    return dict(found)
+
+
+def lent_rooms(text):
+    """The room of each list that the wrapper lends, by call and by the list's name."""
+    plain = re.sub(r"//[^\n]*", "", text)
+    shared = dict(re.findall(r"(\w+)(?:: | = )vec!\[0(?:\.0)?; ([^\]]*)\]", body_of(plain, r"macro_rules! rows ")))
+    rooms = {}
+    for name in re.findall(r"pub fn (\w+)\(", plain):
+        body = body_of(plain, rf"pub fn {name}\(")
+        call = re.search(r"\bbh_\w+", body)
+        if not call:
+            continue
+        through = re.search(r"rows!\(self, bh_\w+, (.*?)(?:, use_normal)?\)\s*\Z", body)
+        if through:
+            rooms[call[0]] = {list_: room.replace("$room", through[1]).replace("$mesh", "self") for list_, room in shared.items()}
+        else:
+            rooms[call[0]] = dict(re.findall(r"(\w+)(?:: | = )vec!\[0(?:\.0)?; ([^\]]*)\]", body))
+    if "fn corner_count(self) -> usize {\n        self.corners.len() / 3\n    }" not in text:
+        raise Unreadable("corner_count")
+    return rooms
+
+
+def room_of_wrapper(words):
+    words = words.replace("self.corner_count()", "(corners / 3)")
+    return re.sub(r"\b(?:self\.)?(\w+)\.len\(\)", r"\1", words)
