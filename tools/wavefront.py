@@ -4,7 +4,7 @@ Outside the proofs. What is taken and what is refused stands in obj2panel's help
 """
 import re
 
-from panel_format import CORNERS_OF_A_FACE, Refused, quoted
+from panel_format import BYTES, CORNERS, CORNERS_OF_A_FACE, ENTRIES, HEADER, Refused, quoted, size_of_entry, size_of_face
 
 NUMBER = re.compile(r"[+-]?([0-9]+(\.[0-9]*)?|\.[0-9]+)([eE][+-]?[0-9]+)?")
 INDEX = "[+-]?[0-9]{1,18}"
@@ -186,3 +186,25 @@ def read(data, positions_only=False):
         drawing.take(line, words)
     drawing.check()
     return drawing
+
+
+def counts(drawing, kinds):
+    """Name, count and limit of all that has one, were these kinds written."""
+    corners = sum(len(face) for _, face in drawing.faces)
+    size = HEADER + sum(size_of_entry(kind.record) * len(kind.entries) for kind in kinds)
+    size += sum(size_of_face(len(face)) for _, face in drawing.faces)
+    return [(kind.name, len(kind.entries), ENTRIES) for kind in kinds] + [("corners", corners, CORNERS), ("bytes", size, BYTES)]
+
+
+def over(rows):
+    return [name for name, count, limit in rows if count > limit]
+
+
+def check_limits(drawing):
+    """All counts, and which are over their limit."""
+    rows = counts(drawing, drawing.kinds)
+    if not over(rows):
+        return
+    told = ", ".join(f"{name} {count:,} of at most {limit:,}" for name, count, limit in rows)
+    hint = "" if over(counts(drawing, drawing.kinds[:1])) else "; with --positions-only it fits"
+    raise Refused(f"over the limit in {' and '.join(over(rows))}: {told}, in {len(drawing.faces):,} faces{hint}")

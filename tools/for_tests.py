@@ -1,0 +1,51 @@
+"""What the tests of the tools share: a tool as a module, and a second, plain reading of what obj2panel writes."""
+import importlib.machinery
+import importlib.util
+import os
+import struct
+
+HERE = os.path.dirname(os.path.abspath(__file__))
+EXAMPLES = os.path.join(os.path.dirname(HERE), "examples")
+
+
+def tool(name):
+    """A tool of this folder, which has no ending, as a module."""
+    loader = importlib.machinery.SourceFileLoader(name, os.path.join(HERE, name))
+    module = importlib.util.module_from_spec(importlib.util.spec_from_loader(name, loader))
+    loader.exec_module(module)
+    return module
+
+
+obj2panel = tool("obj2panel")
+
+
+def records(data):
+    """The records of a panel file: kind and body."""
+    out = []
+    while data:
+        length, kind = struct.unpack_from("<HH", data)
+        out.append((kind, data[4 : 4 + length]))
+        data = data[4 + length :]
+    return out
+
+
+def faces(data):
+    """The faces of a panel file, as lists of corners."""
+    out = []
+    for kind, body in records(data):
+        if kind == 4:
+            flat = struct.unpack(f"<{3 * body[0]}I", body[1:])
+            out.append([flat[i : i + 3] for i in range(0, len(flat), 3)])
+    return out
+
+
+def panel(text, **options):
+    return obj2panel.convert(text.encode(), **options)[0]
+
+
+def notes(text, **options):
+    return obj2panel.convert(text.encode(), **options)[1]
+
+
+FACE = "f 1 1 1\n"
+TRIANGLE = "v 0 0 0\nv 1 0 0\nv 0 1 0\n"
