@@ -26,6 +26,7 @@ use Rattle.grouping.proofs.Accepting.{threes-flat, sized, Orderly, accepted-fac
 use Rattle.folding.specs.Folding.{pieces}
 use Rattle.folding.proofs.Pieces.{isFace, pieces-sane}
 use Rattle.folded.specs.Folded.{removed, unfoldedMesh}
+use Rattle.folded.specs.Promises.{AcceptedAgain}
 use Rattle.folded.proofs.Result.{every-pieces, corners-pieces, sizes-pieces, count-pieces, removed-corners}
 
 -- ---- the faces of the result
@@ -116,6 +117,6 @@ module _ (m : Mesh) (ok : meshNumber m ≡ 0) where
       ∙ ap (every keeps) (sym (threes-flat (faces m) rings-faces) ∙ ap threes corners-are)
       ∙ corners-keep))
 
-  pub removed-accepted : meshNumber (unfoldedMesh m) ≡ 0
+  pub removed-accepted : AcceptedAgain m
   unfolding unfoldedMesh removed
   removed-accepted = accepted-faces (m .positions) (m .textures) (m .normals) (each pieces (faces m)) orderly found-all

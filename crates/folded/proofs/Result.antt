@@ -19,6 +19,7 @@ use Rattle.folding.specs.Folding.{pieces}
 use Rattle.folding.proofs.Pieces.{isUnfolded, isFace, pieces-sane}
 use Rattle.folding.proofs.Placing.{faces-count}
 use Rattle.folded.specs.Folded.{removed}
+use Rattle.folded.specs.Promises.{NoneFolded, NoMoreCorners}
 
 -- what every piece of each face passes, every piece passes
 pub every-pieces : (q : Ring → Bool) (fs : List Ring) → ((r : Ring) → every q (pieces r) ≡ true) → every q (each pieces fs) ≡ true
@@ -62,7 +63,7 @@ sizes-pieces n (r ∷ fs) e =
 -- ---- the result
 
 -- no face of the result is folded
-pub removed-unfolded : (fs : List Ring) → every isUnfolded (removed fs) ≡ true
+pub removed-unfolded : NoneFolded
 unfolding removed
 removed-unfolded fs = every-pushed isUnfolded (each pieces fs) (every-pieces isUnfolded fs (λ r. pieces-sane r .unfolded))
 
@@ -77,7 +78,7 @@ unfolding removed
 removed-corners p fs e = every-pushed (every p) (each pieces fs) (corners-pieces p fs e)
 
 -- it has no more corners than were given, and no more faces than a third of its corners
-pub removed-count : (fs : List Ring) → cornerCount (removed fs) ≤ cornerCount fs
+pub removed-count : NoMoreCorners
 unfolding removed
 removed-count fs = omega (arith, pushed-corners (each pieces fs), count-pieces fs)
 

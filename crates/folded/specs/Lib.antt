@@ -1,3 +1,4 @@
 pub mod Folded
 pub mod Working
 pub mod Examples
+pub mod Promises
