@@ -17,6 +17,7 @@ use Rattle.compaction.specs.Compaction.{firstUses, place, renumber, entries, us
 use Rattle.edges.specs.Edges.{edgesOf, key, hems}
 use Rattle.wires.specs.House.{walk, wiresIn, houseWires}
 use Rattle.order.specs.Same.{Same, none, face, swap}
+use Rattle.calls.specs.Promises.{CleaningNotKept}
 use Rattle.calls.specs.Begun.{asDrawn, oneLater, twoPanels, otherFirst}
 use Rattle.calls.proofs.Counts.{same-length}
 
@@ -43,8 +44,7 @@ unfolding faces removed pushed pieces ringPieces split splitIn firstOf mateOf qu
 one-of-four = refl
 
 -- so it is not true that removal leaves the same faces of the same faces
-pub cleaning-not-kept :
-    ((m n : Mesh) → meshNumber m ≡ 0 → meshNumber n ≡ 0 → Same (faces m) (faces n) → Same (removed (faces m)) (removed (faces n))) → ⊥
+pub cleaning-not-kept : CleaningNotKept
 cleaning-not-kept kept =
     let e : length (removed (faces asDrawn)) ≡ length (removed (faces oneLater)) =
     same-length (kept asDrawn oneLater (both-accepted .0) (both-accepted .1) one-ring) in

@@ -23,7 +23,7 @@ use Rattle.folded.proofs.Answer.{given}
 use Rattle.folded.proofs.Unfolded.{removed-same}
 use Rattle.order.specs.Same.{Turned, Same, none, face, swap, then}
 use Rattle.order.proofs.Turning.{Halves, halves, turned-map}
-use Rattle.calls.specs.Order.{CallsAgree}
+use Rattle.calls.specs.Promises.{UnfoldedCallsAgree}
 use Rattle.calls.proofs.Order.{demand3-of-the-calls}
 
 -- ---- a number that stands in a list twice
@@ -81,9 +81,7 @@ unfolding faces
 faces-stay m z h =
     faces-unfolded m ∙ removed-same (m .corners) (m .sizes) (m .corners) (m .corners) (given m (m .corners) (m .corners) z (omega arith) (omega arith)) h
 
-pub unfolded-calls :
-    (m n : Mesh) → meshNumber m ≡ 0 → meshNumber n ≡ 0 → Same (faces m) (faces n) → some folded (faces m) ≡ false
-    → CallsAgree (unfoldedMesh m) (unfoldedMesh n)
+pub unfolded-calls : UnfoldedCallsAgree
 unfolded-calls m n a b s h =
     demand3-of-the-calls (unfoldedMesh m) (unfoldedMesh n) (removed-accepted m a) (removed-accepted n b)
     (rw (faces-stay m a h, faces-stay n b (sym (folded-same s) ∙ h)) s)
