@@ -18,6 +18,7 @@ use Rattle.compaction.specs.Compaction.{firstUses, place, renumber, entries, us
 use Rattle.edges.specs.Edges.{key, verdict, hems}
 use Rattle.wires.specs.House.{walk, wiresIn, houseWires}
 use Rattle.order.specs.Same.{Same, none, face, swap}
+use Rattle.calls.specs.Promises.{CleaningNotKept}
 use Rattle.calls.specs.Begun.{hemsOf, asDrawn, oneLater, twoPanels, otherFirst, touching, touchingLater, OtherHems, AsManyHems}
 use Rattle.calls.proofs.Counts.{same-length}
 
@@ -44,8 +45,7 @@ unfolding faces removed pushed pieces piecesBy splitBy splitByIn foldedBy firstM
 one-of-four = refl
 
 -- so it is not true that removal leaves the same faces of the same faces
-pub cleaning-not-kept :
-    ((m n : Mesh) → meshNumber m ≡ 0 → meshNumber n ≡ 0 → Same (faces m) (faces n) → Same (removed (faces m)) (removed (faces n))) → ⊥
+pub cleaning-not-kept : CleaningNotKept
 cleaning-not-kept kept =
     let e : length (removed (faces asDrawn)) ≡ length (removed (faces oneLater)) =
     same-length (kept asDrawn oneLater (both-accepted .0) (both-accepted .1) one-ring) in

@@ -25,7 +25,8 @@ use Rattle.order.specs.Same.{Turned, Same, none, face, swap, then}
 use Rattle.order.specs.Demand.{byPosition}
 use Rattle.order.proofs.Turning.{Halves, halves}
 use Rattle.order.proofs.Matched.{same-map}
-use Rattle.calls.specs.Order.{CallsAgree, CallsAgreeByPosition}
+use Rattle.calls.specs.Order.{CallsAgreeByPosition}
+use Rattle.calls.specs.Promises.{UnfoldedCallsAgree}
 use Rattle.calls.proofs.Order.{demand3-of-the-calls, positions-enough-for-the-calls}
 
 -- ---- a number that stands in a list twice
@@ -80,9 +81,7 @@ folded-same {m} {n} s = folded-by-position m n (same-map position s)
 
 -- ---- after removal
 
-pub unfolded-calls :
-    (m n : Mesh) → meshNumber m ≡ 0 → meshNumber n ≡ 0 → Same (faces m) (faces n) → some folded (faces m) ≡ false
-    → CallsAgree (unfoldedMesh m) (unfoldedMesh n)
+pub unfolded-calls : UnfoldedCallsAgree
 unfolded-calls m n a b s h =
     demand3-of-the-calls (unfoldedMesh m) (unfoldedMesh n) (removed-accepted m a) (removed-accepted n b)
     (rw (faces-stay m a h, faces-stay n b (sym (folded-same s) ∙ h)) s)

@@ -1,3 +1,4 @@
 pub mod Calls
 pub mod Order
 pub mod Begun
+pub mod Promises

@@ -38,9 +38,9 @@ module _ {Rest : Type 0} where
   abbrev pub meshIn : LendsMesh Rest → Mesh
   meshIn a = meshOf (now (a .0)) (now (a .1 .0)) (now (a .1 .1 .0)) (now (a .1 .1 .1 .0)) (now (a .1 .1 .1 .1 .0))
 
-  -- what stands behind them
-  abbrev pub behind : LendsMesh Rest → Rest
-  behind a = a .1 .1 .1 .1 .1
+  -- the arguments behind them
+  abbrev pub rest : LendsMesh Rest → Rest
+  rest a = a .1 .1 .1 .1 .1
 
   -- what one lent list holds, and what two hold
   abbrev pub list : {X : Type 0} → Lends X Rest → List X
@@ -72,18 +72,18 @@ OneResult {K} {A} {R} {E} Post result =
 -- the twelve calls
 pub record AllTied : Type 0 where
   pub number-tied : Tied mesh-number.Post number meshIn (λ r e. r)
-  pub face-tied : Tied mesh-face.Post face (λ a. (meshIn a, behind a .0)) (λ r e. now r)
+  pub face-tied : Tied mesh-face.Post face (λ a. (meshIn a, rest a .0)) (λ r e. now r)
   pub compaction-tied :
-      Tied remove-unused-attrs.Post compactionCall (λ a. (meshIn a, compactedLists (behind a))) (λ r e. (r, compactedLists (behind e)))
+      Tied remove-unused-attrs.Post compactionCall (λ a. (meshIn a, compactedLists (rest a))) (λ r e. (r, compactedLists (rest e)))
   pub removal-tied :
-      Tied remove-degenerate-faces.Post removalCall (λ a. (meshIn a, removedLists (behind a))) (λ r e. (r, removedLists (behind e)))
+      Tied remove-degenerate-faces.Post removalCall (λ a. (meshIn a, removedLists (rest a))) (λ r e. (r, removedLists (rest e)))
   pub merging-tied :
-      Tied put-together-same-attrs.Post mergingCall (λ a. (meshIn a, behind a .0, list (behind a .1))) (λ r e. (r, list (behind e .1)))
+      Tied put-together-same-attrs.Post mergingCall (λ a. (meshIn a, rest a .0, list (rest a .1))) (λ r e. (r, list (rest e .1)))
   pub verdict-tied : Tied shell-condition.Post verdictCall meshIn (λ r e. r)
-  pub hem-tied : Tied hem-edges.Post hemCall (λ a. (meshIn a, twoLists (behind a))) (λ r e. (r, twoLists (behind e)))
-  pub ported-tied : Tied extract-boundaries.Post portedCall (λ a. (meshIn a, twoLists (behind a))) (λ r e. (r, twoLists (behind e)))
-  pub house-tied : Tied house-wires.Post houseCall (λ a. (meshIn a, twoLists (behind a))) (λ r e. (r, twoLists (behind e)))
+  pub hem-tied : Tied hem-edges.Post hemCall (λ a. (meshIn a, twoLists (rest a))) (λ r e. (r, twoLists (rest e)))
+  pub ported-tied : Tied extract-boundaries.Post portedCall (λ a. (meshIn a, twoLists (rest a))) (λ r e. (r, twoLists (rest e)))
+  pub house-tied : Tied house-wires.Post houseCall (λ a. (meshIn a, twoLists (rest a))) (λ r e. (r, twoLists (rest e)))
   pub panels-tied :
-      Tied components.Post panelsCall (λ a. (meshIn a, behind a .0, twoLists (behind a .1))) (λ r e. (r, twoLists (behind e .1)))
+      Tied components.Post panelsCall (λ a. (meshIn a, rest a .0, twoLists (rest a .1))) (λ r e. (r, twoLists (rest e .1)))
   pub read-tied : Tied read-panel.Post readCall (λ a. (list a, meshIn (a .1))) (λ r e. (r, meshIn (e .1)))
   pub sheet-tied : Tied sheet.Post sheetCall (λ a. (list a, list (a .1))) (λ r e. (r, list (e .1)))

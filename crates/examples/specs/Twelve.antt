@@ -6,7 +6,8 @@ use lib.ListN.{length}
 use lib.Dec.{eqb}
 use lib.IntN.{pos, negsuc}
 use lib.Ieee.{Float, fin, binary64, ofBits, toBits}
-use Rattle.lists.specs.Lists.{some, every, joined, span, sameNumbers}
+use Rattle.lists.specs.Lists.{some, every, span}
+use Rattle.lists.specs.Same.{sameNumbers, sameLists}
 use Rattle.mesh.specs.Mesh.{Mesh, meshOf, Ring, missing, position, texture, threes}
 use Rattle.mesh.specs.Table.{meshNumber}
 use Rattle.edges.specs.Edges.{Edge, same, edgesOf, Verdict, Irregular, Regular, Oriented, Closed, verdict, hems}
@@ -28,10 +29,6 @@ facesBy fs = map face fs
 
 abbrev pub tri : ℕ → ℕ → ℕ → List ℕ
 tri a b c = a ∷ b ∷ c ∷ []
-
--- lists of lists that are the same: as many, as long, and the same numbers
-abbrev pub sameLists : List (List ℕ) → List (List ℕ) → Bool
-sameLists a b = sameNumbers (map length a) (map length b) && sameNumbers (joined a) (joined b)
 
 abbrev pub verdictNumber : Verdict → ℕ
 verdictNumber Irregular = 0

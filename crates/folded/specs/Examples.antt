@@ -1,17 +1,20 @@
 -- What an example of folded faces says, as a test that computes; examples 5 to 8 of document 01 stand with the other examples, in the
 -- crate `examples`. Assumes nothing.
 use Prim.Native.Nat.{ℕ}
-use mathlib.Core.Bool.{Bool, _&&_}
-use mathlib.Core.List.{List, [], _∷_, map}
-use lib.ListN.{length}
-use Rattle.lists.specs.Lists.{sameNumbers, joined, each}
+use mathlib.Core.Path.{_≡_}
+use mathlib.Core.Bool.{Bool}
+use mathlib.Core.List.{List, [], _∷_}
+use Rattle.lists.specs.Same.{sameRings, Tells}
 use Rattle.mesh.specs.Mesh.{Corner, Ring, missing}
 use Rattle.folded.specs.Folded.{removed}
 
 -- whether removal leaves just these faces of a face, corner by corner
 unfoldable pub leaves : Ring → List Ring → Bool
-leaves f fs =
-    sameNumbers (map length (removed (f ∷ []))) (map length fs) && sameNumbers (each joined (removed (f ∷ []))) (each joined fs)
+leaves f fs = sameRings (removed (f ∷ [])) fs
+
+-- and the test says just that
+abbrev pub LeavesIs : Type 0
+LeavesIs = (f : Ring) (fs : List Ring) → Tells (leaves f fs) (removed (f ∷ []) ≡ fs)
 
 -- corner k of a face, with its position: the texture index says which corner it is
 abbrev pub corner : ℕ → ℕ → Corner

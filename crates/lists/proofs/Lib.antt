@@ -15,3 +15,4 @@ pub mod Parts
 pub mod Seeking
 pub mod Writing
 pub mod Others
+pub mod Same

@@ -69,10 +69,3 @@ span a (suc n) = a ∷ span (suc a) n
 abbrev pub sum : List ℕ → ℕ
 sum [] = 0
 sum (n ∷ l) = n + sum l
-
--- whether two lists have the same numbers in the same places
-abbrev pub sameNumbers : List ℕ → List ℕ → Bool
-sameNumbers [] [] = true
-sameNumbers [] (y ∷ k) = false
-sameNumbers (x ∷ l) [] = false
-sameNumbers (x ∷ l) (y ∷ k) = eqb x y && sameNumbers l k

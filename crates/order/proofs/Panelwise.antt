@@ -14,7 +14,8 @@ use Rattle.mesh.specs.Mesh.{Ring}
 use Rattle.edges.specs.Edges.{ringEdges}
 use Rattle.panels.specs.Panels.{Key, sameKey, keyOf, faceKeys, panels, together}
 use Rattle.lists.proofs.Chains.{Reach, here, step, reach-one}
-use Rattle.panels.proofs.Sharing.{sameKey-refl, keyIn, Share, key-below}
+use Rattle.panels.specs.Promises.{keyIn, Share}
+use Rattle.panels.proofs.Sharing.{sameKey-refl, key-below}
 use Rattle.panels.proofs.Panelled.{together-share, share-together}
 use Rattle.order.specs.Same.{Turned, Matching}
 use Rattle.order.proofs.Turning.{turned-sym, turned-alike}

@@ -12,3 +12,5 @@ pub mod Nearby
 pub mod Popping
 pub mod Listed
 pub mod Whole
+pub mod Finer
+pub mod Lowest

@@ -13,9 +13,10 @@ use Rattle.lists.proofs.Classes.{together as inOne, Parted, together-reach, rea
 use Rattle.lists.proofs.Members.{In, once-in, once-length}
 use Rattle.mesh.specs.Mesh.{Ring}
 use Rattle.panels.specs.Panels.{joins, panels, together}
+use Rattle.panels.specs.Promises.{EachFaceOnce, OnlyByChains, WhereverChains}
 use Rattle.panels.proofs.Parting.{parted, panels-few}
 use Rattle.panels.proofs.Looking.{Beside}
-use Rattle.panels.proofs.Sharing.{Share, beside-share, share-beside, beside-below}
+use Rattle.panels.proofs.Sharing.{beside-share, share-beside, beside-below}
 
 -- to stand in one panel, as the rule says it and as it is said of any lists
 one-panel : (a b : ℕ) (ps : List (List ℕ)) → together a b ps ≡ inOne a b ps
@@ -27,13 +28,13 @@ module _ (normals : Bool) (fs : List Ring) where
   unfolding panels
   panels-parted = parted (joins normals fs) (length fs) (beside-below normals fs)
 
-  pub together-share : (a b : ℕ) → together a b (panels normals fs) ≡ true → Reach (Share normals fs) a b
+  pub together-share : OnlyByChains normals fs
   together-share a b t =
       reach-bind
       (λ x y h. reach-one (beside-share normals fs x y h))
       (together-reach (Beside (joins normals fs)) (panels normals fs) (panels-parted .classes) a b (sym (one-panel a b (panels normals fs)) ∙ t))
 
-  pub share-together : (a b : ℕ) → a < length fs → Reach (Share normals fs) a b → together a b (panels normals fs) ≡ true
+  pub share-together : WhereverChains normals fs
   share-together a b l t =
       one-panel a b (panels normals fs)
       ∙ reach-together
@@ -46,7 +47,7 @@ module _ (normals : Bool) (fs : List Ring) where
       (reach-bind (share-beside normals fs) t)
 
   -- a face stands in the panels once; nothing else stands there; so they have as many numbers as there are faces
-  pub panels-once : (x : ℕ) → x < length fs → count (eqb x) (joined (panels normals fs)) ≡ 1
+  pub panels-once : EachFaceOnce normals fs
   panels-once x l = once-in (joined (panels normals fs)) (panels-parted .once) x (panels-parted .placed x l)
 
   pub panels-inside : (x : ℕ) → In x (joined (panels normals fs)) → x < length fs

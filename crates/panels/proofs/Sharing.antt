@@ -18,6 +18,7 @@ use Rattle.lists.proofs.Counting.{clash, or-either}
 use Rattle.lists.proofs.Parts.{some-append}
 use Rattle.mesh.specs.Mesh.{Ring}
 use Rattle.panels.specs.Panels.{Key, sameKey, faceKeys, Use, usesFrom, firstFace, Join, joinOf, joinsFrom, joins}
+use Rattle.panels.specs.Promises.{keyIn, Share}
 use Rattle.lists.proofs.Chains.{Reach, here, reach-trans, reach-one, reach-sym}
 use Rattle.panels.proofs.Looking.{Beside, has-neighbours, beside-sym}
 
@@ -188,13 +189,7 @@ share-reach us x y s =
     to (inl p) = here p
     to (inr a) = reach-one a
 
--- ---- of faces: face x has the key k
-
-abbrev pub keyIn : Bool → List Ring → ℕ → Key → Bool
-keyIn normals fs x k = some (sameKey k) (faceKeys normals (getD fs x []))
-
-abbrev pub Share : Bool → List Ring → ℕ → ℕ → Type 0
-Share normals fs x y = (k : Key) × (keyIn normals fs x k ≡ true) × (keyIn normals fs y k ≡ true)
+-- ---- of faces
 
 some-face : (x i : ℕ) (k : Key) (ks : List Key) → some (isUse x k) (map (λ q. (i, q)) ks) ≡ (eqb x i && some (sameKey k) ks)
 some-face x i k [] = sym (and-false (eqb x i))

@@ -5,3 +5,4 @@ pub mod Firsts
 pub mod Joins
 pub mod Walk
 pub mod Rows
+pub mod Promises
