@@ -6,14 +6,14 @@ use mathlib.Core.List.{List, [], _∷_, map}
 use Prim.Native.Nat.{ℕ, suc, _≤_}
 use native.Mathlib.Omega.{arith}
 use lib.ListN.{length, getD}
-use lib.Dec.{leb, eqb}
+use lib.Dec.{eqb}
 use borrow.Author.Tests.{le-leb, eqb-true, eqb-false, ne-eqb, eq-eqb}
 use Rattle.lists.specs.Lists.{every, sum}
 use Rattle.lists.proofs.Bools.{by-cases, true-false, and-both, and-left, and-right, or-false-left, or-false-right}
 use Rattle.lists.proofs.Parts.{every-append}
 use Rattle.lists.proofs.Only.{every-only}
 use Rattle.mesh.specs.Mesh.{Corner, Ring, position}
-use Rattle.splitting.specs.Splitting.{twice, foldedBy, splitBy, piecesBy}
+use Rattle.splitting.specs.Splitting.{twice, foldedBy, splitBy, isPiece, piecesBy}
 use Rattle.splitting.proofs.Splitting.{split-all}
 use Rattle.splitting.proofs.Pieces.{pieces-stay, pieces-all, pieces-fewer, pieces-every}
 use Rattle.folding.specs.Folding.{folded, trianglePieces, foldOf, left, quadranglePieces, ringPieces, pieces}
@@ -25,7 +25,7 @@ isUnfolded r = not (folded r)
 
 -- three corners or more
 abbrev pub isFace : Ring → Bool
-isFace r = leb 3 (length r)
+isFace r = isPiece r
 
 pub record Sane (r : Ring) (ps : List Ring) : Type 0 where
   pub unfolded : every isUnfolded ps ≡ true

@@ -1,21 +1,19 @@
 -- One ring of a row that is written behind others, and that what its pieces leave of the room is enough. Assumes nothing.
 use mathlib.Core.Path.{_≡_, refl, sym, ap, _∙_}
-use mathlib.Core.Bool.{true, false}
+use mathlib.Core.Bool.{false}
 use mathlib.Core.List.{List, [], _∷_, append-nil}
 use Prim.Native.Nat.{ℕ, _+_, _*_, _≤_, _<_}
 use native.Mathlib.Omega.{arith}
 use lib.ListN.{length, take, set}
 use lib.Seq.{sets, length-take-le}
-use borrow.Author.Tests.{leb-true}
-use Rattle.lists.specs.Lists.{every, joined}
-use Rattle.lists.proofs.Bools.{and-left, and-right}
+use Rattle.lists.specs.Lists.{joined}
 use Rattle.mesh.specs.Limits.{width, ringLimit}
 use Rattle.mesh.specs.Mesh.{Ring, position}
 use Rattle.grouping.specs.Push.{Placed, cornerCount}
 use Rattle.grouping.proofs.Placing.{placed-none}
 use Rattle.splitting.proofs.Pieces.{pieces-stay, pieces-vanish, third}
 use Rattle.folding.specs.Folding.{folded, ringPieces}
-use Rattle.folding.proofs.Pieces.{isFace, Sane}
+use Rattle.folding.proofs.Pieces.{Sane}
 
 -- one face, whatever wrote its corners
 pub placed-ring : (r : Ring) (o o' l : List ℕ) (c f : ℕ) → o' ≡ sets o (width * c) (joined r) → Placed (r ∷ []) o o' l (set l f (length r)) c f (c + length r) (f + 1)

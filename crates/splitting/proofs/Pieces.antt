@@ -1,13 +1,12 @@
 -- What is known of the pieces of a ring: each has three elements or more, together they have no more than the ring, each of their
 -- elements is one of the ring's, and the ring's split has each element of the ring as often as the ring has it. Assumes nothing.
-use mathlib.Core.Path.{_≡_, refl, sym, ap, _∙_}
+use mathlib.Core.Path.{_≡_, refl, ap, _∙_}
 use mathlib.Core.Bool.{Bool, true, false}
 use mathlib.Core.List.{List, [], _∷_, _++_, map, map-append, append-nil}
 use Prim.Native.Nat.{ℕ, _+_, _*_, _-_, _≤_, _<_}
 use native.Mathlib.Omega.{arith}
 use lib.ListN.{length, take, drop, take-append-drop}
 use lib.Seq.{drop-drop}
-use lib.Dec.{leb}
 use borrow.Author.Tests.{leb-true, le-leb, lt-leb}
 use Rattle.lists.specs.Lists.{every, only, sum, count, joined}
 use Rattle.lists.proofs.Bools.{by-cases, and-left, and-right, and-both}

@@ -4,19 +4,18 @@ use mathlib.Core.Path.{_≡_, refl, sym, _∙_}
 use mathlib.Core.Bool.{Bool, true, false}
 use mathlib.Core.List.{List, [], _∷_, map}
 use Prim.Native.Nat.{ℕ, zero, suc, _+_, _-_, _≤_, _<_}
-use native.Mathlib.Nat.{sub-zero, le-of-suc-le-suc, not-suc-le-zero}
+use native.Mathlib.Nat.{le-of-suc-le-suc, not-suc-le-zero}
 use native.Mathlib.Omega.{arith}
 use lib.ListN.{length, getD, length-map}
 use lib.Dec.{ltb, eqb}
-use borrow.Author.Tests.{lt-ltb, le-ltb, ltb-true, ltb-false}
+use borrow.Author.Tests.{ltb-true, ltb-false}
 use Rattle.lists.specs.Lists.{has}
-use Rattle.lists.specs.Numbers.{seek}
 use Rattle.lists.proofs.Bools.{by-cases, true-false, or-left, or-right, or-neither}
 use Rattle.lists.proofs.Numbers.{seek-low, seek-high, seek-found, seek-before}
 use Rattle.lists.proofs.Parts.{some-true-at, some-none}
 use Rattle.splitting.specs.Splitting.{twice, mateOf, firstMated, foldedBy, firstBy, secondBy}
 
--- ---- the mate of i stands after it, with its position, and none before it does
+-- ---- the mate of i stands after it, with its key, and none before it does
 
 same-as : List ℕ → ℕ → ℕ → Bool
 same-as ps i j = eqb (getD ps i 0) (getD ps j 0)
