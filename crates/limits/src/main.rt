@@ -1,6 +1,7 @@
 // Tries the check of a mesh on both sides of every limit of the table of numbers returned, the part of a face on both sides of its
-// own, and compaction and the sheet with exactly their room and less, and prints what each answers: the row, what was tried, and the
-// number. The rooms of the other calls, and numbers 6 to 10, are tried by `replay`.
+// own, compaction and the sheet with exactly their room and less, and `push` on both sides of each of its limits, and prints what each
+// answers: the row, what was tried, and the number. The rooms of the other calls, and numbers 6 to 10, are tried by `replay`.
+mod pushing;
 mod rooms;
 
 use mesh::MISSING;
@@ -18,6 +19,7 @@ fn main() {
     parts();
     rooms::compaction_rooms();
     rooms::sheet_rooms();
+    pushing::push_limits();
 }
 
 // 1: a list holds more numbers than limit times width, or there are over 1,365 face sizes.
