@@ -62,7 +62,8 @@ module _ (c s o l : List ℕ) (z : facesNumber c s ≡ 0) (a : length c ≤ leng
   number-0 : 0 ≡ pushNumber c s (length o) (length l)
   unfolding pushNumber tooShort
   number-0 =
-      sym (first-on (facesNumber c s) (when (tooShort c s (length o) (length l)) 9 ∷ []) z ∙ row-passed (tooShort c s (length o) (length l)) 8 [] (two-roomy (length o) (length c) (length l) (length s) a b))
+      let room = two-roomy (length o) (length c) (length l) (length s) a b in
+      sym (first-on (facesNumber c s) (when (tooShort c s (length o) (length l)) 9 ∷ []) z ∙ row-passed (tooShort c s (length o) (length l)) 8 [] room)
 
   pub done : (o' l' : List ℕ) (k f : ℕ) → Placed (pushed (rings s c)) o o' l l' 0 0 k f
       → Grouped c s o l o' l' (record { number = 0; corners = k; faces = f })

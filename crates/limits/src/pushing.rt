@@ -19,8 +19,8 @@ pub(crate) fn push_limits() {
         &mut c,
         &mut s,
     );
-    pushed(b"push 1 sizes 1365", &[0; 3], &[1; 1365], &mut c, &mut s);
-    pushed(b"push 1 sizes 1366", &[0; 3], &[1; 1366], &mut c, &mut s);
+    pushed(b"push 1 sizes 1365", &[0; 4095], &[1; 1365], &mut c, &mut s);
+    pushed(b"push 1 sizes 1366", &[0; 4098], &[1; 1366], &mut c, &mut s);
     sums(&mut c, &mut s);
     sizes(&mut c, &mut s);
     rooms();
