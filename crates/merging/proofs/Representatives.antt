@@ -22,7 +22,8 @@ use Rattle.floating.specs.Scaling.{scaledList}
 use Rattle.floating.proofs.InBox.{All, scaled-upto, list-upto}
 use Rattle.nearby.specs.Pairs.{nearAt}
 use Rattle.nearby.specs.Walk.{groups}
-use Rattle.nearby.proofs.Connected.{ConnectedSets, lowestFirst, groups-connected}
+use Rattle.nearby.specs.Promises.{ConnectedSets, lowestFirst}
+use Rattle.nearby.proofs.Connected.{groups-connected}
 use Rattle.merging.specs.Merging.{mergeNumber}
 use Rattle.merging.specs.Nearest.{NearestFirst, InEachGroup, RepresentativesAreNearest}
 use Rattle.merging.proofs.Numbers.{clear, positions-bounded, textures-bounded, normals-bounded}
