@@ -176,6 +176,13 @@ module _ (f : Format) where
         ap far (over f x t (c .sign) (q .sign) (c .size) (q .size) p (c .value) (q .value))
         ∙ near-units (round f (unlike (c .sign) (q .sign)) (c .size) (q .size)) (unlike (c .sign) (q .sign)) (grid f (c .size) (q .size)) (round-value f (unlike (c .sign) (q .sign)) (c .size) (q .size) (omega arith)) g
 
-    pub axis : (l p g : Float) → Good l → Good p → Good g → tall l ≤ tall p → tall p ≤ tall g → Scaled f (mul f (power (pos 1)) (div f (sub f p (add f l (div f (sub f g l) (power (pos 1))))) (greater (sub f g l) (power (pos 0)))))
+    pub axis :
+        (l p g : Float)
+        → Good l
+        → Good p
+        → Good g
+        → tall l ≤ tall p
+        → tall p ≤ tall g
+        → Scaled f (mul f (power (pos 1)) (div f (sub f p (add f l (div f (sub f g l) (power (pos 1))))) (greater (sub f g l) (power (pos 0)))))
     axis l p g a b c h k =
         scaled f M B fine (omega arith) (omega arith) l p g (signOf l) (signOf p) (signOf g) (unitsOf l) (unitsOf p) (unitsOf g) (a .value) (b .value) (c .value) (a .exact) (c .exact) (a .small) (b .small) (c .small) h k

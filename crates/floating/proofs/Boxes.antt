@@ -122,7 +122,12 @@ module _ (s : List Float) where
   pub scaled-is : (b : Bounds) (i : ℕ) (p c d q : Point) → q ≡ axes3 scaledOf p c d → p ≡ pointAt s i → c ≡ centre b → d ≡ divisor b → q ≡ scaledIn b (pointAt s i)
   scaled-is b i p c d q e f g h = e ∙ ap (λ (x : Point). axes3 scaledOf x c d) f ∙ ap (λ (x : Point). axes3 scaledOf (pointAt s i) x d) g ∙ ap (axes3 scaledOf (pointAt s i) (centre b)) h
 
-  pub scaling-turns : (l l' : List Float) (i : ℕ) (q : Point) → i < length s / 3 → q ≡ scaledIn (boxOf (pointsOf s)) (pointAt s i) → Scaling s l l' i → Scaling s l (sets l' (3 * i) (coordinates q)) (i + 1)
+  pub scaling-turns :
+      (l l' : List Float) (i : ℕ) (q : Point)
+      → i < length s / 3
+      → q ≡ scaledIn (boxOf (pointsOf s)) (pointAt s i)
+      → Scaling s l l' i
+      → Scaling s l (sets l' (3 * i) (coordinates q)) (i + 1)
   scaling-turns l l' i q h e g = record {
     within = omega arith;
     written = rw (g .written, e) (one-more l i h);

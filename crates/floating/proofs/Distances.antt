@@ -54,7 +54,13 @@ farthest = 3 * sides * area
 fewer : (n a : ℕ) → n ≤ 3 → n * sides * a ≤ 3 * sides * a
 fewer n a h = mul-le-mul-right a (let z : n * sides ≤ 3 * sides = omega arith in z)
 
-sums-upto : (n : ℕ) (a : Float) (ps qs : List Float) → n + length ps ≤ 3 → Upto binary64 (n * sides * area) a → All (Upto binary64 bound) ps → All (Upto binary64 (crowd * bound)) qs → Upto binary64 farthest (sumFrom a ps qs)
+sums-upto :
+    (n : ℕ) (a : Float) (ps qs : List Float)
+    → n + length ps ≤ 3
+    → Upto binary64 (n * sides * area) a
+    → All (Upto binary64 bound) ps
+    → All (Upto binary64 (crowd * bound)) qs
+    → Upto binary64 farthest (sumFrom a ps qs)
 unfolding sumFrom
 sums-upto n a [] qs l h c d = upto-more binary64 (n * sides * area) farthest a (fewer n area (omega arith)) h
 sums-upto n a (p ∷ ps) [] l h c d = upto-more binary64 (n * sides * area) farthest a (fewer n area (omega arith)) h

@@ -73,7 +73,13 @@ module _ (w n : ℕ) (s : List Float) (order : List ℕ) (from to : ℕ) (g : Gr
   pub sum-begins : Summing w s order from to from (point (ofBits binary64 0) (ofBits binary64 0) (ofBits binary64 0))
   sum-begins = record { upto = omega (arith, g .some); rest = ap (λ (a : List Float). sumFrom w s a (slice from to order)) (leading-none w (g .most)) }
 
-  pub sum-turns : (k : ℕ) (sum p sum' : Point) → k < to → leading w p ≡ row w s (getD order k 0) → sum' ≡ axes2 (add binary64) sum p → Summing w s order from to k sum → Summing w s order from to (k + 1) sum'
+  pub sum-turns :
+      (k : ℕ) (sum p sum' : Point)
+      → k < to
+      → leading w p ≡ row w s (getD order k 0)
+      → sum' ≡ axes2 (add binary64) sum p
+      → Summing w s order from to k sum
+      → Summing w s order from to (k + 1) sum'
   unfolding sumFrom
   sum-turns k sum p sum' h e f i = record {
     upto = omega arith;
@@ -84,7 +90,13 @@ module _ (w n : ℕ) (s : List Float) (order : List ℕ) (from to : ℕ) (g : Gr
         ∙ i .rest;
   }
 
-  pub sum-ends : (k : ℕ) (sum q : Point) (d : Float) → to ≤ k → d ≡ ofInt binary64 (pos (to - from)) → q ≡ axes1 (λ x. div binary64 x d) sum → Summing w s order from to k sum → leading w q ≡ centreOf w s (slice from to order)
+  pub sum-ends :
+      (k : ℕ) (sum q : Point) (d : Float)
+      → to ≤ k
+      → d ≡ ofInt binary64 (pos (to - from))
+      → q ≡ axes1 (λ x. div binary64 x d) sum
+      → Summing w s order from to k sum
+      → leading w q ≡ centreOf w s (slice from to order)
   unfolding centreOf sumFrom
   sum-ends k sum q d h e f i =
       ap (leading w) f

@@ -59,7 +59,12 @@ module _ (cs p t n out : List ℕ) where
         ∙ sym (sets-append out 0 done new)
         ∙ ap (sets out 0) (sym (ap (λ (r : List Corner). joined (map (sentCorner p t n) r)) q ∙ ap joined (map-append (sentCorner p t n) (take k (threes cs)) (cornerAt cs k ∷ [])) ∙ joined-append (map (sentCorner p t n) (take k (threes cs))) (new ∷ []) ∙ ap (λ (x : List ℕ). done ++ x) (append-nil new)))
 
-    pub write-turns : (a b c : ℕ) → a ≡ getD p (getD cs (width * k) 0) 0 → b ≡ unlessMissing (λ i. getD t i 0) (getD cs (width * k + 1) 0) → c ≡ unlessMissing (λ i. getD n i 0) (getD cs (width * k + 2) 0) → Writing cs p t n out (set (set (set out' (width * k) a) (width * k + 1) b) (width * k + 2) c) (k + 1)
+    pub write-turns :
+        (a b c : ℕ)
+        → a ≡ getD p (getD cs (width * k) 0) 0
+        → b ≡ unlessMissing (λ i. getD t i 0) (getD cs (width * k + 1) 0)
+        → c ≡ unlessMissing (λ i. getD n i 0) (getD cs (width * k + 2) 0)
+        → Writing cs p t n out (set (set (set out' (width * k) a) (width * k + 1) b) (width * k + 2) c) (k + 1)
     unfolding sentCorner
     write-turns a b c x y z =
         let e : width * k + 1 ≡ suc (width * k) = omega arith in

@@ -71,5 +71,8 @@ module _ (s : List Float) (t : Float) (g : Scalable s t) where
           room = r;
         })
 
-    pub merged-are : (r : ℕ) (m m' : List ℕ) → (r ≡ comparedPairs t 3 sc) × Settled (length s / 3) (mergedTo t 3 sc) m m' → (r ≡ comparedPairs t 3 (scaledList s)) × Settled (length s / 3) (mergedTo t 3 (scaledList s)) m m'
+    pub merged-are :
+        (r : ℕ) (m m' : List ℕ)
+        → (r ≡ comparedPairs t 3 sc) × Settled (length s / 3) (mergedTo t 3 sc) m m'
+        → (r ≡ comparedPairs t 3 (scaledList s)) × Settled (length s / 3) (mergedTo t 3 (scaledList s)) m m'
     merged-are r m m' x = subst (λ (y : List Float). (r ≡ comparedPairs t 3 y) × Settled (length s / 3) (mergedTo t 3 y) m m') are x

@@ -68,7 +68,10 @@ pub record Settling (r : ℕ → ℕ → Bool) (w : ℕ) (s : List Float) (n : �
   pub node-long : length node ≡ entryLimit
   pub left-long : length left ≡ entryLimit
 
-pub settle-begins : (r : ℕ → ℕ → Bool) (w : ℕ) (s : List Float) (n : ℕ) (map : List ℕ) → n ≤ entryLimit → Settling r w s n map map (replicate entryLimit 0) (replicate entryLimit false) (replicate entryLimit 0) (replicate entryLimit 0) 0 0
+pub settle-begins :
+    (r : ℕ → ℕ → Bool) (w : ℕ) (s : List Float) (n : ℕ) (map : List ℕ)
+    → n ≤ entryLimit
+    → Settling r w s n map map (replicate entryLimit 0) (replicate entryLimit false) (replicate entryLimit 0) (replicate entryLimit 0) 0 0
 unfolding groupsBelow
 settle-begins r w s n map h = record {
   upto = omega arith;
@@ -163,7 +166,14 @@ module _ {r : ℕ → ℕ → Bool} {w : ℕ} {s : List Float} {n : ℕ} {map₀
       within = v .taken .within;
     }
 
-    pub settle-new : {map' : List ℕ} {node' left' : List ℕ} → length order' ≡ length order → length seen' ≡ length seen → length node' ≡ length node → length left' ≡ length left → Sent w n s (slice taken end order') map map' → Settling r w s n map₀ map' order' seen' node' left' end (i + 1)
+    pub settle-new :
+        {map' : List ℕ} {node' left' : List ℕ}
+        → length order' ≡ length order
+        → length seen' ≡ length seen
+        → length node' ≡ length node
+        → length left' ≡ length left
+        → Sent w n s (slice taken end order') map map'
+        → Settling r w s n map₀ map' order' seen' node' left' end (i + 1)
     settle-new {map'} {node'} {left'} a b c d x =
         let y : Sent w n s group map map' = subst (λ (q : List ℕ). Sent w n s q map map') group-is x in
         record {

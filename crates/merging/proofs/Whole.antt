@@ -108,7 +108,13 @@ module _ (m : Mesh) (t : Float) (out : List ℕ) (earns : mergeNumber m t (lengt
         let e : getD (threes (m .corners)) k [] ≡ cornerAt (m .corners) k = getD-threes (m .corners) k l in
         ap (sentCorner p u n) e ∙ corner-same k l ∙ ap (mergedCorner m t) (sym e))
 
-    pub accepted-call : (i j k : ℕ) (out' : List ℕ) → i ≡ comparedPairs t 3 (scaledList (m .positions)) → j ≡ comparedPairs t 2 (m .textures) → k ≡ comparedPairs t 3 (m .normals) → out' ≡ sets out 0 (joined (map (sentCorner p u n) (threes (m .corners)))) → PutTogether m t out (record { number = 0; positions = i; textures = j; normals = k }) out'
+    pub accepted-call :
+        (i j k : ℕ) (out' : List ℕ)
+        → i ≡ comparedPairs t 3 (scaledList (m .positions))
+        → j ≡ comparedPairs t 2 (m .textures)
+        → k ≡ comparedPairs t 3 (m .normals)
+        → out' ≡ sets out 0 (joined (map (sentCorner p u n) (threes (m .corners))))
+        → PutTogether m t out (record { number = 0; positions = i; textures = j; normals = k }) out'
     unfolding positionPairs texturePairs normalPairs mergedCorners
     accepted-call i j k out' ei ej ek eo = record {
       number = sym earns;

@@ -32,7 +32,12 @@ pub length-cells : (t : Float) (s : List Float) → length (cellsOf t s) ≡ len
 unfolding cellsOf
 length-cells t s = length-map s (placed t)
 
-pub cells-turn : (t : Float) (s : List Float) (l l' : List ℕ) (k v : ℕ) → k < length s → v ≡ place (cut (quotient t (getD s k nan))) → Copying (cellsOf t s) l l' 0 k → Copying (cellsOf t s) l (set l' k v) 0 (k + 1)
+pub cells-turn :
+    (t : Float) (s : List Float) (l l' : List ℕ) (k v : ℕ)
+    → k < length s
+    → v ≡ place (cut (quotient t (getD s k nan)))
+    → Copying (cellsOf t s) l l' 0 k
+    → Copying (cellsOf t s) l (set l' k v) 0 (k + 1)
 unfolding cellsOf
 cells-turn t s l l' k v h e g =
     let i : v ≡ getD (map (placed t) s) k (placed t nan) = e ∙ sym (List·getD-map (placed t) s k nan) in

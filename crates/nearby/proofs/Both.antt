@@ -74,7 +74,11 @@ module _ (f : Format) where
   round-times s t a c = units-times s t _ _
 
   -- a - b and b - a, with one sign and with two
-  less-times : (s : Bool) (a b c : ℕ) (x y : Bool) → ltb a b ≡ x → ltb b a ≡ y → times (cond x (round f (not s) (b - a) c) (round f (s && y) (a - b) c)) ≡ times (cond y (round f (not s) (a - b) c) (round f (s && x) (b - a) c))
+  less-times :
+      (s : Bool) (a b c : ℕ) (x y : Bool)
+      → ltb a b ≡ x
+      → ltb b a ≡ y
+      → times (cond x (round f (not s) (b - a) c) (round f (s && y) (a - b) c)) ≡ times (cond y (round f (not s) (a - b) c) (round f (s && x) (b - a) c))
   less-times s a b c true true p q = absurd (let l : a < b = ltb-true a b p in let m : b < a = ltb-true b a q in omega arith)
   less-times s a b c true false p q = round-times (not s) (s && true) (b - a) c
   less-times s a b c false true p q = round-times (s && true) (not s) (a - b) c

@@ -59,7 +59,13 @@ module _ (r : ℕ → ℕ → Bool) (n : ℕ) (before : List ℕ) (i m : ℕ) (s
   past-none : (f : ℕ) → Past r n before i m m s g f
   past-none f = record { fuel = f; spent = omega arith; same = refl }
 
-  past-one : (l f f' : ℕ) → m ≤ l → f ≤ suc f' → walk r n before f (at (descending (r i) (suc l) ++ s) g) ≡ walk r n before f' (at (descending (r i) l ++ s) g) → Past r n before i l m s g f' → Past r n before i (suc l) m s g f
+  past-one :
+      (l f f' : ℕ)
+      → m ≤ l
+      → f ≤ suc f'
+      → walk r n before f (at (descending (r i) (suc l) ++ s) g) ≡ walk r n before f' (at (descending (r i) l ++ s) g)
+      → Past r n before i l m s g f'
+      → Past r n before i (suc l) m s g f
   past-one l f f' h a e p = record { fuel = p .fuel; spent = omega (arith, p .spent); same = e ∙ p .same }
 
   past-suc : (l f : ℕ) → m ≤ l → suc l - m ≤ f → (r i l ≡ true → has l (before ++ g) ≡ true) → ((f' : ℕ) → l - m ≤ f' → Past r n before i l m s g f') → Past r n before i (suc l) m s g f
@@ -396,7 +402,12 @@ module _ {r : ℕ → ℕ → Bool} {n : ℕ} {before : List ℕ} {start : ℕ} 
   left-in = g .lefts (depth - 1) (omega arith)
 
   -- what a search from `start` up has passed, with those below it, which are all old
-  passed : (p : ℕ → Bool) (next m : ℕ) → Next p start (getD left (depth - 1) 0) next → next ≤ m → ((k : ℕ) → p k ≡ false → r (getD node (depth - 1) 0) k ≡ true → getD seen k false ≡ true) → Passed good' m
+  passed :
+      (p : ℕ → Bool) (next m : ℕ)
+      → Next p start (getD left (depth - 1) 0) next
+      → next ≤ m
+      → ((k : ℕ) → p k ≡ false → r (getD node (depth - 1) 0) k ≡ true → getD seen k false ≡ true)
+      → Passed good' m
   passed p next m q h f k a b e =
       by-cases (ltb k start)
       (λ t. g .lowest k (let z : k < start = ltb-true k start t in omega arith))

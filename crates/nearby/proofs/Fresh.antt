@@ -31,7 +31,14 @@ module _ (t : Float) (w : ℕ) (s : List Float) (cells : List ℕ) (seen : List 
   unfolding fresh nearBy
   not-new e = rw e (sym (and-false-right (besideAt w cells i j && close) false refl))
 
-  pub by-distance : besideAt w cells i j ≡ true → getD seen j false ≡ false → (p q : Point) (d : Float) → leading w p ≡ row w s i → leading w q ≡ row w s j → d ≡ squared (leading w p) (leading w q) → lt d (mul binary64 t t) ≡ fresh (nearBy t w s cells) seen i j
+  pub by-distance :
+      besideAt w cells i j ≡ true
+      → getD seen j false ≡ false
+      → (p q : Point) (d : Float)
+      → leading w p ≡ row w s i
+      → leading w q ≡ row w s j
+      → d ≡ squared (leading w p) (leading w q)
+      → lt d (mul binary64 t t) ≡ fresh (nearBy t w s cells) seen i j
   unfolding fresh nearBy
   by-distance e f p q d a b c = rw (e, f) (ap (λ (x : Float). lt x (mul binary64 t t)) (c ∙ ap (λ (l : List Float). squared l (leading w q)) a ∙ ap (squared (row w s i)) b) ∙ sym (and-true close))
 

@@ -59,7 +59,10 @@ module _ (order₀ : List ℕ) (seen₀ : List Bool) (node₀ left₀ : List ℕ
   pub long-begins : Long order₀ seen₀ node₀ left₀ order₀ seen₀ node₀ left₀
   long-begins = record { order-long = refl; seen-long = refl; node-long = refl; left-long = refl }
 
-  pub long-turns : (order : List ℕ) (seen : List Bool) (node left : List ℕ) (taken j top depth n : ℕ) → Long order₀ seen₀ node₀ left₀ order seen node left → Long order₀ seen₀ node₀ left₀ (set order taken j) (set seen j true) (set node depth j) (set (set left top j) depth n)
+  pub long-turns :
+      (order : List ℕ) (seen : List Bool) (node left : List ℕ) (taken j top depth n : ℕ)
+      → Long order₀ seen₀ node₀ left₀ order seen node left
+      → Long order₀ seen₀ node₀ left₀ (set order taken j) (set seen j true) (set node depth j) (set (set left top j) depth n)
   long-turns order seen node left taken j top depth n g = record {
     order-long = length-set order taken j ∙ g .order-long;
     seen-long = length-set seen j true ∙ g .seen-long;

@@ -11,7 +11,11 @@ texel-at-requires : tie.Need-texel-at-requires
 texel-at-requires c κs = subst (λ (k : ℕ). k * c .before .before .args .i + k ≤ length (now (c .before .before .args .s))) (c .if1 .taken) (c .before .before .pre .2)
 
 point-at-requires : tie.Need-point-at-requires
-point-at-requires c κs = subst (λ (k : ℕ). k * c .before .before .args .i + k ≤ length (now (c .before .before .args .s))) (three _ (c .if1 .left) (c .before .before .pre .0) (c .before .before .pre .1)) (c .before .before .pre .2)
+point-at-requires c κs =
+    let args = c .before .before .args in
+    let pre = c .before .before .pre in
+    let if1 = c .if1 in
+    subst (λ (k : ℕ). k * args .i + k ≤ length (now (args .s))) (three _ (if1 .left) (pre .0) (pre .1)) (pre .2)
 
 returns : tie.Need-returns
 returns c = texel-attr _ _ _ _ _ (c .before .if1 .taken) (c .before .before .before .pre .2) (c .texel-at .ensures)

@@ -37,7 +37,14 @@ loop-less : tie.Need-loop-less Inv-loop μ-loop
 loop-less c = search needs
 
 loop-again : tie.Need-loop-again Inv-loop μ-loop
-loop-again c = subst (λ (b : Bounds). Boxing (now (c .before .before .before .before .before .before .args .positions)) b (c .before .before .before .loop .i + 1)) (sym (c .with-point .ensures ∙ ap (boxWith (c .before .before .before .loop .b)) (c .before .point-at2 .ensures))) (box-turns _ _ (c .before .before .before .loop .i) (c .before .before .loop-test .taken) (c .before .before .before .loop .inv))
+loop-again c =
+    let args = c .before .before .before .before .before .before .args in
+    let loop = c .before .before .before .loop in
+    let test = c .before .before .loop-test in
+    let point-at2 = c .before .point-at2 in
+    let with-point = c .with-point in
+    subst (λ (b : Bounds). Boxing (now (args .positions)) b (loop .i + 1)) (sym (with-point .ensures ∙ ap (boxWith (loop .b)) (point-at2 .ensures)))
+    (box-turns _ _ (loop .i) (test .taken) (loop .inv))
 
 returns : tie.Need-returns Inv-loop μ-loop
 returns c = box-ends _ _ _ (c .loop-test .left) (c .before .loop .inv)

@@ -7,7 +7,11 @@ returns : tie.Need-returns
 returns c = squared-two _ (c .before .before .before .before .before .before .before .args .p) (c .before .before .before .before .before .before .before .args .q) (c .if1 .taken)
 
 returns-2 : tie.Need-returns-2
-returns-2 c = squared-three _ (c .before .before .before .before .before .before .before .args .p) (c .before .before .before .before .before .before .before .args .q) (three _ (c .if1 .left) (c .before .before .before .before .before .before .before .pre .0) (c .before .before .before .before .before .before .before .pre .1))
+returns-2 c =
+    let args = c .before .before .before .before .before .before .before .args in
+    let pre = c .before .before .before .before .before .before .before .pre in
+    let if1 = c .if1 in
+    squared-three _ (args .p) (args .q) (three _ (if1 .left) (pre .0) (pre .1))
 
 pub distance2-spec : {M : Type 1} → statement M
 distance2-spec = tie.close (tie.spec returns returns-2)

@@ -38,7 +38,11 @@ scaled-by-requires : tie.Need-scaled-by-requires Inv-loop μ-loop
 scaled-by-requires c κs = search needs
 
 put-point-requires : tie.Need-put-point-requires Inv-loop μ-loop
-put-point-requires c κs = omega (arith, c .before .before .before .before .before .before .before .before .before .before .pre .1, c .before .before .before .before .loop .inv .0 .long, c .before .before .before .loop-test .taken)
+put-point-requires c κs =
+    let pre = c .before .before .before .before .before .before .before .before .before .before .pre in
+    let loop = c .before .before .before .before .loop in
+    let test = c .before .before .before .loop-test in
+    omega (arith, pre .1, loop .inv .0 .long, test .taken)
 
 add-i : tie.Need-add-i Inv-loop μ-loop
 add-i c = search needs
@@ -47,7 +51,17 @@ loop-less : tie.Need-loop-less Inv-loop μ-loop
 loop-less c = search needs
 
 loop-again : tie.Need-loop-again Inv-loop μ-loop
-loop-again c = (subst (λ (l : List Float). Scaling (now (c .before .before .before .before .before .before .before .before .before .before .before .before .before .args .positions)) (now (c .before .before .before .before .before .before .before .before .before .before .before .before .before .args .out)) l (c .before .before .before .before .before .before .before .loop .i + 1)) (sym (c .before .before .put-point .ensures)) (scaling-turns _ _ _ (c .before .before .before .before .before .before .before .loop .i) (c .before .before .before .before .scaled-by .result) (c .before .before .before .before .before .before .loop-test .taken) (scaled-is (now (c .before .before .before .before .before .before .before .before .before .before .before .before .before .args .positions)) _ (c .before .before .before .before .before .before .before .loop .i) _ _ _ _ (c .before .before .before .before .scaled-by .ensures) (c .before .before .before .before .before .point-at .ensures) (c .before .before .before .before .before .before .before .loop .inv .1) (c .before .before .before .before .before .before .before .loop .inv .2)) (c .before .before .before .before .before .before .before .loop .inv .0)), c .before .before .before .before .before .before .before .loop .inv .1, c .before .before .before .before .before .before .before .loop .inv .2)
+loop-again c =
+    let args = c .before .before .before .before .before .before .before .before .before .before .before .before .before .args in
+    let loop = c .before .before .before .before .before .before .before .loop in
+    let test = c .before .before .before .before .before .before .loop-test in
+    let point-at = c .before .before .before .before .before .point-at in
+    let scaled-by = c .before .before .before .before .scaled-by in
+    let put-point = c .before .before .put-point in (
+      subst (λ (l : List Float). Scaling (now (args .positions)) (now (args .out)) l (loop .i + 1)) (sym (put-point .ensures)) (scaling-turns _ _ _ (loop .i) (scaled-by .result) (test .taken) (scaled-is (now (args .positions)) _ (loop .i) _ _ _ _ (scaled-by .ensures) (point-at .ensures) (loop .inv .1) (loop .inv .2)) (loop .inv .0)),
+      loop .inv .1,
+      loop .inv .2,
+    )
 
 same-length : tie.Need-same-length Inv-loop μ-loop
 same-length c = search needs

@@ -29,10 +29,18 @@ shared-slice-read-map : tie.Need-shared-slice-read-map Inv-loop μ-loop
 shared-slice-read-map c = search needs
 
 mul-map-2 : tie.Need-mul-map-2 Inv-loop μ-loop
-mul-map-2 c = omega (arith, c .before .before .before .before .before .before .before .pre .0 .within (c .before .before .loop .k) (c .before .loop-test .taken), c .before .before .before .before .before .before .before .pre .0 .few)
+mul-map-2 c =
+    let pre = c .before .before .before .before .before .before .before .pre in
+    let loop = c .before .before .loop in
+    let test = c .before .loop-test in
+    omega (arith, pre .0 .within (loop .k) (test .taken), pre .0 .few)
 
 slice-write-map : tie.Need-slice-write-map Inv-loop μ-loop
-slice-write-map c = omega (arith, c .before .before .before .before .before .before .before .pre .0 .within (c .before .before .loop .k) (c .before .loop-test .taken), c .before .before .before .before .before .before .before .pre .1, c .before .before .loop .inv .long)
+slice-write-map c =
+    let pre = c .before .before .before .before .before .before .before .pre in
+    let loop = c .before .before .loop in
+    let test = c .before .loop-test in
+    omega (arith, pre .0 .within (loop .k) (test .taken), pre .1, loop .inv .long)
 
 add-k : tie.Need-add-k Inv-loop μ-loop
 add-k c = search needs
@@ -41,13 +49,23 @@ loop-less : tie.Need-loop-less Inv-loop μ-loop
 loop-less c = search needs
 
 loop-again : tie.Need-loop-again Inv-loop μ-loop
-loop-again c = send-turns _ _ _ _ _ _ (c .before .before .before .before .before .before .before .pre .0) _ _ (c .before .before .before .before .before .before .before .pre .1) _ _ (c .before .loop-test .taken) (c .before .before .loop .inv)
+loop-again c =
+    let pre = c .before .before .before .before .before .before .before .pre in
+    let loop = c .before .before .loop in
+    let test = c .before .loop-test in
+    send-turns _ _ _ _ _ _ (pre .0) _ _ (pre .1) _ _ (test .taken) (loop .inv)
 
 same-length : tie.Need-same-length Inv-loop μ-loop
 same-length c = search needs
 
 returns : tie.Need-returns Inv-loop μ-loop
-returns c = send-ends _ _ (now (c .before .before .before .before .before .before .args .s)) (now (c .before .before .before .before .before .before .args .order)) _ _ (c .before .before .before .before .before .before .pre .0) _ _ (c .before .before .before .before .before .before .pre .1) _ _ (c .loop-test .left) (c .before .before .representative .ensures .0) (c .before .before .representative .ensures .1) (c .before .loop .inv)
+returns c =
+    let args = c .before .before .before .before .before .before .args in
+    let pre = c .before .before .before .before .before .before .pre in
+    let representative = c .before .before .representative in
+    let loop = c .before .loop in
+    let test = c .loop-test in
+    send-ends _ _ (now (args .s)) (now (args .order)) _ _ (pre .0) _ _ (pre .1) _ _ (test .left) (representative .ensures .0) (representative .ensures .1) (loop .inv)
 
 pub centralize-spec : {M : Type 1} → statement M
 centralize-spec =

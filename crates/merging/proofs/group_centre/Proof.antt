@@ -23,7 +23,10 @@ shared-slice-read-attr-at : tie.Need-shared-slice-read-attr-at Inv-loop μ-loop
 shared-slice-read-attr-at c = search needs
 
 attr-at-requires : tie.Need-attr-at-requires Inv-loop μ-loop
-attr-at-requires c κs = (c .before .before .before .before .before .pre .least, c .before .before .before .before .before .pre .most, point-in _ _ _ _ _ _ (c .before .before .before .before .before .pre) _ (c .before .loop-test .taken))
+attr-at-requires c κs =
+    let pre = c .before .before .before .before .before .pre in
+    let test = c .before .loop-test in
+    (pre .least, pre .most, point-in _ _ _ _ _ _ pre _ (test .taken))
 
 plus-requires : tie.Need-plus-requires Inv-loop μ-loop
 plus-requires c κs = search needs
@@ -35,7 +38,13 @@ loop-less : tie.Need-loop-less Inv-loop μ-loop
 loop-less c = search needs
 
 loop-again : tie.Need-loop-again Inv-loop μ-loop
-loop-again c = sum-turns _ _ _ _ _ _ (c .before .before .before .before .before .before .before .pre) (c .before .before .before .before .loop .k) _ _ _ (c .before .before .before .loop-test .taken) (c .before .attr-at .ensures) (c .plus .ensures) (c .before .before .before .before .loop .inv)
+loop-again c =
+    let pre = c .before .before .before .before .before .before .before .pre in
+    let loop = c .before .before .before .before .loop in
+    let test = c .before .before .before .loop-test in
+    let attr-at = c .before .attr-at in
+    let plus = c .plus in
+    sum-turns _ _ _ _ _ _ pre (loop .k) _ _ _ (test .taken) (attr-at .ensures) (plus .ensures) (loop .inv)
 
 sub-nearest-u64-to-f64 : tie.Need-sub-nearest-u64-to-f64 Inv-loop μ-loop
 sub-nearest-u64-to-f64 c = omega (arith, c .before .before .before .before .pre .some)
@@ -47,7 +56,14 @@ over-requires : tie.Need-over-requires Inv-loop μ-loop
 over-requires c κs = search needs
 
 returns : tie.Need-returns Inv-loop μ-loop
-returns c = sum-ends _ _ (now (c .before .before .before .before .before .before .args .s)) (now (c .before .before .before .before .before .before .args .order)) _ _ (c .before .before .before .before .before .before .pre) (c .before .before .before .loop .k) _ _ _ (c .before .before .loop-test .left) (c .before .nearest-u64-to-f64 .ensures) (c .over .ensures) (c .before .before .before .loop .inv)
+returns c =
+    let args = c .before .before .before .before .before .before .args in
+    let pre = c .before .before .before .before .before .before .pre in
+    let loop = c .before .before .before .loop in
+    let test = c .before .before .loop-test in
+    let nearest-u64-to-f64 = c .before .nearest-u64-to-f64 in
+    let over = c .over in
+    sum-ends _ _ (now (args .s)) (now (args .order)) _ _ pre (loop .k) _ _ _ (test .left) (nearest-u64-to-f64 .ensures) (over .ensures) (loop .inv)
 
 pub group-centre-spec : {M : Type 1} → statement M
 group-centre-spec =

@@ -29,7 +29,12 @@ is-boundless-requires : tie.Need-is-boundless-requires Inv-loop μ-loop
 is-boundless-requires c κs = search needs
 
 returns : tie.Need-returns Inv-loop μ-loop
-returns c = search-finds boundless nan (now (c .before .before .before .before .before .before .args .s)) _ (c .before .before .before .loop-test .taken) (sym (c .before .is-boundless .ensures) ∙ c .if1 .taken)
+returns c =
+    let args = c .before .before .before .before .before .before .args in
+    let test = c .before .before .before .loop-test in
+    let is-boundless = c .before .is-boundless in
+    let if1 = c .if1 in
+    search-finds boundless nan (now (args .s)) _ (test .taken) (sym (is-boundless .ensures) ∙ if1 .taken)
 
 add-k : tie.Need-add-k Inv-loop μ-loop
 add-k c = search needs

@@ -29,7 +29,12 @@ is-distant-requires : tie.Need-is-distant-requires Inv-loop μ-loop
 is-distant-requires c κs = search needs
 
 returns : tie.Need-returns Inv-loop μ-loop
-returns c = search-finds (distant (c .before .before .before .before .before .before .args .t)) nan (now (c .before .before .before .before .before .before .args .s)) _ (c .before .before .before .loop-test .taken) (sym (c .before .is-distant .ensures) ∙ c .if1 .taken)
+returns c =
+    let args = c .before .before .before .before .before .before .args in
+    let test = c .before .before .before .loop-test in
+    let is-distant = c .before .is-distant in
+    let if1 = c .if1 in
+    search-finds (distant (args .t)) nan (now (args .s)) _ (test .taken) (sym (is-distant .ensures) ∙ if1 .taken)
 
 add-k : tie.Need-add-k Inv-loop μ-loop
 add-k c = search needs
@@ -38,7 +43,13 @@ loop-less : tie.Need-loop-less Inv-loop μ-loop
 loop-less c = search needs
 
 loop-again : tie.Need-loop-again Inv-loop μ-loop
-loop-again c = search-turns (distant (c .before .before .before .before .before .before .args .t)) nan _ _ (c .before .before .before .loop-test .taken) (sym (c .before .is-distant .ensures) ∙ c .if1 .left) (c .before .before .before .before .loop .inv)
+loop-again c =
+    let args = c .before .before .before .before .before .before .args in
+    let loop = c .before .before .before .before .loop in
+    let test = c .before .before .before .loop-test in
+    let is-distant = c .before .is-distant in
+    let if1 = c .if1 in
+    search-turns (distant (args .t)) nan _ _ (test .taken) (sym (is-distant .ensures) ∙ if1 .left) (loop .inv)
 
 returns-2 : tie.Need-returns-2 Inv-loop μ-loop
 returns-2 c = search-ends (distant (c .before .before .before .args .t)) nan _ _ (c .loop-test .left) (c .before .loop .inv)

@@ -18,19 +18,33 @@ slice-aggregate-merge-positions : tie.Need-slice-aggregate-merge-positions
 slice-aggregate-merge-positions c = search needs
 
 merge-positions-requires : tie.Need-merge-positions-requires
-merge-positions-requires c κs = (positions-ready (whole (c .before .before .before .before .before .before .before)) (c .before .before .before .before .before .before .before .args .t) (now (c .before .before .before .before .before .before .before .args .out)) (c .before .before .before .before .before .before .before .pre), omega (arith, positions-few (whole (c .before .before .before .before .before .before .before)) (c .before .before .before .before .before .before .before .args .t) (now (c .before .before .before .before .before .before .before .args .out)) (c .before .before .before .before .before .before .before .pre), length-replicate {A = ℕ} entryLimit 0))
+merge-positions-requires c κs =
+    let before = c .before .before .before .before .before .before .before in
+    let args = c .before .before .before .before .before .before .before .args in
+    let pre = c .before .before .before .before .before .before .before .pre in (
+      positions-ready (whole (before)) (args .t) (now (args .out)) pre,
+      omega (arith, positions-few (whole (before)) (args .t) (now (args .out)) pre, length-replicate {A = ℕ} entryLimit 0),
+    )
 
 slice-aggregate-merge-list : tie.Need-slice-aggregate-merge-list
 slice-aggregate-merge-list c = search needs
 
 merge-list-requires : tie.Need-merge-list-requires
-merge-list-requires c κs = textures-ready (whole (c .before .before .before .before .before .before .before .before .before .before)) (c .before .before .before .before .before .before .before .before .before .before .args .t) (now (c .before .before .before .before .before .before .before .before .before .before .args .out)) (c .before .before .before .before .before .before .before .before .before .before .pre) _ (length-replicate {A = ℕ} entryLimit 0)
+merge-list-requires c κs =
+    let before = c .before .before .before .before .before .before .before .before .before .before in
+    let args = c .before .before .before .before .before .before .before .before .before .before .args in
+    let pre = c .before .before .before .before .before .before .before .before .before .before .pre in
+    textures-ready (whole (before)) (args .t) (now (args .out)) pre _ (length-replicate {A = ℕ} entryLimit 0)
 
 slice-aggregate-merge-list-2 : tie.Need-slice-aggregate-merge-list-2
 slice-aggregate-merge-list-2 c = search needs
 
 merge-list-requires-2 : tie.Need-merge-list-requires-2
-merge-list-requires-2 c κs = normals-ready (whole (c .before .before .before .before .before .before .before .before .before .before .before .before .before)) (c .before .before .before .before .before .before .before .before .before .before .before .before .before .args .t) (now (c .before .before .before .before .before .before .before .before .before .before .before .before .before .args .out)) (c .before .before .before .before .before .before .before .before .before .before .before .before .before .pre) _ (length-replicate {A = ℕ} entryLimit 0)
+merge-list-requires-2 c κs =
+    let before = c .before .before .before .before .before .before .before .before .before .before .before .before .before in
+    let args = c .before .before .before .before .before .before .before .before .before .before .before .before .before .args in
+    let pre = c .before .before .before .before .before .before .before .before .before .before .before .before .before .pre in
+    normals-ready (whole (before)) (args .t) (now (args .out)) pre _ (length-replicate {A = ℕ} entryLimit 0)
 
 slice-aggregate-send-corners : tie.Need-slice-aggregate-send-corners
 slice-aggregate-send-corners c = sym (c .before .before .before .before .before .before .before .before .merge-positions .kept .1 .1 .0 ∙ length-replicate {A = ℕ} entryLimit 0)
@@ -42,13 +56,30 @@ slice-aggregate-send-corners-3 : tie.Need-slice-aggregate-send-corners-3
 slice-aggregate-send-corners-3 c = sym (c .before .before .before .before .merge-list2 .kept .1 .1 .1 .1 .0 ∙ length-replicate {A = ℕ} entryLimit 0)
 
 send-corners-requires : tie.Need-send-corners-requires
-send-corners-requires c κs = corners-ready (whole (c .before .before .before .before .before .before .before .before .before .before .before .before .before .before .before .before .before .before .before)) (c .before .before .before .before .before .before .before .before .before .before .before .before .before .before .before .before .before .before .before .args .t) (now (c .before .before .before .before .before .before .before .before .before .before .before .before .before .before .before .before .before .before .before .args .out)) (c .before .before .before .before .before .before .before .before .before .before .before .before .before .before .before .before .before .before .before .pre) _ _ _ (c .before .before .before .before .before .before .before .before .before .before .before .merge-positions .kept .1 .1 .0 ∙ length-replicate {A = ℕ} entryLimit 0) (c .before .before .before .before .before .before .before .before .merge-list .kept .1 .1 .1 .1 .0 ∙ length-replicate {A = ℕ} entryLimit 0) (c .before .before .before .before .before .merge-list2 .kept .1 .1 .1 .1 .0 ∙ length-replicate {A = ℕ} entryLimit 0)
+send-corners-requires c κs =
+    let before = c .before .before .before .before .before .before .before .before .before .before .before .before .before .before .before .before .before .before .before in
+    let args = c .before .before .before .before .before .before .before .before .before .before .before .before .before .before .before .before .before .before .before .args in
+    let pre = c .before .before .before .before .before .before .before .before .before .before .before .before .before .before .before .before .before .before .before .pre in
+    let merge-positions = c .before .before .before .before .before .before .before .before .before .before .before .merge-positions in
+    let merge-list = c .before .before .before .before .before .before .before .before .merge-list in
+    let merge-list2 = c .before .before .before .before .before .merge-list2 in
+    corners-ready (whole (before)) (args .t) (now (args .out)) pre _ _ _ (merge-positions .kept .1 .1 .0 ∙ length-replicate {A = ℕ} entryLimit 0)
+    (merge-list .kept .1 .1 .1 .1 .0 ∙ length-replicate {A = ℕ} entryLimit 0) (merge-list2 .kept .1 .1 .1 .1 .0 ∙ length-replicate {A = ℕ} entryLimit 0)
 
 same-length : tie.Need-same-length
 same-length c = search needs
 
 returns : tie.Need-returns
-returns c = accepted-call (whole (c .before .before .before .before .before .before .before .before .before .before .before .before .before .before .before .before .before .before .before .before .before .before)) (c .before .before .before .before .before .before .before .before .before .before .before .before .before .before .before .before .before .before .before .before .before .before .args .t) (now (c .before .before .before .before .before .before .before .before .before .before .before .before .before .before .before .before .before .before .before .before .before .before .args .out)) (c .before .before .before .before .before .before .before .before .before .before .before .before .before .before .before .before .before .before .before .before .before .before .pre) _ _ _ _ _ _ (c .before .before .before .before .before .before .before .before .before .before .before .before .before .before .merge-positions .ensures .1) (c .before .before .before .before .before .before .before .before .before .before .before .merge-list .ensures .1) (c .before .before .before .before .before .before .before .before .merge-list2 .ensures .1) _ _ _ _ (c .before .before .before .before .before .before .before .before .before .before .before .before .before .before .merge-positions .ensures .0) (c .before .before .before .before .before .before .before .before .before .before .before .merge-list .ensures .0) (c .before .before .before .before .before .before .before .before .merge-list2 .ensures .0) (c .before .before .send-corners .ensures)
+returns c =
+    let before = c .before .before .before .before .before .before .before .before .before .before .before .before .before .before .before .before .before .before .before .before .before .before in
+    let args = c .before .before .before .before .before .before .before .before .before .before .before .before .before .before .before .before .before .before .before .before .before .before .args in
+    let pre = c .before .before .before .before .before .before .before .before .before .before .before .before .before .before .before .before .before .before .before .before .before .before .pre in
+    let merge-positions = c .before .before .before .before .before .before .before .before .before .before .before .before .before .before .merge-positions in
+    let merge-list = c .before .before .before .before .before .before .before .before .before .before .before .merge-list in
+    let merge-list2 = c .before .before .before .before .before .before .before .before .merge-list2 in
+    let send-corners = c .before .before .send-corners in
+    accepted-call (whole (before)) (args .t) (now (args .out)) pre _ _ _ _ _ _ (merge-positions .ensures .1) (merge-list .ensures .1) (merge-list2 .ensures .1) _ _ _ _
+    (merge-positions .ensures .0) (merge-list .ensures .0) (merge-list2 .ensures .0) (send-corners .ensures)
 
 pub merge-spec : {M : Type 1} → statement M
 merge-spec =

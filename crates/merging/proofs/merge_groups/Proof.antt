@@ -42,21 +42,35 @@ slice-aggregate-create-component-4 : tie.Need-slice-aggregate-create-component-4
 slice-aggregate-create-component-4 c = sym (c .before .before .before .before .before .before .loop .inv .left-long)
 
 create-component-requires : tie.Need-create-component-requires Inv-loop μ-loop
-create-component-requires c κs = record {
-  listed = c .before .before .before .before .before .before .before .before .before .before .pre .0;
-  taken = c .before .before .before .before .before .before .loop .inv .held;
-  node-room = omega (arith, c .before .before .before .before .before .before .loop .inv .node-long, c .before .before .before .before .before .before .before .before .before .before .pre .0 .points .few);
-  left-room = omega (arith, c .before .before .before .before .before .before .loop .inv .left-long, c .before .before .before .before .before .before .before .before .before .before .pre .0 .points .few);
-  inside = c .before .before .before .before .before .loop-test .taken;
-  new = c .before .before .before .before .if1 .left;
-  lowest = c .before .before .before .before .before .before .loop .inv .lowest;
-}
+create-component-requires c κs =
+    let pre = c .before .before .before .before .before .before .before .before .before .before .pre in
+    let loop = c .before .before .before .before .before .before .loop in
+    let test = c .before .before .before .before .before .loop-test in
+    let if1 = c .before .before .before .before .if1 in
+    record {
+      listed = pre .0;
+      taken = loop .inv .held;
+      node-room = omega (arith, loop .inv .node-long, pre .0 .points .few);
+      left-room = omega (arith, loop .inv .left-long, pre .0 .points .few);
+      inside = test .taken;
+      new = if1 .left;
+      lowest = loop .inv .lowest;
+    }
 
 slice-aggregate-centralize : tie.Need-slice-aggregate-centralize Inv-loop μ-loop
-slice-aggregate-centralize c = sym (c .before .before .before .before .before .create-component .kept .1 .1 .1 .1 .1 .1 .1 .0 ∙ c .before .before .before .before .before .before .before .before .before .before .before .before .loop .inv .order-long)
+slice-aggregate-centralize c =
+    let loop = c .before .before .before .before .before .before .before .before .before .before .before .before .loop in
+    let create-component = c .before .before .before .before .before .create-component in
+    sym (create-component .kept .1 .1 .1 .1 .1 .1 .1 .0 ∙ loop .inv .order-long)
 
 centralize-requires : tie.Need-centralize-requires Inv-loop μ-loop
-centralize-requires c κs = (grouped (c .before .before .before .before .before .before .before .before .before .before .before .before .before .loop .inv) (c .before .before .before .before .before .before .before .before .before .before .before .before .loop-test .taken) (c .before .before .before .before .before .before .before .before .before .before .before .if1 .left) (c .before .before .before .before .before .before .create-component .ensures) (c .before .before .before .before .before .before .before .before .before .before .before .before .before .before .before .before .before .pre .0), omega (arith, c .before .before .before .before .before .before .before .before .before .before .before .before .before .before .before .before .before .pre .1, c .before .before .before .before .before .before .before .before .before .before .before .before .before .loop .inv .long))
+centralize-requires c κs =
+    let pre = c .before .before .before .before .before .before .before .before .before .before .before .before .before .before .before .before .before .pre in
+    let loop = c .before .before .before .before .before .before .before .before .before .before .before .before .before .loop in
+    let test = c .before .before .before .before .before .before .before .before .before .before .before .before .loop-test in
+    let if1 = c .before .before .before .before .before .before .before .before .before .before .before .if1 in
+    let create-component = c .before .before .before .before .before .before .create-component in
+    (grouped (loop .inv) (test .taken) (if1 .left) (create-component .ensures) (pre .0), omega (arith, pre .1, loop .inv .long))
 
 add-i-2 : tie.Need-add-i-2 Inv-loop μ-loop
 add-i-2 c = search needs
@@ -65,7 +79,15 @@ loop-less-2 : tie.Need-loop-less-2 Inv-loop μ-loop
 loop-less-2 c = search needs
 
 loop-again-2 : tie.Need-loop-again-2 Inv-loop μ-loop
-loop-again-2 c = settle-new (c .before .before .before .before .before .before .before .before .before .before .before .before .before .before .before .before .loop .inv) (c .before .before .before .before .before .before .before .before .before .before .before .before .before .before .before .loop-test .taken) (c .before .before .before .before .before .before .before .before .before .before .before .before .before .before .if1 .left) (c .before .before .before .before .before .before .before .before .before .create-component .ensures) (c .before .before .before .before .before .before .before .before .before .create-component .kept .1 .1 .1 .1 .1 .1 .1 .0) (c .before .before .before .before .before .before .before .before .before .create-component .kept .1 .1 .1 .1 .1 .1 .1 .1 .0) (c .before .before .before .before .before .before .before .before .before .create-component .kept .1 .1 .1 .1 .1 .1 .1 .1 .1 .0) (c .before .before .before .before .before .before .before .before .before .create-component .kept .1 .1 .1 .1 .1 .1 .1 .1 .1 .1 .0) (c .before .before .centralize .ensures)
+loop-again-2 c =
+    let loop = c .before .before .before .before .before .before .before .before .before .before .before .before .before .before .before .before .loop in
+    let test = c .before .before .before .before .before .before .before .before .before .before .before .before .before .before .before .loop-test in
+    let if1 = c .before .before .before .before .before .before .before .before .before .before .before .before .before .before .if1 in
+    let create-component = c .before .before .before .before .before .before .before .before .before .create-component in
+    let centralize = c .before .before .centralize in
+    settle-new (loop .inv) (test .taken) (if1 .left) (create-component .ensures) (create-component .kept .1 .1 .1 .1 .1 .1 .1 .0)
+    (create-component .kept .1 .1 .1 .1 .1 .1 .1 .1 .0) (create-component .kept .1 .1 .1 .1 .1 .1 .1 .1 .1 .0) (create-component .kept .1 .1 .1 .1 .1 .1 .1 .1 .1 .1 .0)
+    (centralize .ensures)
 
 same-length : tie.Need-same-length Inv-loop μ-loop
 same-length c = c .before .loop .inv .long

@@ -13,7 +13,10 @@ use Rattle.merging.proofs.merge_list.Statement.{statement}
 use Rattle.merging.proofs.merge_list.Tie as tie
 
 cells : (c : tie.After-fill-cells) → take (length (now (c .before .before .before .before .args .s))) (c .fill-cells .last .1 .1 .0) ≡ cellsOf (c .before .before .before .before .args .t) (now (c .before .before .before .before .args .s))
-cells c = cells-are (c .before .before .before .before .pre) (replicate pointNumbers 0) _ (length-replicate {A = ℕ} pointNumbers 0) (c .fill-cells .ensures)
+cells c =
+    let pre = c .before .before .before .before .pre in
+    let fill-cells = c .fill-cells in
+    cells-are pre (replicate pointNumbers 0) _ (length-replicate {A = ℕ} pointNumbers 0) (fill-cells .ensures)
 
 slice-aggregate-fill-cells : tie.Need-slice-aggregate-fill-cells
 slice-aggregate-fill-cells c = search needs
@@ -25,10 +28,16 @@ array-share-prefix-room : tie.Need-array-share-prefix-room
 array-share-prefix-room c = omega (arith, fits (c .before .before .before .before .before .pre), c .before .fill-cells .kept .1 .1 .0, length-replicate {A = ℕ} pointNumbers 0)
 
 slice-aggregate-cells : tie.Need-slice-aggregate-cells
-slice-aggregate-cells c = sym (length-take-le _ _ (omega (arith, fits (c .before .before .before .before .before .before .pre), c .before .before .fill-cells .kept .1 .1 .0, length-replicate {A = ℕ} pointNumbers 0)))
+slice-aggregate-cells c =
+    let pre = c .before .before .before .before .before .before .pre in
+    let fill-cells = c .before .before .fill-cells in
+    sym (length-take-le _ _ (omega (arith, fits pre, fill-cells .kept .1 .1 .0, length-replicate {A = ℕ} pointNumbers 0)))
 
 merge-groups-requires : tie.Need-merge-groups-requires
-merge-groups-requires c κs = (listed (c .before .before .before .before .before .before .before .pre) _ (cells (c .before .before .before)), c .before .before .before .before .before .before .before .pre .room)
+merge-groups-requires c κs =
+    let pre = c .before .before .before .before .before .before .before .pre in
+    let before = c .before .before .before in
+    (listed pre _ (cells (before)), pre .room)
 
 count-pairs-requires : tie.Need-count-pairs-requires
 count-pairs-requires c κs = listed (c .before .before .before .before .before .before .before .before .before .before .pre) _ (cells (c .before .before .before .before .before .before)) .points
@@ -37,7 +46,12 @@ same-length : tie.Need-same-length
 same-length c = search needs
 
 returns : tie.Need-returns
-returns c = (pairs-are (c .before .before .before .before .before .before .before .before .before .before .before .pre) _ (cells (c .before .before .before .before .before .before .before)) _ (c .count-pairs .ensures), settled-are (c .before .before .before .before .before .before .before .before .before .before .before .pre) _ (cells (c .before .before .before .before .before .before .before)) _ (c .before .before .before .merge-groups .ensures))
+returns c =
+    let pre = c .before .before .before .before .before .before .before .before .before .before .before .pre in
+    let before = c .before .before .before .before .before .before .before in
+    let merge-groups = c .before .before .before .merge-groups in
+    let count-pairs = c .count-pairs in
+    (pairs-are pre _ (cells (before)) _ (count-pairs .ensures), settled-are pre _ (cells (before)) _ (merge-groups .ensures))
 
 pub merge-list-spec : {M : Type 1} → statement M
 merge-list-spec =

@@ -14,7 +14,10 @@ use Rattle.merging.proofs.merge_positions.Statement.{statement}
 use Rattle.merging.proofs.merge_positions.Tie as tie
 
 scaled : (c : tie.After-scale) → take (length (now (c .before .before .before .before .before .args .positions))) (c .scale .last .1 .0) ≡ scaledList (now (c .before .before .before .before .before .args .positions))
-scaled c = scaled-are _ _ (c .before .before .before .before .before .pre .0) (replicate pointNumbers (ofBits binary64 0)) _ (length-replicate {A = Float} pointNumbers (ofBits binary64 0)) (c .scale .ensures)
+scaled c =
+    let pre = c .before .before .before .before .before .pre in
+    let scale = c .scale in
+    scaled-are _ _ (pre .0) (replicate pointNumbers (ofBits binary64 0)) _ (length-replicate {A = Float} pointNumbers (ofBits binary64 0)) (scale .ensures)
 
 returns : tie.Need-returns
 returns c = none-merged (c .before .before .before .args .t) _ _ _ (c .if1 .taken)
@@ -32,13 +35,22 @@ slice-aggregate-scaled : tie.Need-slice-aggregate-scaled
 slice-aggregate-scaled c = sym (length-take-le _ _ (omega (arith, c .before .before .before .before .before .before .before .pre .0 .few, c .before .before .scale .kept .1 .0)))
 
 merge-list-requires : tie.Need-merge-list-requires
-merge-list-requires c κs = mergeable _ _ (c .before .before .before .before .before .before .before .before .pre .0) _ (scaled (c .before .before .before)) _ (subst T (sym (c .before .before .before .before .before .before .before .before .good .1 .0 .1)) tt) (λ k l. c .before .before .before .before .before .before .before .shared-slice-known .given k) (c .before .before .before .before .before .before .before .before .pre .1)
+merge-list-requires c κs =
+    let pre = c .before .before .before .before .before .before .before .before .pre in
+    let good = c .before .before .before .before .before .before .before .before .good in
+    let shared-slice-known = c .before .before .before .before .before .before .before .shared-slice-known in
+    let before = c .before .before .before in
+    mergeable _ _ (pre .0) _ (scaled (before)) _ (subst T (sym (good .1 .0 .1)) tt) (λ k l. shared-slice-known .given k) (pre .1)
 
 same-length : tie.Need-same-length
 same-length c = search needs
 
 returns-2 : tie.Need-returns-2
-returns-2 c = merged-are _ _ (c .before .before .before .before .before .before .before .before .before .before .before .pre .0) _ (scaled (c .before .before .before .before .before .before)) _ _ _ (c .before .before .merge-list .ensures)
+returns-2 c =
+    let pre = c .before .before .before .before .before .before .before .before .before .before .before .pre in
+    let before = c .before .before .before .before .before .before in
+    let merge-list = c .before .before .merge-list in
+    merged-are _ _ (pre .0) _ (scaled (before)) _ _ _ (merge-list .ensures)
 
 pub merge-positions-spec : {M : Type 1} → statement M
 merge-positions-spec =

@@ -11,7 +11,12 @@ number-requires : tie.Need-number-requires
 number-requires c κs = search needs
 
 returns : tie.Need-returns
-returns c = refused (meshOf (now (c .before .before .before .before .before .before .before .before .args .positions)) (now (c .before .before .before .before .before .before .before .before .args .textures)) (now (c .before .before .before .before .before .before .before .before .args .normals)) (now (c .before .before .before .before .before .before .before .before .args .corners)) (now (c .before .before .before .before .before .before .before .before .args .sizes))) (c .before .before .before .before .before .before .before .before .args .tolerance) (now (c .before .before .before .before .before .before .before .before .args .out)) _ (c .before .number .ensures) (c .if1 .taken)
+returns c =
+    let args = c .before .before .before .before .before .before .before .before .args in
+    let number = c .before .number in
+    let if1 = c .if1 in
+    refused (meshOf (now (args .positions)) (now (args .textures)) (now (args .normals)) (now (args .corners)) (now (args .sizes))) (args .tolerance) (now (args .out)) _
+    (number .ensures) (if1 .taken)
 
 merge-requires : tie.Need-merge-requires
 merge-requires c κs = sym (c .before .before .number .ensures) ∙ c .before .if1 .left

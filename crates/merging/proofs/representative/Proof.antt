@@ -24,16 +24,26 @@ shared-slice-read-rep : tie.Need-shared-slice-read-rep Inv-loop μ-loop
 shared-slice-read-rep c = omega (arith, c .before .before .before .before .pre .room, c .before .before .before .before .pre .some)
 
 attr-at-requires : tie.Need-attr-at-requires Inv-loop μ-loop
-attr-at-requires c κs = (c .before .before .before .before .pre .least, c .before .before .before .before .pre .most, point-in _ _ _ _ _ _ (c .before .before .before .before .pre) _ (c .before .before .before .before .pre .some))
+attr-at-requires c κs =
+    let pre = c .before .before .before .before .pre in
+    (pre .least, pre .most, point-in _ _ _ _ _ _ pre _ (pre .some))
 
 distance2-requires : tie.Need-distance2-requires Inv-loop μ-loop
 distance2-requires c κs = (c .before .before .before .before .before .pre .least, c .before .before .before .before .before .pre .most)
 
 add-k : tie.Need-add-k Inv-loop μ-loop
-add-k c = omega (arith, c .before .before .before .before .before .before .pre .room, c .before .before .before .before .before .before .pre .some, c .before .before .before .before .before .before .good)
+add-k c =
+    let pre = c .before .before .before .before .before .before .pre in
+    let good = c .before .before .before .before .before .before .good in
+    omega (arith, pre .room, pre .some, good)
 
 loop-holds : tie.Need-loop-holds Inv-loop μ-loop
-loop-holds c = choose-begins _ _ _ _ _ _ (c .before .before .before .before .before .before .pre) _ (c .before .before .before .group-centre .ensures) _ (c .before .attr-at .result) (c .before .attr-at .ensures) (c .distance2 .ensures)
+loop-holds c =
+    let pre = c .before .before .before .before .before .before .pre in
+    let group-centre = c .before .before .before .group-centre in
+    let attr-at = c .before .attr-at in
+    let distance2 = c .distance2 in
+    choose-begins _ _ _ _ _ _ pre _ (group-centre .ensures) _ (attr-at .result) (attr-at .ensures) (distance2 .ensures)
 
 mul-i : tie.Need-mul-i Inv-loop μ-loop
 mul-i c = omega (arith, c .before .before .before .before .before .before .before .before .pre .room, c .loop-test .taken, c .before .before .before .before .before .before .before .before .good)
@@ -42,25 +52,48 @@ shared-slice-read-i : tie.Need-shared-slice-read-i Inv-loop μ-loop
 shared-slice-read-i c = omega (arith, c .before .before .before .before .before .before .before .before .before .pre .room, c .before .loop-test .taken)
 
 attr-at-requires-2 : tie.Need-attr-at-requires-2 Inv-loop μ-loop
-attr-at-requires-2 c κs = (c .before .before .before .before .before .before .before .before .before .pre .least, c .before .before .before .before .before .before .before .before .before .pre .most, point-in _ _ _ _ _ _ (c .before .before .before .before .before .before .before .before .before .pre) _ (c .before .loop-test .taken))
+attr-at-requires-2 c κs =
+    let pre = c .before .before .before .before .before .before .before .before .before .pre in
+    let test = c .before .loop-test in
+    (pre .least, pre .most, point-in _ _ _ _ _ _ pre _ (test .taken))
 
 distance2-requires-2 : tie.Need-distance2-requires-2 Inv-loop μ-loop
-distance2-requires-2 c κs = (c .before .before .before .before .before .before .before .before .before .before .pre .least, c .before .before .before .before .before .before .before .before .before .before .pre .most)
+distance2-requires-2 c κs =
+    let pre = c .before .before .before .before .before .before .before .before .before .before .pre in
+    (pre .least, pre .most)
 
 add-k-2 : tie.Need-add-k-2 Inv-loop μ-loop
-add-k-2 c = omega (arith, c .before .before .before .before .before .before .before .before .before .before .before .before .pre .room, c .before .before .before .before .loop-test .taken, c .before .before .before .before .before .before .before .before .before .before .before .before .good)
+add-k-2 c =
+    let pre = c .before .before .before .before .before .before .before .before .before .before .before .before .pre in
+    let good = c .before .before .before .before .before .before .before .before .before .before .before .before .good in
+    let test = c .before .before .before .before .loop-test in
+    omega (arith, pre .room, test .taken, good)
 
 loop-less : tie.Need-loop-less Inv-loop μ-loop
 loop-less c = omega (arith, c .before .before .before .before .loop-test .taken)
 
 loop-again : tie.Need-loop-again Inv-loop μ-loop
-loop-again c = ⊎-elim
-    (λ v. choose-closer _ _ _ _ _ _ (c .before .before .before .before .before .before .before .before .before .before .before .before .pre) _ (c .before .before .before .before .before .before .before .before .before .group-centre .ensures) (c .before .before .before .before .before .loop .k) _ _ (c .before .before .before .before .loop-test .taken) _ (c .before .before .attr-at2 .result) (c .before .before .attr-at2 .ensures) (c .before .distance22 .ensures) (c .before .before .before .before .before .loop .inv) _ _ (v .0 .taken) (v .2) (v .1))
-    (λ v. choose-not _ _ _ _ _ _ (c .before .before .before .before .before .before .before .before .before .before .before .before .pre) _ (c .before .before .before .before .before .before .before .before .before .group-centre .ensures) (c .before .before .before .before .before .loop .k) _ _ (c .before .before .before .before .loop-test .taken) _ (c .before .before .attr-at2 .result) (c .before .before .attr-at2 .ensures) (c .before .distance22 .ensures) (c .before .before .before .before .before .loop .inv) _ _ (v .0 .left) (v .2) (v .1))
-    (c .if1 .came)
+loop-again c =
+    let pre = c .before .before .before .before .before .before .before .before .before .before .before .before .pre in
+    let group-centre = c .before .before .before .before .before .before .before .before .before .group-centre in
+    let loop = c .before .before .before .before .before .loop in
+    let test = c .before .before .before .before .loop-test in
+    let attr-at2 = c .before .before .attr-at2 in
+    let distance22 = c .before .distance22 in
+    let if1 = c .if1 in
+    ⊎-elim
+    (λ v. choose-closer _ _ _ _ _ _ pre _ (group-centre .ensures) (loop .k) _ _ (test .taken) _ (attr-at2 .result) (attr-at2 .ensures) (distance22 .ensures) (loop .inv) _ _ (v .0 .taken) (v .2) (v .1))
+    (λ v. choose-not _ _ _ _ _ _ pre _ (group-centre .ensures) (loop .k) _ _ (test .taken) _ (attr-at2 .result) (attr-at2 .ensures) (distance22 .ensures) (loop .inv) _ _ (v .0 .left) (v .2) (v .1))
+    (if1 .came)
 
 returns : tie.Need-returns Inv-loop μ-loop
-returns c = (choose-ends _ _ (now (c .before .before .before .before .before .before .before .before .args .s)) (now (c .before .before .before .before .before .before .before .before .args .order)) _ _ (c .before .before .before .before .before .before .before .before .pre) _ (c .before .before .before .before .before .group-centre .ensures) (c .before .loop .k) _ _ (c .loop-test .left) (c .before .loop .inv), c .before .loop .inv .small)
+returns c =
+    let args = c .before .before .before .before .before .before .before .before .args in
+    let pre = c .before .before .before .before .before .before .before .before .pre in
+    let group-centre = c .before .before .before .before .before .group-centre in
+    let loop = c .before .loop in
+    let test = c .loop-test in
+    (choose-ends _ _ (now (args .s)) (now (args .order)) _ _ pre _ (group-centre .ensures) (loop .k) _ _ (test .left) (loop .inv), loop .inv .small)
 
 pub representative-spec : {M : Type 1} → statement M
 representative-spec =

@@ -16,88 +16,195 @@ abbrev μ-loop : tie.MeasureT-loop
 μ-loop corners pmap tmap nmap out₀ count k₀ out k = length corners / width - k
 
 loop-holds : tie.Need-loop-holds Inv-loop μ-loop
-loop-holds c = write-begins (now (c .before .before .before .before .before .args .corners)) (now (c .before .before .before .before .before .args .pmap)) (now (c .before .before .before .before .before .args .tmap)) (now (c .before .before .before .before .before .args .nmap)) _
+loop-holds c =
+    let args = c .before .before .before .before .before .args in
+    write-begins (now (args .corners)) (now (args .pmap)) (now (args .tmap)) (now (args .nmap)) _
 
 mul-at : tie.Need-mul-at Inv-loop μ-loop
-mul-at c = omega (arith, c .before .before .before .before .before .before .before .pre .few, c .before .before .before .before .before .before .before .pre .even, c .before .before .before .before .before .before .before .pre .room, c .before .loop .inv .long, c .loop-test .taken)
+mul-at c =
+    let pre = c .before .before .before .before .before .before .before .pre in
+    let loop = c .before .loop in
+    let test = c .loop-test in
+    omega (arith, pre .few, pre .even, pre .room, loop .inv .long, test .taken)
 
 mul-out : tie.Need-mul-out Inv-loop μ-loop
-mul-out c = omega (arith, c .before .before .before .before .before .before .before .pre .few, c .before .before .before .before .before .before .before .pre .even, c .before .before .before .before .before .before .before .pre .room, c .before .loop .inv .long, c .loop-test .taken)
+mul-out c =
+    let pre = c .before .before .before .before .before .before .before .pre in
+    let loop = c .before .loop in
+    let test = c .loop-test in
+    omega (arith, pre .few, pre .even, pre .room, loop .inv .long, test .taken)
 
 shared-slice-read-out : tie.Need-shared-slice-read-out Inv-loop μ-loop
-shared-slice-read-out c = omega (arith, c .before .before .before .before .before .before .before .before .pre .few, c .before .before .before .before .before .before .before .before .pre .even, c .before .before .before .before .before .before .before .before .pre .room, c .before .before .loop .inv .long, c .before .loop-test .taken)
+shared-slice-read-out c =
+    let pre = c .before .before .before .before .before .before .before .before .pre in
+    let loop = c .before .before .loop in
+    let test = c .before .loop-test in
+    omega (arith, pre .few, pre .even, pre .room, loop .inv .long, test .taken)
 
 cast-out : tie.Need-cast-out Inv-loop μ-loop
-cast-out c = omega (arith, c .before .before .before .before .before .before .before .before .pre .positions (c .before .before .loop .k) (c .before .loop-test .taken), c .before .before .before .before .before .before .before .before .good)
+cast-out c =
+    let pre = c .before .before .before .before .before .before .before .before .pre in
+    let good = c .before .before .before .before .before .before .before .before .good in
+    let loop = c .before .before .loop in
+    let test = c .before .loop-test in
+    omega (arith, pre .positions (loop .k) (test .taken), good)
 
 mul-out-2 : tie.Need-mul-out-2 Inv-loop μ-loop
-mul-out-2 c = omega (arith, c .before .before .before .before .before .before .before .before .pre .positions (c .before .before .loop .k) (c .before .loop-test .taken), c .before .before .before .before .before .before .before .before .good)
+mul-out-2 c =
+    let pre = c .before .before .before .before .before .before .before .before .pre in
+    let good = c .before .before .before .before .before .before .before .before .good in
+    let loop = c .before .before .loop in
+    let test = c .before .loop-test in
+    omega (arith, pre .positions (loop .k) (test .taken), good)
 
 shared-slice-read-out-2 : tie.Need-shared-slice-read-out-2 Inv-loop μ-loop
 shared-slice-read-out-2 c = c .before .before .before .before .before .before .before .before .before .pre .positions (c .before .before .before .loop .k) (c .before .before .loop-test .taken)
 
 mul-out-3 : tie.Need-mul-out-3 Inv-loop μ-loop
-mul-out-3 c = omega (arith, c .before .before .before .before .before .before .before .before .before .pre .few, c .before .before .before .before .before .before .before .before .before .pre .even, c .before .before .before .before .before .before .before .before .before .pre .room, c .before .before .before .loop .inv .long, c .before .before .loop-test .taken)
+mul-out-3 c =
+    let pre = c .before .before .before .before .before .before .before .before .before .pre in
+    let loop = c .before .before .before .loop in
+    let test = c .before .before .loop-test in
+    omega (arith, pre .few, pre .even, pre .room, loop .inv .long, test .taken)
 
 slice-write-out : tie.Need-slice-write-out Inv-loop μ-loop
-slice-write-out c = omega (arith, c .before .before .before .before .before .before .before .before .before .pre .few, c .before .before .before .before .before .before .before .before .before .pre .even, c .before .before .before .before .before .before .before .before .before .pre .room, c .before .before .before .loop .inv .long, c .before .before .loop-test .taken)
+slice-write-out c =
+    let pre = c .before .before .before .before .before .before .before .before .before .pre in
+    let loop = c .before .before .before .loop in
+    let test = c .before .before .loop-test in
+    omega (arith, pre .few, pre .even, pre .room, loop .inv .long, test .taken)
 
 add-sent : tie.Need-add-sent Inv-loop μ-loop
-add-sent c = omega (arith, c .before .before .before .before .before .before .before .before .before .pre .few, c .before .before .before .before .before .before .before .before .before .pre .even, c .before .before .before .before .before .before .before .before .before .pre .room, c .before .before .before .loop .inv .long, c .before .before .loop-test .taken)
+add-sent c =
+    let pre = c .before .before .before .before .before .before .before .before .before .pre in
+    let loop = c .before .before .before .loop in
+    let test = c .before .before .loop-test in
+    omega (arith, pre .few, pre .even, pre .room, loop .inv .long, test .taken)
 
 mul-sent : tie.Need-mul-sent Inv-loop μ-loop
-mul-sent c = omega (arith, c .before .before .before .before .before .before .before .before .before .pre .few, c .before .before .before .before .before .before .before .before .before .pre .even, c .before .before .before .before .before .before .before .before .before .pre .room, c .before .before .before .loop .inv .long, c .before .before .loop-test .taken)
+mul-sent c =
+    let pre = c .before .before .before .before .before .before .before .before .before .pre in
+    let loop = c .before .before .before .loop in
+    let test = c .before .before .loop-test in
+    omega (arith, pre .few, pre .even, pre .room, loop .inv .long, test .taken)
 
 shared-slice-read-sent : tie.Need-shared-slice-read-sent Inv-loop μ-loop
-shared-slice-read-sent c = omega (arith, c .before .before .before .before .before .before .before .before .before .before .pre .few, c .before .before .before .before .before .before .before .before .before .before .pre .even, c .before .before .before .before .before .before .before .before .before .before .pre .room, c .before .before .before .before .loop .inv .long, c .before .before .before .loop-test .taken)
+shared-slice-read-sent c =
+    let pre = c .before .before .before .before .before .before .before .before .before .before .pre in
+    let loop = c .before .before .before .before .loop in
+    let test = c .before .before .before .loop-test in
+    omega (arith, pre .few, pre .even, pre .room, loop .inv .long, test .taken)
 
 sent-requires : tie.Need-sent-requires Inv-loop μ-loop
-sent-requires c κs = c .before .before .before .before .before .before .before .before .before .before .pre .textures (c .before .before .before .before .loop .k) (c .before .before .before .loop-test .taken)
+sent-requires c κs =
+    let pre = c .before .before .before .before .before .before .before .before .before .before .pre in
+    let loop = c .before .before .before .before .loop in
+    let test = c .before .before .before .loop-test in
+    pre .textures (loop .k) (test .taken)
 
 add-out : tie.Need-add-out Inv-loop μ-loop
-add-out c = omega (arith, c .before .before .before .before .before .before .before .before .before .before .before .pre .few, c .before .before .before .before .before .before .before .before .before .before .before .pre .even, c .before .before .before .before .before .before .before .before .before .before .before .pre .room, c .before .before .before .before .before .loop .inv .long, c .before .before .before .before .loop-test .taken)
+add-out c =
+    let pre = c .before .before .before .before .before .before .before .before .before .before .before .pre in
+    let loop = c .before .before .before .before .before .loop in
+    let test = c .before .before .before .before .loop-test in
+    omega (arith, pre .few, pre .even, pre .room, loop .inv .long, test .taken)
 
 mul-out-4 : tie.Need-mul-out-4 Inv-loop μ-loop
-mul-out-4 c = omega (arith, c .before .before .before .before .before .before .before .before .before .before .before .pre .few, c .before .before .before .before .before .before .before .before .before .before .before .pre .even, c .before .before .before .before .before .before .before .before .before .before .before .pre .room, c .before .before .before .before .before .loop .inv .long, c .before .before .before .before .loop-test .taken)
+mul-out-4 c =
+    let pre = c .before .before .before .before .before .before .before .before .before .before .before .pre in
+    let loop = c .before .before .before .before .before .loop in
+    let test = c .before .before .before .before .loop-test in
+    omega (arith, pre .few, pre .even, pre .room, loop .inv .long, test .taken)
 
 slice-write-out-2 : tie.Need-slice-write-out-2 Inv-loop μ-loop
-slice-write-out-2 c = simp length-set (omega (arith, c .before .before .before .before .before .before .before .before .before .before .before .pre .few, c .before .before .before .before .before .before .before .before .before .before .before .pre .even, c .before .before .before .before .before .before .before .before .before .before .before .pre .room, c .before .before .before .before .before .loop .inv .long, c .before .before .before .before .loop-test .taken))
+slice-write-out-2 c =
+    let pre = c .before .before .before .before .before .before .before .before .before .before .before .pre in
+    let loop = c .before .before .before .before .before .loop in
+    let test = c .before .before .before .before .loop-test in
+    simp length-set (omega (arith, pre .few, pre .even, pre .room, loop .inv .long, test .taken))
 
 add-sent-2 : tie.Need-add-sent-2 Inv-loop μ-loop
-add-sent-2 c = omega (arith, c .before .before .before .before .before .before .before .before .before .before .before .pre .few, c .before .before .before .before .before .before .before .before .before .before .before .pre .even, c .before .before .before .before .before .before .before .before .before .before .before .pre .room, c .before .before .before .before .before .loop .inv .long, c .before .before .before .before .loop-test .taken)
+add-sent-2 c =
+    let pre = c .before .before .before .before .before .before .before .before .before .before .before .pre in
+    let loop = c .before .before .before .before .before .loop in
+    let test = c .before .before .before .before .loop-test in
+    omega (arith, pre .few, pre .even, pre .room, loop .inv .long, test .taken)
 
 mul-sent-2 : tie.Need-mul-sent-2 Inv-loop μ-loop
-mul-sent-2 c = omega (arith, c .before .before .before .before .before .before .before .before .before .before .before .pre .few, c .before .before .before .before .before .before .before .before .before .before .before .pre .even, c .before .before .before .before .before .before .before .before .before .before .before .pre .room, c .before .before .before .before .before .loop .inv .long, c .before .before .before .before .loop-test .taken)
+mul-sent-2 c =
+    let pre = c .before .before .before .before .before .before .before .before .before .before .before .pre in
+    let loop = c .before .before .before .before .before .loop in
+    let test = c .before .before .before .before .loop-test in
+    omega (arith, pre .few, pre .even, pre .room, loop .inv .long, test .taken)
 
 shared-slice-read-sent-2 : tie.Need-shared-slice-read-sent-2 Inv-loop μ-loop
-shared-slice-read-sent-2 c = omega (arith, c .before .before .before .before .before .before .before .before .before .before .before .before .pre .few, c .before .before .before .before .before .before .before .before .before .before .before .before .pre .even, c .before .before .before .before .before .before .before .before .before .before .before .before .pre .room, c .before .before .before .before .before .before .loop .inv .long, c .before .before .before .before .before .loop-test .taken)
+shared-slice-read-sent-2 c =
+    let pre = c .before .before .before .before .before .before .before .before .before .before .before .before .pre in
+    let loop = c .before .before .before .before .before .before .loop in
+    let test = c .before .before .before .before .before .loop-test in
+    omega (arith, pre .few, pre .even, pre .room, loop .inv .long, test .taken)
 
 sent-requires-2 : tie.Need-sent-requires-2 Inv-loop μ-loop
-sent-requires-2 c κs = c .before .before .before .before .before .before .before .before .before .before .before .before .pre .normals (c .before .before .before .before .before .before .loop .k) (c .before .before .before .before .before .loop-test .taken)
+sent-requires-2 c κs =
+    let pre = c .before .before .before .before .before .before .before .before .before .before .before .before .pre in
+    let loop = c .before .before .before .before .before .before .loop in
+    let test = c .before .before .before .before .before .loop-test in
+    pre .normals (loop .k) (test .taken)
 
 add-out-2 : tie.Need-add-out-2 Inv-loop μ-loop
-add-out-2 c = omega (arith, c .before .before .before .before .before .before .before .before .before .before .before .before .before .pre .few, c .before .before .before .before .before .before .before .before .before .before .before .before .before .pre .even, c .before .before .before .before .before .before .before .before .before .before .before .before .before .pre .room, c .before .before .before .before .before .before .before .loop .inv .long, c .before .before .before .before .before .before .loop-test .taken)
+add-out-2 c =
+    let pre = c .before .before .before .before .before .before .before .before .before .before .before .before .before .pre in
+    let loop = c .before .before .before .before .before .before .before .loop in
+    let test = c .before .before .before .before .before .before .loop-test in
+    omega (arith, pre .few, pre .even, pre .room, loop .inv .long, test .taken)
 
 mul-out-5 : tie.Need-mul-out-5 Inv-loop μ-loop
-mul-out-5 c = omega (arith, c .before .before .before .before .before .before .before .before .before .before .before .before .before .pre .few, c .before .before .before .before .before .before .before .before .before .before .before .before .before .pre .even, c .before .before .before .before .before .before .before .before .before .before .before .before .before .pre .room, c .before .before .before .before .before .before .before .loop .inv .long, c .before .before .before .before .before .before .loop-test .taken)
+mul-out-5 c =
+    let pre = c .before .before .before .before .before .before .before .before .before .before .before .before .before .pre in
+    let loop = c .before .before .before .before .before .before .before .loop in
+    let test = c .before .before .before .before .before .before .loop-test in
+    omega (arith, pre .few, pre .even, pre .room, loop .inv .long, test .taken)
 
 slice-write-out-3 : tie.Need-slice-write-out-3 Inv-loop μ-loop
-slice-write-out-3 c = simp length-set (omega (arith, c .before .before .before .before .before .before .before .before .before .before .before .before .before .pre .few, c .before .before .before .before .before .before .before .before .before .before .before .before .before .pre .even, c .before .before .before .before .before .before .before .before .before .before .before .before .before .pre .room, c .before .before .before .before .before .before .before .loop .inv .long, c .before .before .before .before .before .before .loop-test .taken))
+slice-write-out-3 c =
+    let pre = c .before .before .before .before .before .before .before .before .before .before .before .before .before .pre in
+    let loop = c .before .before .before .before .before .before .before .loop in
+    let test = c .before .before .before .before .before .before .loop-test in
+    simp length-set (omega (arith, pre .few, pre .even, pre .room, loop .inv .long, test .taken))
 
 add-k : tie.Need-add-k Inv-loop μ-loop
-add-k c = omega (arith, c .before .before .before .before .before .before .before .before .before .before .before .before .before .pre .few, c .before .before .before .before .before .before .before .before .before .before .before .before .before .pre .even, c .before .before .before .before .before .before .before .before .before .before .before .before .before .pre .room, c .before .before .before .before .before .before .before .loop .inv .long, c .before .before .before .before .before .before .loop-test .taken)
+add-k c =
+    let pre = c .before .before .before .before .before .before .before .before .before .before .before .before .before .pre in
+    let loop = c .before .before .before .before .before .before .before .loop in
+    let test = c .before .before .before .before .before .before .loop-test in
+    omega (arith, pre .few, pre .even, pre .room, loop .inv .long, test .taken)
 
 loop-less : tie.Need-loop-less Inv-loop μ-loop
-loop-less c = omega (arith, c .before .before .before .before .before .before .before .before .before .before .before .before .before .pre .few, c .before .before .before .before .before .before .before .before .before .before .before .before .before .pre .even, c .before .before .before .before .before .before .before .before .before .before .before .before .before .pre .room, c .before .before .before .before .before .before .before .loop .inv .long, c .before .before .before .before .before .before .loop-test .taken)
+loop-less c =
+    let pre = c .before .before .before .before .before .before .before .before .before .before .before .before .before .pre in
+    let loop = c .before .before .before .before .before .before .before .loop in
+    let test = c .before .before .before .before .before .before .loop-test in
+    omega (arith, pre .few, pre .even, pre .room, loop .inv .long, test .taken)
 
 loop-again : tie.Need-loop-again Inv-loop μ-loop
-loop-again c = write-turns (now (c .before .before .before .before .before .before .before .before .before .before .before .before .before .args .corners)) (now (c .before .before .before .before .before .before .before .before .before .before .before .before .before .args .pmap)) (now (c .before .before .before .before .before .before .before .before .before .before .before .before .before .args .tmap)) (now (c .before .before .before .before .before .before .before .before .before .before .before .before .before .args .nmap)) _ (c .before .before .before .before .before .before .before .loop .out) (c .before .before .before .before .before .before .before .loop .k) (c .before .before .before .before .before .before .loop-test .taken) (c .before .before .before .before .before .before .before .loop .inv) _ _ _ refl (c .before .before .sent .ensures) (c .sent2 .ensures)
+loop-again c =
+    let args = c .before .before .before .before .before .before .before .before .before .before .before .before .before .args in
+    let loop = c .before .before .before .before .before .before .before .loop in
+    let test = c .before .before .before .before .before .before .loop-test in
+    let sent = c .before .before .sent in
+    let sent2 = c .sent2 in
+    write-turns (now (args .corners)) (now (args .pmap)) (now (args .tmap)) (now (args .nmap)) _ (loop .out) (loop .k) (test .taken) (loop .inv) _ _ _ refl
+    (sent .ensures) (sent2 .ensures)
 
 same-length : tie.Need-same-length Inv-loop μ-loop
 same-length c = c .before .loop .inv .long
 
 returns : tie.Need-returns Inv-loop μ-loop
-returns c = write-ends (now (c .before .before .before .before .before .before .before .args .corners)) (now (c .before .before .before .before .before .before .before .args .pmap)) (now (c .before .before .before .before .before .before .before .args .tmap)) (now (c .before .before .before .before .before .before .before .args .nmap)) _ _ (c .before .loop .k) (c .loop-test .left) (c .before .loop .inv)
+returns c =
+    let args = c .before .before .before .before .before .before .before .args in
+    let loop = c .before .loop in
+    let test = c .loop-test in
+    write-ends (now (args .corners)) (now (args .pmap)) (now (args .tmap)) (now (args .nmap)) _ _ (loop .k) (test .left) (loop .inv)
 
 pub send-corners-spec : {M : Type 1} → statement M
 send-corners-spec =

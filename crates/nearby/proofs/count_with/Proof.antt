@@ -32,10 +32,16 @@ loop-less : tie.Need-loop-less Inv-loop μ-loop
 loop-less c = search needs
 
 loop-again : tie.Need-loop-again Inv-loop μ-loop
-loop-again c = ⊎-elim
-    (λ v. subst (λ (f : ℕ). Counted (λ k. besideAt (c .before .before .before .before .before .args .w) (now (c .before .before .before .before .before .args .cells)) k (c .before .before .before .before .before .args .j)) (c .before .before .before .before .before .args .j) f (c .before .before .before .loop .i + 1)) (sym (v .1)) (counted-one _ _ _ _ (c .before .before .loop-test .taken) (sym (c .before .is-beside-at .ensures) ∙ v .0 .taken) (c .before .before .before .loop .inv)))
-    (λ v. subst (λ (f : ℕ). Counted (λ k. besideAt (c .before .before .before .before .before .args .w) (now (c .before .before .before .before .before .args .cells)) k (c .before .before .before .before .before .args .j)) (c .before .before .before .before .before .args .j) f (c .before .before .before .loop .i + 1)) (sym (v .1)) (counted-not _ _ _ _ (c .before .before .loop-test .taken) (sym (c .before .is-beside-at .ensures) ∙ v .0 .left) (c .before .before .before .loop .inv)))
-    (c .if1 .came)
+loop-again c =
+    let args = c .before .before .before .before .before .args in
+    let loop = c .before .before .before .loop in
+    let test = c .before .before .loop-test in
+    let is-beside-at = c .before .is-beside-at in
+    let if1 = c .if1 in
+    ⊎-elim
+    (λ v. subst (λ (f : ℕ). Counted (λ k. besideAt (args .w) (now (args .cells)) k (args .j)) (args .j) f (loop .i + 1)) (sym (v .1)) (counted-one _ _ _ _ (test .taken) (sym (is-beside-at .ensures) ∙ v .0 .taken) (loop .inv)))
+    (λ v. subst (λ (f : ℕ). Counted (λ k. besideAt (args .w) (now (args .cells)) k (args .j)) (args .j) f (loop .i + 1)) (sym (v .1)) (counted-not _ _ _ _ (test .taken) (sym (is-beside-at .ensures) ∙ v .0 .left) (loop .inv)))
+    (if1 .came)
 
 returns : tie.Need-returns Inv-loop μ-loop
 returns c = (counted-all _ _ _ _ (c .loop-test .left) (c .before .loop .inv), omega (arith, c .before .loop .inv .few, c .before .loop .inv .within))

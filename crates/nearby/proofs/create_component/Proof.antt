@@ -24,10 +24,14 @@ abbrev μ-loop : tie.MeasureT-loop
 μ-loop s w t cells n start done order₀ seen₀ node₀ left₀ taken₀ depth₀ order seen node left taken depth = work n left taken depth
 
 mul-order : tie.Need-mul-order Inv-loop μ-loop
-mul-order c = omega (arith, room _ _ _ _ _ (c .before .before .before .before .before .before .pre .taken) (c .before .before .before .before .before .before .pre .inside) (c .before .before .before .before .before .before .pre .new), c .before .before .before .before .before .before .pre .listed .points .few)
+mul-order c =
+    let pre = c .before .before .before .before .before .before .pre in
+    omega (arith, room _ _ _ _ _ (pre .taken) (pre .inside) (pre .new), pre .listed .points .few)
 
 slice-write-order : tie.Need-slice-write-order Inv-loop μ-loop
-slice-write-order c = omega (arith, room _ _ _ _ _ (c .before .before .before .before .before .before .pre .taken) (c .before .before .before .before .before .before .pre .inside) (c .before .before .before .before .before .before .pre .new), c .before .before .before .before .before .before .pre .listed .points .few, c .before .before .before .before .before .before .pre .taken .order-room)
+slice-write-order c =
+    let pre = c .before .before .before .before .before .before .pre in
+    omega (arith, room _ _ _ _ _ (pre .taken) (pre .inside) (pre .new), pre .listed .points .few, pre .taken .order-room)
 
 slice-write-seen : tie.Need-slice-write-seen Inv-loop μ-loop
 slice-write-seen c = omega (arith, c .before .before .before .before .before .before .pre .inside, c .before .before .before .before .before .before .pre .taken .seen-room)
@@ -39,76 +43,250 @@ slice-write-left : tie.Need-slice-write-left Inv-loop μ-loop
 slice-write-left c = omega (arith, c .before .before .before .before .before .before .pre .inside, c .before .before .before .before .before .before .pre .left-room)
 
 add-taken : tie.Need-add-taken Inv-loop μ-loop
-add-taken c = omega (arith, room _ _ _ _ _ (c .before .before .before .before .before .before .pre .taken) (c .before .before .before .before .before .before .pre .inside) (c .before .before .before .before .before .before .pre .new), c .before .before .before .before .before .before .pre .listed .points .few)
+add-taken c =
+    let pre = c .before .before .before .before .before .before .pre in
+    omega (arith, room _ _ _ _ _ (pre .taken) (pre .inside) (pre .new), pre .listed .points .few)
 
 loop-holds : tie.Need-loop-holds Inv-loop μ-loop
-loop-holds c = (subst (λ (b : List ℕ). Good (nearBy (c .before .before .before .before .before .before .args .t) (c .before .before .before .before .before .before .args .w) (now (c .before .before .before .before .before .before .args .s)) (now (c .before .before .before .before .before .before .args .cells))) (c .before .before .before .before .before .before .args .n) b (c .before .before .before .before .before .before .args .start) (set (now (c .before .before .before .before .before .before .args .order)) (c .before .before .before .before .before .before .args .done) (c .before .before .before .before .before .before .args .start)) (set (now (c .before .before .before .before .before .before .args .seen)) (c .before .before .before .before .before .before .args .start) true) (set (now (c .before .before .before .before .before .before .args .node)) 0 (c .before .before .before .before .before .before .args .start)) (set (now (c .before .before .before .before .before .before .args .left)) 0 (c .before .before .before .before .before .before .args .n)) (c .before .before .before .before .before .before .args .done + 1) 1) (sym (take-set-le (c .before .before .before .before .before .before .args .done) (now (c .before .before .before .before .before .before .args .order)) (c .before .before .before .before .before .before .args .done) (c .before .before .before .before .before .before .args .start) (le-refl (c .before .before .before .before .before .before .args .done)))) (started _ _ (now (c .before .before .before .before .before .before .args .order)) (now (c .before .before .before .before .before .before .args .seen)) (now (c .before .before .before .before .before .before .args .node)) (now (c .before .before .before .before .before .before .args .left)) _ _ (c .before .before .before .before .before .before .pre .taken) (c .before .before .before .before .before .before .pre .node-room) (c .before .before .before .before .before .before .pre .left-room) (c .before .before .before .before .before .before .pre .inside) (c .before .before .before .before .before .before .pre .new) (c .before .before .before .before .before .before .pre .lowest)), long-begins (set (now (c .before .before .before .before .before .before .args .order)) (c .before .before .before .before .before .before .args .done) (c .before .before .before .before .before .before .args .start)) (set (now (c .before .before .before .before .before .before .args .seen)) (c .before .before .before .before .before .before .args .start) true) (set (now (c .before .before .before .before .before .before .args .node)) 0 (c .before .before .before .before .before .before .args .start)) (set (now (c .before .before .before .before .before .before .args .left)) 0 (c .before .before .before .before .before .before .args .n)))
+loop-holds c =
+    let args = c .before .before .before .before .before .before .args in
+    let pre = c .before .before .before .before .before .before .pre in (
+      subst (λ (b : List ℕ). Good (nearBy (args .t) (args .w) (now (args .s)) (now (args .cells))) (args .n) b (args .start) (set (now (args .order)) (args .done) (args .start)) (set (now (args .seen)) (args .start) true) (set (now (args .node)) 0 (args .start)) (set (now (args .left)) 0 (args .n)) (args .done + 1) 1) (sym (take-set-le (args .done) (now (args .order)) (args .done) (args .start) (le-refl (args .done)))) (started _ _ (now (args .order)) (now (args .seen)) (now (args .node)) (now (args .left)) _ _ (pre .taken) (pre .node-room) (pre .left-room) (pre .inside) (pre .new) (pre .lowest)),
+      long-begins (set (now (args .order)) (args .done) (args .start)) (set (now (args .seen)) (args .start) true) (set (now (args .node)) 0 (args .start)) (set (now (args .left)) 0 (args .n)),
+    )
 
 sub-top : tie.Need-sub-top Inv-loop μ-loop
 sub-top c = search needs
 
 mul-next-near : tie.Need-mul-next-near Inv-loop μ-loop
-mul-next-near c = omega (arith, depth-in (c .before .before .loop .inv .0) (c .before .loop-test .taken), c .before .before .before .before .before .before .before .before .before .pre .listed .points .few, c .before .loop-test .taken)
+mul-next-near c =
+    let pre = c .before .before .before .before .before .before .before .before .before .pre in
+    let loop = c .before .before .loop in
+    let test = c .before .loop-test in
+    omega (arith, depth-in (loop .inv .0) (test .taken), pre .listed .points .few, test .taken)
 
 slice-read-next-near : tie.Need-slice-read-next-near Inv-loop μ-loop
-slice-read-next-near c = omega (arith, depth-in (c .before .before .before .loop .inv .0) (c .before .before .loop-test .taken), c .before .before .before .loop .inv .0 .node-room, c .before .before .loop-test .taken)
+slice-read-next-near c =
+    let loop = c .before .before .before .loop in
+    let test = c .before .before .loop-test in
+    omega (arith, depth-in (loop .inv .0) (test .taken), loop .inv .0 .node-room, test .taken)
 
 mul-next-near-2 : tie.Need-mul-next-near-2 Inv-loop μ-loop
-mul-next-near-2 c = omega (arith, depth-in (c .before .before .before .loop .inv .0) (c .before .before .loop-test .taken), c .before .before .before .before .before .before .before .before .before .before .pre .listed .points .few, c .before .before .loop-test .taken)
+mul-next-near-2 c =
+    let pre = c .before .before .before .before .before .before .before .before .before .before .pre in
+    let loop = c .before .before .before .loop in
+    let test = c .before .before .loop-test in
+    omega (arith, depth-in (loop .inv .0) (test .taken), pre .listed .points .few, test .taken)
 
 slice-read-next-near-2 : tie.Need-slice-read-next-near-2 Inv-loop μ-loop
-slice-read-next-near-2 c = omega (arith, depth-in (c .before .before .before .before .loop .inv .0) (c .before .before .before .loop-test .taken), c .before .before .before .before .loop .inv .0 .left-room, c .before .before .before .loop-test .taken)
+slice-read-next-near-2 c =
+    let loop = c .before .before .before .before .loop in
+    let test = c .before .before .before .loop-test in
+    omega (arith, depth-in (loop .inv .0) (test .taken), loop .inv .0 .left-room, test .taken)
 
 next-near-requires : tie.Need-next-near-requires Inv-loop μ-loop
-next-near-requires c κs = (c .before .before .before .before .before .before .before .before .before .before .before .pre .listed, node-in (c .before .before .before .before .loop .inv .0) (c .before .before .before .loop-test .taken), left-in (c .before .before .before .before .loop .inv .0) (c .before .before .before .loop-test .taken), c .before .before .before .before .loop .inv .0 .held .seen-room)
+next-near-requires c κs =
+    let pre = c .before .before .before .before .before .before .before .before .before .before .before .pre in
+    let loop = c .before .before .before .before .loop in
+    let test = c .before .before .before .loop-test in
+    (pre .listed, node-in (loop .inv .0) (test .taken), left-in (loop .inv .0) (test .taken), loop .inv .0 .held .seen-room)
 
 loop-less : tie.Need-loop-less Inv-loop μ-loop
 loop-less c = goes-less (c .before .before .before .before .before .before .loop .inv .0) (c .before .before .before .before .before .loop-test .taken) (c .before .next-near .ensures)
 
 loop-again : tie.Need-loop-again Inv-loop μ-loop
-loop-again c = (goes (c .before .before .before .before .before .before .loop .inv .0) (c .before .before .before .before .before .loop-test .taken) (c .before .next-near .ensures) (c .if1 .taken), c .before .before .before .before .before .before .loop .inv .1)
+loop-again c =
+    let loop = c .before .before .before .before .before .before .loop in
+    let test = c .before .before .before .before .before .loop-test in
+    let next-near = c .before .next-near in
+    let if1 = c .if1 in
+    (goes (loop .inv .0) (test .taken) (next-near .ensures) (if1 .taken), loop .inv .1)
 
 sub-j : tie.Need-sub-j Inv-loop μ-loop
 sub-j c = omega (arith, c .if1 .left)
 
 mul-left : tie.Need-mul-left Inv-loop μ-loop
-mul-left c = omega (arith, deeper-in (c .before .before .before .before .before .before .loop .inv .0) (c .before .before .before .before .before .loop-test .taken) (c .before .next-near .ensures) (c .if1 .left), taken-in (c .before .before .before .before .before .before .loop .inv .0) (c .before .before .before .before .before .loop-test .taken) (c .before .next-near .ensures) (c .if1 .left), next-in (c .before .before .before .before .before .before .loop .inv .0) (c .before .before .before .before .before .loop-test .taken) (c .before .next-near .ensures) (c .if1 .left), c .before .before .before .before .before .before .before .before .before .before .before .before .before .pre .listed .points .few)
+mul-left c =
+    let pre = c .before .before .before .before .before .before .before .before .before .before .before .before .before .pre in
+    let loop = c .before .before .before .before .before .before .loop in
+    let test = c .before .before .before .before .before .loop-test in
+    let next-near = c .before .next-near in
+    let if1 = c .if1 in
+    omega (
+      arith,
+      deeper-in (loop .inv .0) (test .taken) (next-near .ensures) (if1 .left),
+      taken-in (loop .inv .0) (test .taken) (next-near .ensures) (if1 .left),
+      next-in (loop .inv .0) (test .taken) (next-near .ensures) (if1 .left),
+      pre .listed .points .few,
+    )
 
 slice-write-left-2 : tie.Need-slice-write-left-2 Inv-loop μ-loop
-slice-write-left-2 c = omega (arith, deeper-in (c .before .before .before .before .before .before .loop .inv .0) (c .before .before .before .before .before .loop-test .taken) (c .before .next-near .ensures) (c .if1 .left), taken-in (c .before .before .before .before .before .before .loop .inv .0) (c .before .before .before .before .before .loop-test .taken) (c .before .next-near .ensures) (c .if1 .left), next-in (c .before .before .before .before .before .before .loop .inv .0) (c .before .before .before .before .before .loop-test .taken) (c .before .next-near .ensures) (c .if1 .left), c .before .before .before .before .before .before .before .before .before .before .before .before .before .pre .listed .points .few, c .before .before .before .before .before .before .loop .inv .0 .left-room)
+slice-write-left-2 c =
+    let pre = c .before .before .before .before .before .before .before .before .before .before .before .before .before .pre in
+    let loop = c .before .before .before .before .before .before .loop in
+    let test = c .before .before .before .before .before .loop-test in
+    let next-near = c .before .next-near in
+    let if1 = c .if1 in
+    omega (
+      arith,
+      deeper-in (loop .inv .0) (test .taken) (next-near .ensures) (if1 .left),
+      taken-in (loop .inv .0) (test .taken) (next-near .ensures) (if1 .left),
+      next-in (loop .inv .0) (test .taken) (next-near .ensures) (if1 .left),
+      pre .listed .points .few,
+      loop .inv .0 .left-room,
+    )
 
 mul-order-2 : tie.Need-mul-order-2 Inv-loop μ-loop
-mul-order-2 c = omega (arith, deeper-in (c .before .before .before .before .before .before .loop .inv .0) (c .before .before .before .before .before .loop-test .taken) (c .before .next-near .ensures) (c .if1 .left), taken-in (c .before .before .before .before .before .before .loop .inv .0) (c .before .before .before .before .before .loop-test .taken) (c .before .next-near .ensures) (c .if1 .left), next-in (c .before .before .before .before .before .before .loop .inv .0) (c .before .before .before .before .before .loop-test .taken) (c .before .next-near .ensures) (c .if1 .left), c .before .before .before .before .before .before .before .before .before .before .before .before .before .pre .listed .points .few)
+mul-order-2 c =
+    let pre = c .before .before .before .before .before .before .before .before .before .before .before .before .before .pre in
+    let loop = c .before .before .before .before .before .before .loop in
+    let test = c .before .before .before .before .before .loop-test in
+    let next-near = c .before .next-near in
+    let if1 = c .if1 in
+    omega (
+      arith,
+      deeper-in (loop .inv .0) (test .taken) (next-near .ensures) (if1 .left),
+      taken-in (loop .inv .0) (test .taken) (next-near .ensures) (if1 .left),
+      next-in (loop .inv .0) (test .taken) (next-near .ensures) (if1 .left),
+      pre .listed .points .few,
+    )
 
 slice-write-order-2 : tie.Need-slice-write-order-2 Inv-loop μ-loop
-slice-write-order-2 c = omega (arith, deeper-in (c .before .before .before .before .before .before .loop .inv .0) (c .before .before .before .before .before .loop-test .taken) (c .before .next-near .ensures) (c .if1 .left), taken-in (c .before .before .before .before .before .before .loop .inv .0) (c .before .before .before .before .before .loop-test .taken) (c .before .next-near .ensures) (c .if1 .left), next-in (c .before .before .before .before .before .before .loop .inv .0) (c .before .before .before .before .before .loop-test .taken) (c .before .next-near .ensures) (c .if1 .left), c .before .before .before .before .before .before .before .before .before .before .before .before .before .pre .listed .points .few, c .before .before .before .before .before .before .loop .inv .0 .held .order-room)
+slice-write-order-2 c =
+    let pre = c .before .before .before .before .before .before .before .before .before .before .before .before .before .pre in
+    let loop = c .before .before .before .before .before .before .loop in
+    let test = c .before .before .before .before .before .loop-test in
+    let next-near = c .before .next-near in
+    let if1 = c .if1 in
+    omega (
+      arith,
+      deeper-in (loop .inv .0) (test .taken) (next-near .ensures) (if1 .left),
+      taken-in (loop .inv .0) (test .taken) (next-near .ensures) (if1 .left),
+      next-in (loop .inv .0) (test .taken) (next-near .ensures) (if1 .left),
+      pre .listed .points .few,
+      loop .inv .0 .held .order-room,
+    )
 
 slice-write-seen-2 : tie.Need-slice-write-seen-2 Inv-loop μ-loop
-slice-write-seen-2 c = omega (arith, deeper-in (c .before .before .before .before .before .before .loop .inv .0) (c .before .before .before .before .before .loop-test .taken) (c .before .next-near .ensures) (c .if1 .left), taken-in (c .before .before .before .before .before .before .loop .inv .0) (c .before .before .before .before .before .loop-test .taken) (c .before .next-near .ensures) (c .if1 .left), next-in (c .before .before .before .before .before .before .loop .inv .0) (c .before .before .before .before .before .loop-test .taken) (c .before .next-near .ensures) (c .if1 .left), c .before .before .before .before .before .before .before .before .before .before .before .before .before .pre .listed .points .few, c .before .before .before .before .before .before .loop .inv .0 .held .seen-room)
+slice-write-seen-2 c =
+    let pre = c .before .before .before .before .before .before .before .before .before .before .before .before .before .pre in
+    let loop = c .before .before .before .before .before .before .loop in
+    let test = c .before .before .before .before .before .loop-test in
+    let next-near = c .before .next-near in
+    let if1 = c .if1 in
+    omega (
+      arith,
+      deeper-in (loop .inv .0) (test .taken) (next-near .ensures) (if1 .left),
+      taken-in (loop .inv .0) (test .taken) (next-near .ensures) (if1 .left),
+      next-in (loop .inv .0) (test .taken) (next-near .ensures) (if1 .left),
+      pre .listed .points .few,
+      loop .inv .0 .held .seen-room,
+    )
 
 mul-node : tie.Need-mul-node Inv-loop μ-loop
-mul-node c = omega (arith, deeper-in (c .before .before .before .before .before .before .loop .inv .0) (c .before .before .before .before .before .loop-test .taken) (c .before .next-near .ensures) (c .if1 .left), taken-in (c .before .before .before .before .before .before .loop .inv .0) (c .before .before .before .before .before .loop-test .taken) (c .before .next-near .ensures) (c .if1 .left), next-in (c .before .before .before .before .before .before .loop .inv .0) (c .before .before .before .before .before .loop-test .taken) (c .before .next-near .ensures) (c .if1 .left), c .before .before .before .before .before .before .before .before .before .before .before .before .before .pre .listed .points .few)
+mul-node c =
+    let pre = c .before .before .before .before .before .before .before .before .before .before .before .before .before .pre in
+    let loop = c .before .before .before .before .before .before .loop in
+    let test = c .before .before .before .before .before .loop-test in
+    let next-near = c .before .next-near in
+    let if1 = c .if1 in
+    omega (
+      arith,
+      deeper-in (loop .inv .0) (test .taken) (next-near .ensures) (if1 .left),
+      taken-in (loop .inv .0) (test .taken) (next-near .ensures) (if1 .left),
+      next-in (loop .inv .0) (test .taken) (next-near .ensures) (if1 .left),
+      pre .listed .points .few,
+    )
 
 slice-write-node-2 : tie.Need-slice-write-node-2 Inv-loop μ-loop
-slice-write-node-2 c = omega (arith, deeper-in (c .before .before .before .before .before .before .loop .inv .0) (c .before .before .before .before .before .loop-test .taken) (c .before .next-near .ensures) (c .if1 .left), taken-in (c .before .before .before .before .before .before .loop .inv .0) (c .before .before .before .before .before .loop-test .taken) (c .before .next-near .ensures) (c .if1 .left), next-in (c .before .before .before .before .before .before .loop .inv .0) (c .before .before .before .before .before .loop-test .taken) (c .before .next-near .ensures) (c .if1 .left), c .before .before .before .before .before .before .before .before .before .before .before .before .before .pre .listed .points .few, c .before .before .before .before .before .before .loop .inv .0 .node-room)
+slice-write-node-2 c =
+    let pre = c .before .before .before .before .before .before .before .before .before .before .before .before .before .pre in
+    let loop = c .before .before .before .before .before .before .loop in
+    let test = c .before .before .before .before .before .loop-test in
+    let next-near = c .before .next-near in
+    let if1 = c .if1 in
+    omega (
+      arith,
+      deeper-in (loop .inv .0) (test .taken) (next-near .ensures) (if1 .left),
+      taken-in (loop .inv .0) (test .taken) (next-near .ensures) (if1 .left),
+      next-in (loop .inv .0) (test .taken) (next-near .ensures) (if1 .left),
+      pre .listed .points .few,
+      loop .inv .0 .node-room,
+    )
 
 mul-left-2 : tie.Need-mul-left-2 Inv-loop μ-loop
-mul-left-2 c = omega (arith, deeper-in (c .before .before .before .before .before .before .loop .inv .0) (c .before .before .before .before .before .loop-test .taken) (c .before .next-near .ensures) (c .if1 .left), taken-in (c .before .before .before .before .before .before .loop .inv .0) (c .before .before .before .before .before .loop-test .taken) (c .before .next-near .ensures) (c .if1 .left), next-in (c .before .before .before .before .before .before .loop .inv .0) (c .before .before .before .before .before .loop-test .taken) (c .before .next-near .ensures) (c .if1 .left), c .before .before .before .before .before .before .before .before .before .before .before .before .before .pre .listed .points .few)
+mul-left-2 c =
+    let pre = c .before .before .before .before .before .before .before .before .before .before .before .before .before .pre in
+    let loop = c .before .before .before .before .before .before .loop in
+    let test = c .before .before .before .before .before .loop-test in
+    let next-near = c .before .next-near in
+    let if1 = c .if1 in
+    omega (
+      arith,
+      deeper-in (loop .inv .0) (test .taken) (next-near .ensures) (if1 .left),
+      taken-in (loop .inv .0) (test .taken) (next-near .ensures) (if1 .left),
+      next-in (loop .inv .0) (test .taken) (next-near .ensures) (if1 .left),
+      pre .listed .points .few,
+    )
 
 slice-write-left-3 : tie.Need-slice-write-left-3 Inv-loop μ-loop
-slice-write-left-3 c = simp length-set (omega (arith, deeper-in (c .before .before .before .before .before .before .loop .inv .0) (c .before .before .before .before .before .loop-test .taken) (c .before .next-near .ensures) (c .if1 .left), taken-in (c .before .before .before .before .before .before .loop .inv .0) (c .before .before .before .before .before .loop-test .taken) (c .before .next-near .ensures) (c .if1 .left), next-in (c .before .before .before .before .before .before .loop .inv .0) (c .before .before .before .before .before .loop-test .taken) (c .before .next-near .ensures) (c .if1 .left), c .before .before .before .before .before .before .before .before .before .before .before .before .before .pre .listed .points .few, c .before .before .before .before .before .before .loop .inv .0 .left-room))
+slice-write-left-3 c =
+    let pre = c .before .before .before .before .before .before .before .before .before .before .before .before .before .pre in
+    let loop = c .before .before .before .before .before .before .loop in
+    let test = c .before .before .before .before .before .loop-test in
+    let next-near = c .before .next-near in
+    let if1 = c .if1 in
+    simp length-set
+    (omega (arith, deeper-in (loop .inv .0) (test .taken) (next-near .ensures) (if1 .left), taken-in (loop .inv .0) (test .taken) (next-near .ensures) (if1 .left), next-in (loop .inv .0) (test .taken) (next-near .ensures) (if1 .left), pre .listed .points .few, loop .inv .0 .left-room))
 
 add-taken-2 : tie.Need-add-taken-2 Inv-loop μ-loop
-add-taken-2 c = omega (arith, deeper-in (c .before .before .before .before .before .before .loop .inv .0) (c .before .before .before .before .before .loop-test .taken) (c .before .next-near .ensures) (c .if1 .left), taken-in (c .before .before .before .before .before .before .loop .inv .0) (c .before .before .before .before .before .loop-test .taken) (c .before .next-near .ensures) (c .if1 .left), next-in (c .before .before .before .before .before .before .loop .inv .0) (c .before .before .before .before .before .loop-test .taken) (c .before .next-near .ensures) (c .if1 .left), c .before .before .before .before .before .before .before .before .before .before .before .before .before .pre .listed .points .few)
+add-taken-2 c =
+    let pre = c .before .before .before .before .before .before .before .before .before .before .before .before .before .pre in
+    let loop = c .before .before .before .before .before .before .loop in
+    let test = c .before .before .before .before .before .loop-test in
+    let next-near = c .before .next-near in
+    let if1 = c .if1 in
+    omega (
+      arith,
+      deeper-in (loop .inv .0) (test .taken) (next-near .ensures) (if1 .left),
+      taken-in (loop .inv .0) (test .taken) (next-near .ensures) (if1 .left),
+      next-in (loop .inv .0) (test .taken) (next-near .ensures) (if1 .left),
+      pre .listed .points .few,
+    )
 
 add-depth : tie.Need-add-depth Inv-loop μ-loop
-add-depth c = omega (arith, deeper-in (c .before .before .before .before .before .before .loop .inv .0) (c .before .before .before .before .before .loop-test .taken) (c .before .next-near .ensures) (c .if1 .left), taken-in (c .before .before .before .before .before .before .loop .inv .0) (c .before .before .before .before .before .loop-test .taken) (c .before .next-near .ensures) (c .if1 .left), next-in (c .before .before .before .before .before .before .loop .inv .0) (c .before .before .before .before .before .loop-test .taken) (c .before .next-near .ensures) (c .if1 .left), c .before .before .before .before .before .before .before .before .before .before .before .before .before .pre .listed .points .few)
+add-depth c =
+    let pre = c .before .before .before .before .before .before .before .before .before .before .before .before .before .pre in
+    let loop = c .before .before .before .before .before .before .loop in
+    let test = c .before .before .before .before .before .loop-test in
+    let next-near = c .before .next-near in
+    let if1 = c .if1 in
+    omega (
+      arith,
+      deeper-in (loop .inv .0) (test .taken) (next-near .ensures) (if1 .left),
+      taken-in (loop .inv .0) (test .taken) (next-near .ensures) (if1 .left),
+      next-in (loop .inv .0) (test .taken) (next-near .ensures) (if1 .left),
+      pre .listed .points .few,
+    )
 
 loop-less-2 : tie.Need-loop-less-2 Inv-loop μ-loop
-loop-less-2 c = comes-less (c .before .before .before .before .before .before .loop .inv .0) (c .before .before .before .before .before .loop-test .taken) (c .before .next-near .ensures) (c .if1 .left)
+loop-less-2 c =
+    let loop = c .before .before .before .before .before .before .loop in
+    let test = c .before .before .before .before .before .loop-test in
+    let next-near = c .before .next-near in
+    let if1 = c .if1 in
+    comes-less (loop .inv .0) (test .taken) (next-near .ensures) (if1 .left)
 
 loop-again-2 : tie.Need-loop-again-2 Inv-loop μ-loop
-loop-again-2 c = (comes (c .before .before .before .before .before .before .loop .inv .0) (c .before .before .before .before .before .loop-test .taken) (c .before .next-near .ensures) (c .if1 .left), long-turns _ _ _ _ (c .before .before .before .before .before .before .loop .order) (c .before .before .before .before .before .before .loop .seen) (c .before .before .before .before .before .before .loop .node) (c .before .before .before .before .before .before .loop .left) (c .before .before .before .before .before .before .loop .taken) (c .before .next-near .result - 1) (c .before .before .before .before .before .before .loop .depth - 1) (c .before .before .before .before .before .before .loop .depth) (c .before .before .before .before .before .before .before .before .before .before .before .before .before .args .n) (c .before .before .before .before .before .before .loop .inv .1))
+loop-again-2 c =
+    let args = c .before .before .before .before .before .before .before .before .before .before .before .before .before .args in
+    let loop = c .before .before .before .before .before .before .loop in
+    let test = c .before .before .before .before .before .loop-test in
+    let next-near = c .before .next-near in
+    let if1 = c .if1 in (
+      comes (loop .inv .0) (test .taken) (next-near .ensures) (if1 .left),
+      long-turns _ _ _ _ (loop .order) (loop .seen) (loop .node) (loop .left) (loop .taken) (next-near .result - 1) (loop .depth - 1) (loop .depth) (args .n) (loop .inv .1),
+    )
 
 same-length : tie.Need-same-length Inv-loop μ-loop
 same-length c = c .before .loop .inv .1 .order-long ∙ simp length-set
@@ -123,11 +301,15 @@ same-length-4 : tie.Need-same-length-4 Inv-loop μ-loop
 same-length-4 c = c .before .loop .inv .1 .left-long ∙ simp length-set
 
 returns : tie.Need-returns Inv-loop μ-loop
-returns c = record {
-  taken = c .before .loop .inv .0 .held;
-  lowest = c .before .loop .inv .0 .lowest;
-  list = ended (c .before .loop .inv .0) (omega (arith, c .loop-test .left)) ∙ ap (λ (b : List ℕ). b ++ groupFrom (nearBy (c .before .before .before .before .before .before .before .before .args .t) (c .before .before .before .before .before .before .before .before .args .w) (now (c .before .before .before .before .before .before .before .before .args .s)) (now (c .before .before .before .before .before .before .before .before .args .cells))) (c .before .before .before .before .before .before .before .before .args .n) b (c .before .before .before .before .before .before .before .before .args .start)) (take-set-le (c .before .before .before .before .before .before .before .before .args .done) (now (c .before .before .before .before .before .before .before .before .args .order)) (c .before .before .before .before .before .before .before .before .args .done) (c .before .before .before .before .before .before .before .before .args .start) (le-refl (c .before .before .before .before .before .before .before .before .args .done)));
-}
+returns c =
+    let args = c .before .before .before .before .before .before .before .before .args in
+    let loop = c .before .loop in
+    let test = c .loop-test in
+    record {
+      taken = loop .inv .0 .held;
+      lowest = loop .inv .0 .lowest;
+      list = ended (loop .inv .0) (omega (arith, test .left)) ∙ ap (λ (b : List ℕ). b ++ groupFrom (nearBy (args .t) (args .w) (now (args .s)) (now (args .cells))) (args .n) b (args .start)) (take-set-le (args .done) (now (args .order)) (args .done) (args .start) (le-refl (args .done)));
+    }
 
 pub create-component-spec : {M : Type 1} → statement M
 create-component-spec =

@@ -26,7 +26,12 @@ shared-slice-read-cell-of : tie.Need-shared-slice-read-cell-of Inv-loop μ-loop
 shared-slice-read-cell-of c = search needs
 
 cell-of-requires : tie.Need-cell-of-requires Inv-loop μ-loop
-cell-of-requires c κs = cells-near (c .before .before .before .before .before .args .t) (now (c .before .before .before .before .before .args .s)) (c .before .before .loop .k) (c .before .before .before .before .before .pre .0) (c .before .loop-test .taken)
+cell-of-requires c κs =
+    let args = c .before .before .before .before .before .args in
+    let pre = c .before .before .before .before .before .pre in
+    let loop = c .before .before .loop in
+    let test = c .before .loop-test in
+    cells-near (args .t) (now (args .s)) (loop .k) (pre .0) (test .taken)
 
 mul-cells : tie.Need-mul-cells Inv-loop μ-loop
 mul-cells c = search needs
@@ -41,13 +46,22 @@ loop-less : tie.Need-loop-less Inv-loop μ-loop
 loop-less c = search needs
 
 loop-again : tie.Need-loop-again Inv-loop μ-loop
-loop-again c = cells-turn (c .before .before .before .before .before .before .args .t) (now (c .before .before .before .before .before .before .args .s)) (now (c .before .before .before .before .before .before .args .cells)) (c .before .before .before .loop .cells) (c .before .before .before .loop .k) (c .cell-of .result) (c .before .before .loop-test .taken) (c .cell-of .ensures) (c .before .before .before .loop .inv)
+loop-again c =
+    let args = c .before .before .before .before .before .before .args in
+    let loop = c .before .before .before .loop in
+    let test = c .before .before .loop-test in
+    let cell-of = c .cell-of in
+    cells-turn (args .t) (now (args .s)) (now (args .cells)) (loop .cells) (loop .k) (cell-of .result) (test .taken) (cell-of .ensures) (loop .inv)
 
 same-length : tie.Need-same-length Inv-loop μ-loop
 same-length c = c .before .loop .inv .long
 
 returns : tie.Need-returns Inv-loop μ-loop
-returns c = cells-end (c .before .before .before .before .args .t) (now (c .before .before .before .before .args .s)) (now (c .before .before .before .before .args .cells)) (c .before .loop .cells) (c .before .loop .k) (c .loop-test .left) (c .before .loop .inv)
+returns c =
+    let args = c .before .before .before .before .args in
+    let loop = c .before .loop in
+    let test = c .loop-test in
+    cells-end (args .t) (now (args .s)) (now (args .cells)) (loop .cells) (loop .k) (test .left) (loop .inv)
 
 pub fill-cells-spec : {M : Type 1} → statement M
 fill-cells-spec =

@@ -26,10 +26,16 @@ add-result : tie.Need-add-result
 add-result c = omega (arith, c .before .before .before .pre .0 .each (c .before .before .before .args .a) (c .before .before .before .pre .1))
 
 returns : tie.Need-returns
-returns c = is-below (getD (now (c .before .before .before .args .cells)) (c .before .before .before .args .a) 0) (getD (now (c .before .before .before .args .cells)) (c .before .before .before .args .b) 0) (c .if1 .taken)
+returns c =
+    let args = c .before .before .before .args in
+    let if1 = c .if1 in
+    is-below (getD (now (args .cells)) (args .a) 0) (getD (now (args .cells)) (args .b) 0) (if1 .taken)
 
 returns-2 : tie.Need-returns-2
-returns-2 c = not-below (getD (now (c .before .before .before .args .cells)) (c .before .before .before .args .a) 0) (getD (now (c .before .before .before .args .cells)) (c .before .before .before .args .b) 0) (c .if1 .left)
+returns-2 c =
+    let args = c .before .before .before .args in
+    let if1 = c .if1 in
+    not-below (getD (now (args .cells)) (args .a) 0) (getD (now (args .cells)) (args .b) 0) (if1 .left)
 
 pub is-beside-spec : {M : Type 1} → statement M
 is-beside-spec =

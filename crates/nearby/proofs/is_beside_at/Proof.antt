@@ -13,37 +13,89 @@ mul-b : tie.Need-mul-b
 mul-b c = omega (arith, spot _ _ _ (c .before .pre .0) _ (c .before .pre .1), spot _ _ _ (c .before .pre .0) _ (c .before .pre .2), c .before .pre .0 .least, c .before .pre .0 .most)
 
 is-beside-requires : tie.Need-is-beside-requires
-is-beside-requires c κs = (c .before .pre .0 .small, omega (arith, spot _ _ _ (c .before .pre .0) _ (c .before .pre .1), spot _ _ _ (c .before .pre .0) _ (c .before .pre .2), c .before .pre .0 .least, c .before .pre .0 .most), omega (arith, spot _ _ _ (c .before .pre .0) _ (c .before .pre .1), spot _ _ _ (c .before .pre .0) _ (c .before .pre .2), c .before .pre .0 .least, c .before .pre .0 .most))
+is-beside-requires c κs =
+    let pre = c .before .pre in (
+      pre .0 .small,
+      omega (arith, spot _ _ _ (pre .0) _ (pre .1), spot _ _ _ (pre .0) _ (pre .2), pre .0 .least, pre .0 .most),
+      omega (arith, spot _ _ _ (pre .0) _ (pre .1), spot _ _ _ (pre .0) _ (pre .2), pre .0 .least, pre .0 .most),
+    )
 
 returns : tie.Need-returns
-returns c = apart-first _ _ _ (c .before .before .before .pre .0) _ _ (c .before .before .before .pre .1) (c .before .before .before .pre .2) (sym (c .before .is-beside .ensures) ∙ not-true _ (c .if1 .taken))
+returns c =
+    let pre = c .before .before .before .pre in
+    let is-beside = c .before .is-beside in
+    let if1 = c .if1 in
+    apart-first _ _ _ (pre .0) _ _ (pre .1) (pre .2) (sym (is-beside .ensures) ∙ not-true _ (if1 .taken))
 
 add-is-beside : tie.Need-add-is-beside
-add-is-beside c = omega (arith, spot _ _ _ (c .before .before .before .pre .0) _ (c .before .before .before .pre .1), spot _ _ _ (c .before .before .before .pre .0) _ (c .before .before .before .pre .2), c .before .before .before .pre .0 .least, c .before .before .before .pre .0 .most)
+add-is-beside c =
+    let pre = c .before .before .before .pre in
+    omega (arith, spot _ _ _ (pre .0) _ (pre .1), spot _ _ _ (pre .0) _ (pre .2), pre .0 .least, pre .0 .most)
 
 add-is-beside-2 : tie.Need-add-is-beside-2
-add-is-beside-2 c = omega (arith, spot _ _ _ (c .before .before .before .pre .0) _ (c .before .before .before .pre .1), spot _ _ _ (c .before .before .before .pre .0) _ (c .before .before .before .pre .2), c .before .before .before .pre .0 .least, c .before .before .before .pre .0 .most)
+add-is-beside-2 c =
+    let pre = c .before .before .before .pre in
+    omega (arith, spot _ _ _ (pre .0) _ (pre .1), spot _ _ _ (pre .0) _ (pre .2), pre .0 .least, pre .0 .most)
 
 is-beside-requires-2 : tie.Need-is-beside-requires-2
-is-beside-requires-2 c κs = (c .before .before .before .pre .0 .small, omega (arith, spot _ _ _ (c .before .before .before .pre .0) _ (c .before .before .before .pre .1), spot _ _ _ (c .before .before .before .pre .0) _ (c .before .before .before .pre .2), c .before .before .before .pre .0 .least, c .before .before .before .pre .0 .most), omega (arith, spot _ _ _ (c .before .before .before .pre .0) _ (c .before .before .before .pre .1), spot _ _ _ (c .before .before .before .pre .0) _ (c .before .before .before .pre .2), c .before .before .before .pre .0 .least, c .before .before .before .pre .0 .most))
+is-beside-requires-2 c κs =
+    let pre = c .before .before .before .pre in (
+      pre .0 .small,
+      omega (arith, spot _ _ _ (pre .0) _ (pre .1), spot _ _ _ (pre .0) _ (pre .2), pre .0 .least, pre .0 .most),
+      omega (arith, spot _ _ _ (pre .0) _ (pre .1), spot _ _ _ (pre .0) _ (pre .2), pre .0 .least, pre .0 .most),
+    )
 
 returns-2 : tie.Need-returns-2
-returns-2 c = apart-second _ _ _ (c .before .before .before .before .before .pre .0) _ _ (c .before .before .before .before .before .pre .1) (c .before .before .before .before .before .pre .2) (sym (c .before .before .before .is-beside .ensures) ∙ not-false _ (c .before .before .if1 .left)) (sym (c .before .is-beside2 .ensures) ∙ not-true _ (c .if2 .taken))
+returns-2 c =
+    let pre = c .before .before .before .before .before .pre in
+    let is-beside = c .before .before .before .is-beside in
+    let if1 = c .before .before .if1 in
+    let is-beside2 = c .before .is-beside2 in
+    let if2 = c .if2 in
+    apart-second _ _ _ (pre .0) _ _ (pre .1) (pre .2) (sym (is-beside .ensures) ∙ not-false _ (if1 .left)) (sym (is-beside2 .ensures) ∙ not-true _ (if2 .taken))
 
 returns-3 : tie.Need-returns-3
-returns-3 c = both-two _ _ _ (c .before .before .before .before .before .before .pre .0) _ _ (c .before .before .before .before .before .before .pre .1) (c .before .before .before .before .before .before .pre .2) (sym (c .before .before .before .before .is-beside .ensures) ∙ not-false _ (c .before .before .before .if1 .left)) (sym (c .before .before .is-beside2 .ensures) ∙ not-false _ (c .before .if2 .left)) (c .if3 .taken)
+returns-3 c =
+    let pre = c .before .before .before .before .before .before .pre in
+    let is-beside = c .before .before .before .before .is-beside in
+    let if1 = c .before .before .before .if1 in
+    let is-beside2 = c .before .before .is-beside2 in
+    let if2 = c .before .if2 in
+    let if3 = c .if3 in
+    both-two _ _ _ (pre .0) _ _ (pre .1) (pre .2) (sym (is-beside .ensures) ∙ not-false _ (if1 .left)) (sym (is-beside2 .ensures) ∙ not-false _ (if2 .left)) (if3 .taken)
 
 add-is-beside-3 : tie.Need-add-is-beside-3
-add-is-beside-3 c = omega (arith, spot _ _ _ (c .before .before .before .before .before .before .pre .0) _ (c .before .before .before .before .before .before .pre .1), spot _ _ _ (c .before .before .before .before .before .before .pre .0) _ (c .before .before .before .before .before .before .pre .2), c .before .before .before .before .before .before .pre .0 .least, c .before .before .before .before .before .before .pre .0 .most, c .if3 .left)
+add-is-beside-3 c =
+    let pre = c .before .before .before .before .before .before .pre in
+    let if3 = c .if3 in
+    omega (arith, spot _ _ _ (pre .0) _ (pre .1), spot _ _ _ (pre .0) _ (pre .2), pre .0 .least, pre .0 .most, if3 .left)
 
 add-is-beside-4 : tie.Need-add-is-beside-4
-add-is-beside-4 c = omega (arith, spot _ _ _ (c .before .before .before .before .before .before .pre .0) _ (c .before .before .before .before .before .before .pre .1), spot _ _ _ (c .before .before .before .before .before .before .pre .0) _ (c .before .before .before .before .before .before .pre .2), c .before .before .before .before .before .before .pre .0 .least, c .before .before .before .before .before .before .pre .0 .most, c .if3 .left)
+add-is-beside-4 c =
+    let pre = c .before .before .before .before .before .before .pre in
+    let if3 = c .if3 in
+    omega (arith, spot _ _ _ (pre .0) _ (pre .1), spot _ _ _ (pre .0) _ (pre .2), pre .0 .least, pre .0 .most, if3 .left)
 
 is-beside-requires-3 : tie.Need-is-beside-requires-3
-is-beside-requires-3 c κs = (c .before .before .before .before .before .before .pre .0 .small, omega (arith, spot _ _ _ (c .before .before .before .before .before .before .pre .0) _ (c .before .before .before .before .before .before .pre .1), spot _ _ _ (c .before .before .before .before .before .before .pre .0) _ (c .before .before .before .before .before .before .pre .2), c .before .before .before .before .before .before .pre .0 .least, c .before .before .before .before .before .before .pre .0 .most, c .if3 .left), omega (arith, spot _ _ _ (c .before .before .before .before .before .before .pre .0) _ (c .before .before .before .before .before .before .pre .1), spot _ _ _ (c .before .before .before .before .before .before .pre .0) _ (c .before .before .before .before .before .before .pre .2), c .before .before .before .before .before .before .pre .0 .least, c .before .before .before .before .before .before .pre .0 .most, c .if3 .left))
+is-beside-requires-3 c κs =
+    let pre = c .before .before .before .before .before .before .pre in
+    let if3 = c .if3 in (
+      pre .0 .small,
+      omega (arith, spot _ _ _ (pre .0) _ (pre .1), spot _ _ _ (pre .0) _ (pre .2), pre .0 .least, pre .0 .most, if3 .left),
+      omega (arith, spot _ _ _ (pre .0) _ (pre .1), spot _ _ _ (pre .0) _ (pre .2), pre .0 .least, pre .0 .most, if3 .left),
+    )
 
 returns-4 : tie.Need-returns-4
-returns-4 c = c .is-beside3 .ensures ∙ by-third _ _ _ (c .before .before .before .before .before .before .before .pre .0) _ _ (c .before .before .before .before .before .before .before .pre .1) (c .before .before .before .before .before .before .before .pre .2) (sym (c .before .before .before .before .before .is-beside .ensures) ∙ not-false _ (c .before .before .before .before .if1 .left)) (sym (c .before .before .before .is-beside2 .ensures) ∙ not-false _ (c .before .before .if2 .left)) (c .before .if3 .left)
+returns-4 c =
+    let pre = c .before .before .before .before .before .before .before .pre in
+    let is-beside = c .before .before .before .before .before .is-beside in
+    let if1 = c .before .before .before .before .if1 in
+    let is-beside2 = c .before .before .before .is-beside2 in
+    let if2 = c .before .before .if2 in
+    let if3 = c .before .if3 in
+    let is-beside3 = c .is-beside3 in
+    is-beside3 .ensures ∙ by-third _ _ _ (pre .0) _ _ (pre .1) (pre .2) (sym (is-beside .ensures) ∙ not-false _ (if1 .left))
+    (sym (is-beside2 .ensures) ∙ not-false _ (if2 .left)) (if3 .left)
 
 pub is-beside-at-spec : {M : Type 1} → statement M
 is-beside-at-spec =

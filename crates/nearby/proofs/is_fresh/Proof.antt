@@ -20,16 +20,29 @@ returns-2 : tie.Need-returns-2
 returns-2 c = not-new (c .before .before .before .before .before .before .before .args .t) _ _ _ _ _ _ (c .if2 .taken)
 
 attr-at-requires : tie.Need-attr-at-requires
-attr-at-requires c κs = (c .before .before .before .before .before .before .before .pre .0 .points .least, c .before .before .before .before .before .before .before .pre .0 .points .most, spot-in _ _ _ _ (c .before .before .before .before .before .before .before .pre .0) _ (c .before .before .before .before .before .before .before .pre .1))
+attr-at-requires c κs =
+    let pre = c .before .before .before .before .before .before .before .pre in
+    (pre .0 .points .least, pre .0 .points .most, spot-in _ _ _ _ (pre .0) _ (pre .1))
 
 attr-at-requires-2 : tie.Need-attr-at-requires-2
-attr-at-requires-2 c κs = (c .before .before .before .before .before .before .before .before .pre .0 .points .least, c .before .before .before .before .before .before .before .before .pre .0 .points .most, spot-in _ _ _ _ (c .before .before .before .before .before .before .before .before .pre .0) _ (c .before .before .before .before .before .before .before .before .pre .2))
+attr-at-requires-2 c κs =
+    let pre = c .before .before .before .before .before .before .before .before .pre in
+    (pre .0 .points .least, pre .0 .points .most, spot-in _ _ _ _ (pre .0) _ (pre .2))
 
 distance2-requires : tie.Need-distance2-requires
 distance2-requires c κs = search needs
 
 returns-3 : tie.Need-returns-3
-returns-3 c = by-distance (c .before .before .before .before .before .before .before .before .before .before .args .t) (c .before .before .before .before .before .before .before .before .before .before .args .w) (now (c .before .before .before .before .before .before .before .before .before .before .args .s)) (now (c .before .before .before .before .before .before .before .before .before .before .args .cells)) (now (c .before .before .before .before .before .before .before .before .before .before .args .seen)) (c .before .before .before .before .before .before .before .before .before .before .args .i) (c .before .before .before .before .before .before .before .before .before .before .args .j) (sym (c .before .before .before .before .before .before .is-beside-at .ensures) ∙ not-false _ (c .before .before .before .before .before .if1 .left)) (c .before .before .before .if2 .left) (c .before .before .attr-at .result) (c .before .attr-at2 .result) (c .distance2 .result) (c .before .before .attr-at .ensures) (c .before .attr-at2 .ensures) (c .distance2 .ensures)
+returns-3 c =
+    let args = c .before .before .before .before .before .before .before .before .before .before .args in
+    let is-beside-at = c .before .before .before .before .before .before .is-beside-at in
+    let if1 = c .before .before .before .before .before .if1 in
+    let if2 = c .before .before .before .if2 in
+    let attr-at = c .before .before .attr-at in
+    let attr-at2 = c .before .attr-at2 in
+    let distance2 = c .distance2 in
+    by-distance (args .t) (args .w) (now (args .s)) (now (args .cells)) (now (args .seen)) (args .i) (args .j) (sym (is-beside-at .ensures) ∙ not-false _ (if1 .left))
+    (if2 .left) (attr-at .result) (attr-at2 .result) (distance2 .result) (attr-at .ensures) (attr-at2 .ensures) (distance2 .ensures)
 
 pub is-fresh-spec : {M : Type 1} → statement M
 is-fresh-spec =

@@ -20,7 +20,11 @@ sub-is-fresh : tie.Need-sub-is-fresh Inv-loop μ-loop
 sub-is-fresh c = search needs
 
 is-fresh-requires : tie.Need-is-fresh-requires Inv-loop μ-loop
-is-fresh-requires c κs = (c .before .before .before .before .before .pre .0, c .before .before .before .before .before .pre .1, omega (arith, c .before .loop .inv .upto, c .before .before .before .before .before .pre .2, c .loop-test .taken), c .before .before .before .before .before .pre .3)
+is-fresh-requires c κs =
+    let pre = c .before .before .before .before .before .pre in
+    let loop = c .before .loop in
+    let test = c .loop-test in
+    (pre .0, pre .1, omega (arith, loop .inv .upto, pre .2, test .taken), pre .3)
 
 returns : tie.Need-returns Inv-loop μ-loop
 returns c = seek-finds _ _ _ _ (c .before .before .loop-test .taken) (sym (c .before .is-fresh .ensures) ∙ c .if1 .taken) (c .before .before .before .loop .inv)
