@@ -1,13 +1,11 @@
 -- The call: what it answers on a refusal and on 0. Assumes nothing.
 use mathlib.Core.Path.{_≡_, sym, _∙_}
 use mathlib.Core.Bool.{true}
-use mathlib.Core.List.{List, [], _∷_, map}
+use mathlib.Core.List.{List, [], _∷_}
 use Prim.Native.Nat.{ℕ, _≤_, _<_}
 use native.Mathlib.Nat.{zero-add}
 use native.Mathlib.Omega.{arith}
 use lib.ListN.{length}
-use lib.Seq.{sets}
-use Rattle.lists.specs.Lists.{joined, each}
 use Rattle.mesh.specs.Mesh.{rings}
 use Rattle.mesh.specs.Face.{Sound}
 use Rattle.mesh.specs.Table.{overLimits, uneven, when}
@@ -31,10 +29,10 @@ module _ (c s o l : List ℕ) (answer : Pushed) where
   refused-is : (n : ℕ) → (n ≡ 0 → ⊥) → n ≡ pushNumber c s (length o) (length l) → answer ≡ refusedBy n → Grouped c s o l o l answer
   refused-is n h e r = rw r (record {
     number = e;
-    corner-count = sym (after-refused n (cornerCount (grouped c s)) 0 h);
-    face-count = sym (after-refused n (length (grouped c s)) 0 h);
-    new-corners = sym (after-refused n (sets o 0 (each joined (grouped c s))) o h);
-    new-sizes = sym (after-refused n (sets l 0 (map length (grouped c s))) l h);
+    corner-count = sym (after-refused n _ 0 h);
+    face-count = sym (after-refused n _ 0 h);
+    new-corners = sym (after-refused n _ o h);
+    new-sizes = sym (after-refused n _ l h);
   })
 
   -- 1 to 3
@@ -51,11 +49,11 @@ module _ (c s o l : List ℕ) (answer : Pushed) where
 
   pub refused-corners : facesNumber c s ≡ 0 → length o < length c → answer ≡ refusedBy 9 → Grouped c s o l o l answer
   unfolding tooShort
-  refused-corners z h r = refused-room z (first-short (length o) (length c) (length l) (length s) h) r
+  refused-corners z h r = refused-room z (first-short (length o) (length c) _ _ h) r
 
   pub refused-sizes : facesNumber c s ≡ 0 → length c ≤ length o → length l < length s → answer ≡ refusedBy 9 → Grouped c s o l o l answer
   unfolding tooShort
-  refused-sizes z h k r = refused-room z (second-short (length o) (length c) (length l) (length s) h k) r
+  refused-sizes z h k r = refused-room z (second-short _ _ _ _ h k) r
 
 -- accepted faces, and room
 module _ (c s o l : List ℕ) (z : facesNumber c s ≡ 0) (a : length c ≤ length o) (b : length s ≤ length l) where
