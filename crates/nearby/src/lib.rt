@@ -209,11 +209,11 @@ pub fn create_components(
     let mut node = [0usize; mesh::ENTRIES];
     let mut left = [0usize; mesh::ENTRIES];
     let mut taken: usize = 0;
-    let mut found: usize = 0;
-    let mut i: usize = 0;
-    while i < n {
-        if seen[i] {
-            i += 1;
+    let mut count: usize = 0;
+    let mut k: usize = 0;
+    while k < n {
+        if seen[k] {
+            k += 1;
         } else {
             taken = create_component(
                 s,
@@ -221,17 +221,17 @@ pub fn create_components(
                 t,
                 cells,
                 n,
-                i,
+                k,
                 taken,
                 order,
                 &mut seen,
                 &mut node,
                 &mut left,
             );
-            ends[found] = taken;
-            found += 1;
-            i += 1;
+            ends[count] = taken;
+            count += 1;
+            k += 1;
         }
     }
-    found
+    count
 }

@@ -9,12 +9,12 @@ use Rattle.nearby.proofs.create_components.Statement.{statement}
 use Rattle.nearby.proofs.create_components.Tie as tie
 
 abbrev Inv-loop : tie.InvT-loop
-Inv-loop s w t cells n order₀ ends₀ seen₀ node₀ left₀ taken₀ found₀ i₀ order ends seen node left taken found i =
-    Gathering (nearBy t w s cells) n order₀ ends₀ order ends seen node left taken found i
+Inv-loop s w t cells n order₀ ends₀ seen₀ node₀ left₀ taken₀ count₀ k₀ order ends seen node left taken count k =
+    Gathering (nearBy t w s cells) n order₀ ends₀ order ends seen node left taken count k
 
 abbrev μ-loop : tie.MeasureT-loop
-μ-loop s w t cells n order₀ ends₀ seen₀ node₀ left₀ taken₀ found₀ i₀ order ends seen node left taken found i =
-    n - i
+μ-loop s w t cells n order₀ ends₀ seen₀ node₀ left₀ taken₀ count₀ k₀ order ends seen node left taken count k =
+    n - k
 
 loop-holds : tie.Need-loop-holds Inv-loop μ-loop
 loop-holds c =
@@ -28,8 +28,8 @@ array-read-if1 c =
     let test = c .loop-test in
     omega (arith, pre .0 .points .few, test .taken, loop .inv .seen-long)
 
-add-i : tie.Need-add-i Inv-loop μ-loop
-add-i c = search needs
+add-k : tie.Need-add-k Inv-loop μ-loop
+add-k c = search needs
 
 loop-less : tie.Need-loop-less Inv-loop μ-loop
 loop-less c = search needs
@@ -78,16 +78,16 @@ slice-write-ends c =
     let if1 = c .before .before .before .before .before .before .before .before .before .before .if1 in
     omega (arith, found-in (loop .inv) (test .taken) (if1 .left), pre .1 .ends-room, loop .inv .ends-long)
 
-add-found : tie.Need-add-found Inv-loop μ-loop
-add-found c =
+add-count : tie.Need-add-count Inv-loop μ-loop
+add-count c =
     let pre = c .before .before .before .before .before .before .before .before .before .before .before .before .before .before .before .before .before .pre in
     let loop = c .before .before .before .before .before .before .before .before .before .before .before .before .loop in
     let test = c .before .before .before .before .before .before .before .before .before .before .before .loop-test in
     let if1 = c .before .before .before .before .before .before .before .before .before .before .if1 in
     omega (arith, found-in (loop .inv) (test .taken) (if1 .left), pre .0 .points .few)
 
-add-i-2 : tie.Need-add-i-2 Inv-loop μ-loop
-add-i-2 c = search needs
+add-k-2 : tie.Need-add-k-2 Inv-loop μ-loop
+add-k-2 c = search needs
 
 loop-less-2 : tie.Need-loop-less-2 Inv-loop μ-loop
 loop-less-2 c = search needs
@@ -121,7 +121,7 @@ create-components-spec =
     μ-loop
     loop-holds
     array-read-if1
-    add-i
+    add-k
     loop-less
     loop-again
     slice-aggregate-create-component
@@ -130,8 +130,8 @@ create-components-spec =
     create-component-requires
     mul-ends
     slice-write-ends
-    add-found
-    add-i-2
+    add-count
+    add-k-2
     loop-less-2
     loop-again-2
     same-length
