@@ -127,7 +127,9 @@ module _ (w n : ℕ) (s : List Float) (order : List ℕ) (from to : ℕ) (g : Gr
             ∙ ap (λ (x : Float). closest w s (leading w c) (best x i) rest .index) (sym (f ∙ ap (λ (a : List Float). squared a (leading w c)) e));
       }
 
-  module _ (k : ℕ) (least : Float) (rep : ℕ) (h : k < to) (d : Float) (p : Point) (e : leading w p ≡ row w s (getD order k 0)) (f : d ≡ squared (leading w p) (leading w c)) (i : Choosing w n s order from to c k least rep) where
+  module _
+      (k : ℕ) (least : Float) (rep : ℕ) (h : k < to) (d : Float) (p : Point) (e : leading w p ≡ row w s (getD order k 0))
+      (f : d ≡ squared (leading w p) (leading w c)) (i : Choosing w n s order from to c k least rep) where
     turned : (least' : Float) (rep' : ℕ) → best least' rep' ≡ closer d (getD order k 0) (best least rep) → rep' < n → Choosing w n s order from to c (k + 1) least' rep'
     unfolding closest
     turned least' rep' b l = record {
@@ -142,11 +144,13 @@ module _ (w n : ℕ) (s : List Float) (order : List ℕ) (from to : ℕ) (g : Gr
 
     pub choose-closer : (least' : Float) (rep' : ℕ) → lt d least ≡ true → least' ≡ d → rep' ≡ getD order k 0 → Choosing w n s order from to c (k + 1) least' rep'
     choose-closer least' rep' t a b =
-        turned least' rep' (ap (λ (x : Float). best x rep') a ∙ ap (best d) b ∙ sym (ap (λ (u : Bool). cond u (best d (getD order k 0)) (best least rep)) t)) (subst (λ (x : ℕ). x < n) (sym b) (g .within k h))
+        turned least' rep' (ap (λ (x : Float). best x rep') a ∙ ap (best d) b ∙ sym (ap (λ (u : Bool). cond u (best d (getD order k 0)) (best least rep)) t)) (subst
+        (λ (x : ℕ). x < n) (sym b) (g .within k h))
 
     pub choose-not : (least' : Float) (rep' : ℕ) → lt d least ≡ false → least' ≡ least → rep' ≡ rep → Choosing w n s order from to c (k + 1) least' rep'
     choose-not least' rep' t a b =
-        turned least' rep' (ap (λ (x : Float). best x rep') a ∙ ap (best least) b ∙ sym (ap (λ (u : Bool). cond u (best d (getD order k 0)) (best least rep)) t)) (subst (λ (x : ℕ). x < n) (sym b) (i .small))
+        turned least' rep' (ap (λ (x : Float). best x rep') a ∙ ap (best least) b ∙ sym (ap (λ (u : Bool). cond u (best d (getD order k 0)) (best least rep)) t))
+        (subst (λ (x : ℕ). x < n) (sym b) (i .small))
 
   pub choose-ends : (k : ℕ) (least : Float) (rep : ℕ) → to ≤ k → Choosing w n s order from to c k least rep → rep ≡ representative w s (slice from to order)
   unfolding closest

@@ -90,7 +90,9 @@ module _ (m : Mesh) (t : Float) (out : List ℕ) (earns : mergeNumber m t (lengt
     normals = λ k h e. (let z : getD (m .corners) (width * k + 2) 0 < normalCount m = a .corner k h .normal e in omega (arith, a .limits .normals));
   }
 
-  module _ (p p₀ u u₀ n n₀ : List ℕ) (sp : Settled (positionCount m) (mergedTo t 3 (scaledList (m .positions))) p₀ p) (su : Settled (textureCount m) (mergedTo t 2 (m .textures)) u₀ u) (sn : Settled (normalCount m) (mergedTo t 3 (m .normals)) n₀ n) where
+  module _
+      (p p₀ u u₀ n n₀ : List ℕ) (sp : Settled (positionCount m) (mergedTo t 3 (scaledList (m .positions))) p₀ p)
+      (su : Settled (textureCount m) (mergedTo t 2 (m .textures)) u₀ u) (sn : Settled (normalCount m) (mergedTo t 3 (m .normals)) n₀ n) where
     corner-same : (k : ℕ) → k < length (m .corners) / width → sentCorner p u n (cornerAt (m .corners) k) ≡ mergedCorner m t (cornerAt (m .corners) k)
     unfolding sentCorner mergedCorner
     corner-same k h =
@@ -104,7 +106,8 @@ module _ (m : Mesh) (t : Float) (out : List ℕ) (earns : mergeNumber m t (lengt
     corners-same =
         map-same (sentCorner p u n) (mergedCorner m t) [] (threes (m .corners))
         (λ k h.
-        let l : k < length (m .corners) / width = (let e : length (threes (m .corners)) ≡ length (m .corners) / width = length-threes (m .corners) in let z : k < length (threes (m .corners)) = h in omega arith) in
+        let l : k < length (m .corners) / width = (let e : length (threes (m .corners)) ≡ length (m .corners) / width = length-threes
+        (m .corners) in let z : k < length (threes (m .corners)) = h in omega arith) in
         let e : getD (threes (m .corners)) k [] ≡ cornerAt (m .corners) k = getD-threes (m .corners) k l in
         ap (sentCorner p u n) e ∙ corner-same k l ∙ ap (mergedCorner m t) (sym e))
 

@@ -10,6 +10,7 @@ use Rattle.lists.specs.Lists.{some, has}
 use Rattle.mesh.specs.Limits.{width, entryLimit, pointNumbers, cornerNumbers}
 use Rattle.mesh.specs.Mesh.{Corner, position, texture, normal, missing}
 use Rattle.floating.specs.Limits.{unfit, boundless, distant}
+use Rattle.nearby.specs.Engine.{Laid}
 use Rattle.merging.specs.Centre.{representative, sentTo}
 use Rattle.merging.specs.Merging.{unlessMissing}
 
@@ -22,6 +23,16 @@ pub record Grouped (w n : ℕ) (s : List Float) (order : List ℕ) (from to : �
   pub some : from < to
   pub room : to ≤ length order
   pub within : (k : ℕ) → k < to → getD order k 0 < n
+
+-- n points of width w in the list s, in c groups that are laid out in `order`, with their ends
+pub record InGroups (w n : ℕ) (s : List Float) (order ends : List ℕ) (c : ℕ) : Type 0 where
+  pub least : 2 ≤ w
+  pub most : w ≤ 3
+  pub few : n ≤ entryLimit
+  pub long : w * n ≡ length s
+  pub order-room : n ≤ length order
+  pub ends-room : n ≤ length ends
+  pub laid : Laid n order ends c
 
 -- each point of the group g is sent to its representative, and no other point elsewhere
 pub record Sent (w n : ℕ) (s : List Float) (g : List ℕ) (map map' : List ℕ) : Type 0 where

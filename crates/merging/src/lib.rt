@@ -16,10 +16,10 @@ ghost use Rattle.floating.specs.Points.{leading};
 ghost use Rattle.floating.specs.Scaling.{scaledList};
 ghost use Rattle.nearby.specs.Pairs.{comparedPairs};
 ghost use Rattle.nearby.specs.Walk.{groups};
-ghost use Rattle.nearby.specs.Engine.{nearBy, Listed};
+ghost use Rattle.nearby.specs.Engine.{nearBy, Listed, laidOut};
 ghost use Rattle.merging.specs.Centre as centre;
 ghost use Rattle.merging.specs.Merging.{mergeNumber, mergedTo, unlessMissing, PutTogether};
-ghost use Rattle.merging.specs.Working.{Grouped, Sent, Mergeable, Settled, Scalable, Indexed, sentCorner};
+ghost use Rattle.merging.specs.Working.{Grouped, InGroups, Sent, Mergeable, Settled, Scalable, Indexed, sentCorner};
 use floating::Point;
 use mesh::MISSING;
 
@@ -285,39 +285,38 @@ fn centralize(
 
 // ---- one list
 
-// The groups of n points are walked one after the other, each from its lowest index, and its points are sent to the representative.
+// Each point of the first `count` groups is sent to the representative of its group.
+fn centralize_groups(
+    s: &[f64],
+    w: usize,
+    n: usize,
+    order: &[usize],
+    ends: &[usize],
+    count: usize,
+    map: &mut [u32],
+)
+    requires { ⌜ (InGroups w n (now s) (now order) (now ends) count) × (n ≤ length (now map)) ⌝ }
+    ensures { λ _. ⌜ Settled n (centre.sentTo w (now (s .entry)) (laidOut (now (order .entry)) (now (ends .entry)) count)) (now (map .entry)) (now (map .exit)) ⌝ }
+{
+    let mut from: usize = 0;
+    let mut k: usize = 0;
+    while k < count {
+        let to = ends[k];
+        centralize(s, w, n, order, from, to, map);
+        from = to;
+        k += 1;
+    }
+}
+
+// The groups of n points are those that the engine finds.
 fn merge_groups(s: &[f64], w: usize, t: f64, cells: &[u64], n: usize, map: &mut [u32])
     requires { ⌜ (Listed w n (now s) (now cells)) × (n ≤ length (now map)) ⌝ }
     ensures { λ _. ⌜ Settled n (centre.sentTo w (now (s .entry)) (groups (nearBy t w (now (s .entry)) (now (cells .entry))) n)) (now (map .entry)) (now (map .exit)) ⌝ }
 {
     let mut order = [0usize; mesh::ENTRIES];
-    let mut seen = [false; mesh::ENTRIES];
-    let mut node = [0usize; mesh::ENTRIES];
-    let mut left = [0usize; mesh::ENTRIES];
-    let mut taken: usize = 0;
-    let mut i: usize = 0;
-    while i < n {
-        if seen[i] {
-            i += 1;
-        } else {
-            let from = taken;
-            taken = nearby::create_component(
-                s,
-                w,
-                t,
-                cells,
-                n,
-                i,
-                from,
-                &mut order,
-                &mut seen,
-                &mut node,
-                &mut left,
-            );
-            centralize(s, w, n, &order, from, taken, map);
-            i += 1;
-        }
-    }
+    let mut ends = [0usize; mesh::ENTRIES];
+    let count = nearby::create_components(s, w, t, cells, n, &mut order, &mut ends);
+    centralize_groups(s, w, n, &order, &ends, count, map);
 }
 
 // The Rust's `sub_put_together_same_attrs`: where each of the n points of one list goes, to `map`, and how many pairs were compared.

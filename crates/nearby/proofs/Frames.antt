@@ -161,7 +161,9 @@ module _ {r : ℕ → ℕ → Bool} {n : ℕ} {before : List ℕ} {start : ℕ} 
 
 -- ---- a turn at the top frame
 
-module _ {r : ℕ → ℕ → Bool} {n : ℕ} {before : List ℕ} {start : ℕ} {order : List ℕ} {seen : List Bool} {node left : List ℕ} {taken top : ℕ} (g : Good r n before start order seen node left taken (suc top)) where
+module _
+    {r : ℕ → ℕ → Bool} {n : ℕ} {before : List ℕ} {start : ℕ} {order : List ℕ} {seen : List Bool} {node left : List ℕ} {taken top : ℕ}
+    (g : Good r n before start order seen node left taken (suc top)) where
   abbrev i : ℕ
   i = getD node top 0
 
@@ -324,7 +326,8 @@ module _ {r : ℕ → ℕ → Bool} {n : ℕ} {before : List ℕ} {start : ℕ} 
           list = list-more n order seen taken j (g .held) j-small new ∙ ap (λ (x : List ℕ). x ++ (j ∷ [])) (g .list) ∙ append-assoc before (g .group) (j ∷ []);
           fuel = p .fuel - 1;
           enough = omega (arith, p .spent, g .enough, work-push);
-          same = g .same ∙ ap (λ (s : List ℕ). walk r n before (g .fuel) (at s (g .group))) top-frame ∙ p .same ∙ ap (λ (f : ℕ). walk r n before f (at (descending (r i) (suc j) ++ rest) (g .group))) is ∙ taken-up (p .fuel - 1);
+          same = g .same ∙ ap (λ (s : List ℕ). walk r n before (g .fuel) (at s (g .group))) top-frame ∙ p .same ∙ ap (λ (f : ℕ). walk r n before f (at (descending
+              (r i) (suc j) ++ rest) (g .group))) is ∙ taken-up (p .fuel - 1);
         }
 
     pub push-less : work n left' (taken + 1) (suc (suc top)) < work n left taken (suc top)
@@ -332,7 +335,10 @@ module _ {r : ℕ → ℕ → Bool} {n : ℕ} {before : List ℕ} {start : ℕ} 
 
 -- ---- the first point
 
-module _ (r : ℕ → ℕ → Bool) (n : ℕ) (order : List ℕ) (seen : List Bool) (node left : List ℕ) (done start : ℕ) (held : Taken n order seen done) (node-room : n ≤ length node) (left-room : n ≤ length left) (inside : start < n) (new : getD seen start false ≡ false) (lowest : (k : ℕ) → k < start → getD seen k false ≡ true) where
+module _
+    (r : ℕ → ℕ → Bool) (n : ℕ) (order : List ℕ) (seen : List Bool) (node left : List ℕ) (done start : ℕ) (held : Taken n order seen done)
+    (node-room : n ≤ length node) (left-room : n ≤ length left) (inside : start < n) (new : getD seen start false ≡ false) (lowest :
+    (k : ℕ) → k < start → getD seen k false ≡ true) where
   first-room : done < n
   first-room = room n order seen done start held inside new
 
@@ -385,7 +391,9 @@ module _ (r : ℕ → ℕ → Bool) (n : ℕ) (order : List ℕ) (seen : List Bo
 
 -- ---- the turns, as the code counts the frames
 
-module _ {r : ℕ → ℕ → Bool} {n : ℕ} {before : List ℕ} {start : ℕ} {order : List ℕ} {seen : List Bool} {node left : List ℕ} {taken depth : ℕ} (g : Good r n before start order seen node left taken depth) (some : 0 < depth) where
+module _
+    {r : ℕ → ℕ → Bool} {n : ℕ} {before : List ℕ} {start : ℕ} {order : List ℕ} {seen : List Bool} {node left : List ℕ} {taken depth : ℕ}
+    (g : Good r n before start order seen node left taken depth) (some : 0 < depth) where
   deep : depth ≡ suc (depth - 1)
   deep = omega arith
 
@@ -439,10 +447,13 @@ module _ {r : ℕ → ℕ → Bool} {n : ℕ} {before : List ℕ} {start : ℕ} 
       pub depth-under : depth < n
       depth-under = omega (arith, room-left, g .depth-le)
 
-      pub frame-comes : Good r n before start (set order taken (next - 1)) (set seen (next - 1) true) (set node depth (next - 1)) (set (set left (depth - 1) (next - 1)) depth n) (taken + 1) (depth + 1)
+      pub frame-comes : Good r n before start (set order taken (next - 1)) (set seen (next - 1) true) (set node depth (next - 1)) (set (set left (depth - 1)
+          (next - 1)) depth n) (taken + 1) (depth + 1)
       frame-comes =
-          subst (λ (d : ℕ). Good r n before start (set order taken (next - 1)) (set seen (next - 1) true) (set node d (next - 1)) (set (set left (depth - 1) (next - 1)) d n) (taken + 1) (d + 1)) (sym deep)
-          (subst (λ (d : ℕ). Good r n before start (set order taken (next - 1)) (set seen (next - 1) true) (set node (suc (depth - 1)) (next - 1)) (set (set left (depth - 1) (next - 1)) (suc (depth - 1)) n) (taken + 1) d) (sym (add-one (suc (depth - 1))))
+          subst (λ (d : ℕ). Good r n before start (set order taken (next - 1)) (set seen (next - 1) true) (set node d (next - 1)) (set (set left (depth - 1)
+          (next - 1)) d n) (taken + 1) (d + 1)) (sym deep)
+          (subst (λ (d : ℕ). Good r n before start (set order taken (next - 1)) (set seen (next - 1) true) (set node (suc (depth - 1)) (next - 1)) (set (set left
+          (depth - 1) (next - 1)) (suc (depth - 1)) n) (taken + 1) d) (sym (add-one (suc (depth - 1))))
           (push good' (next - 1) under close new rest-passed))
 
       pub frame-comes-less : work n (set (set left (depth - 1) (next - 1)) depth n) (taken + 1) (depth + 1) < work n left taken depth

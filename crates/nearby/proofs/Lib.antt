@@ -6,6 +6,7 @@ pub mod Flags
 pub mod Frames
 pub mod Walking
 pub mod Laws
+pub mod Gathering
 pub mod Both
 pub mod Reaching
 pub mod Connected

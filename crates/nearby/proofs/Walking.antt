@@ -9,7 +9,10 @@ use Rattle.nearby.specs.Engine.{fresh, Next}
 use Rattle.nearby.proofs.Fresh.{fresh-near, fresh-new, fresh-not}
 use Rattle.nearby.proofs.Frames.{Good, work, frame-goes, frame-goes-less, next-small, room-left, depth-under, frame-comes, frame-comes-less}
 
-module _ {r : ℕ → ℕ → Bool} {n : ℕ} {before : List ℕ} {start : ℕ} {order : List ℕ} {seen : List Bool} {node left : List ℕ} {taken depth next : ℕ} (g : Good r n before start order seen node left taken depth) (some : 0 < depth) (q : Next (fresh r seen (getD node (depth - 1) 0)) start (getD left (depth - 1) 0) next) where
+module _
+    {r : ℕ → ℕ → Bool} {n : ℕ} {before : List ℕ} {start : ℕ} {order : List ℕ} {seen : List Bool} {node left : List ℕ} {taken depth next : ℕ}
+    (g : Good r n before start order seen node left taken depth) (some : 0 < depth)
+    (q : Next (fresh r seen (getD node (depth - 1) 0)) start (getD left (depth - 1) 0) next) where
   abbrev i : ℕ
   i = getD node (depth - 1) 0
 

@@ -1,18 +1,19 @@
 -- What the code works on: the cells of a flat list, each as its place among the numbers from 0, and the tests on them. That these
 -- are the rules' own tests is in proofs/Agree.antt. Assumes nothing.
 use mathlib.Core.Bool.{Bool, true, false, not, _&&_}
-use mathlib.Core.List.{List, map, _++_}
+use mathlib.Core.List.{List, [], _∷_, map, _++_}
 use mathlib.Core.Path.{_≡_}
-use Prim.Native.Nat.{ℕ, _*_, _-_, _≤_, _<_, _^_}
+use Prim.Native.Nat.{ℕ, zero, suc, _*_, _-_, _≤_, _<_, _^_}
 use lib.ListN.{length, getD, take}
+use lib.Seq.{slice}
 use lib.Ieee.{Float}
-use Rattle.lists.specs.Lists.{has}
+use Rattle.lists.specs.Lists.{has, joined}
 use Rattle.lists.specs.Numbers.{countBelow}
 use Rattle.mesh.specs.Limits.{entryLimit}
 use Rattle.floating.specs.Points.{row}
 use Rattle.floating.specs.Cells.{cell, place, besides}
 use Rattle.floating.specs.Near.{below}
-use Rattle.nearby.specs.Walk.{groupFrom}
+use Rattle.nearby.specs.Walk.{groupFrom, groups}
 
 -- the cells of all coordinates
 unfoldable pub cellsOf : Float → List Float → List ℕ
@@ -75,3 +76,37 @@ pub record Walked (r : ℕ → ℕ → Bool) (n : ℕ) (order : List ℕ) (start
   pub taken : Taken n order' seen' end
   pub lowest : (k : ℕ) → k ≤ start → getD seen' k false ≡ true
   pub list : take end order' ≡ take done order ++ groupFrom r n (take done order) start
+
+-- ---- groups laid out one after the other in `order`: the place behind the last point of group k stands in `ends`
+
+-- where group k begins
+abbrev pub startOf : List ℕ → ℕ → ℕ
+startOf ends zero = 0
+startOf ends (suc k) = getD ends k 0
+
+abbrev pub groupAt : List ℕ → List ℕ → ℕ → List ℕ
+groupAt order ends k = slice (startOf ends k) (getD ends k 0) order
+
+-- the first c groups
+unfoldable pub laidOut : List ℕ → List ℕ → ℕ → List (List ℕ)
+laidOut order ends zero = []
+laidOut order ends (suc k) = laidOut order ends k ++ (groupAt order ends k ∷ [])
+
+-- c groups of n points: none is empty, a point of an earlier one is in no later one, and each point is in one
+pub record Laid (n : ℕ) (order ends : List ℕ) (c : ℕ) : Type 0 where
+  pub few : c ≤ n
+  pub rising : (k : ℕ) → k < c → startOf ends k < getD ends k 0
+  pub upto : (k : ℕ) → k < c → getD ends k 0 ≤ n
+  pub within : (k : ℕ) → k < n → getD order k 0 < n
+  pub apart : (k j : ℕ) → k < c → has j (joined (laidOut order ends k)) ≡ true → has j (groupAt order ends k) ≡ false
+  pub all : (j : ℕ) → j < n → has j (joined (laidOut order ends c)) ≡ true
+
+-- what laying out all groups asks, besides the points: room for a number each
+pub record Roomy (n : ℕ) (order ends : List ℕ) : Type 0 where
+  pub order-room : n ≤ length order
+  pub ends-room : n ≤ length ends
+
+-- and what it leaves: c groups, which are those of r
+pub record Components (r : ℕ → ℕ → Bool) (n : ℕ) (order ends : List ℕ) (c : ℕ) : Type 0 where
+  pub are : laidOut order ends c ≡ groups r n
+  pub laid : Laid n order ends c

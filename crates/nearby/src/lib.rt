@@ -15,7 +15,7 @@ ghost use Rattle.lists.specs.Numbers.{countBelow};
 ghost use Rattle.floating.specs.Limits.{distant};
 ghost use Rattle.floating.specs.Cells.{beside};
 ghost use Rattle.nearby.specs.Pairs.{pairs};
-ghost use Rattle.nearby.specs.Engine.{cellsOf, besideAt, nearBy, fresh, Small, Points, Listed, Next, Starts, Walked};
+ghost use Rattle.nearby.specs.Engine.{cellsOf, besideAt, nearBy, fresh, Small, Points, Listed, Next, Starts, Walked, Roomy, Components};
 
 // ---- cells
 
@@ -150,7 +150,7 @@ fn next_near(
 //
 // The document's stack can hold far more entries than there are points. Here it is kept as frames: a point, and how many of its
 // near points, from the highest down, are still to be popped. Each frame's point is taken once, so there is room for all.
-pub fn create_component(
+fn create_component(
     s: &[f64],
     w: usize,
     t: f64,
@@ -189,4 +189,49 @@ pub fn create_component(
         }
     }
     taken
+}
+
+// All groups of n points, each walked from its lowest index: their points go to `order`, one group after the other, and the place
+// behind each group's last point to `ends`. Answers how many groups there are.
+pub fn create_components(
+    s: &[f64],
+    w: usize,
+    t: f64,
+    cells: &[u64],
+    n: usize,
+    order: &mut [usize],
+    ends: &mut [usize],
+) -> usize
+    requires { ⌜ (Listed w n (now s) (now cells)) × (Roomy n (now order) (now ends)) ⌝ }
+    ensures { λ r. ⌜ Components (nearBy t w (now (s .entry)) (now (cells .entry))) n (now (order .exit)) (now (ends .exit)) r ⌝ }
+{
+    let mut seen = [false; mesh::ENTRIES];
+    let mut node = [0usize; mesh::ENTRIES];
+    let mut left = [0usize; mesh::ENTRIES];
+    let mut taken: usize = 0;
+    let mut count: usize = 0;
+    let mut k: usize = 0;
+    while k < n {
+        if seen[k] {
+            k += 1;
+        } else {
+            taken = create_component(
+                s,
+                w,
+                t,
+                cells,
+                n,
+                k,
+                taken,
+                order,
+                &mut seen,
+                &mut node,
+                &mut left,
+            );
+            ends[count] = taken;
+            count += 1;
+            k += 1;
+        }
+    }
+    count
 }

@@ -58,7 +58,9 @@ loop-again c =
     let point-at = c .before .before .before .before .before .point-at in
     let scaled-by = c .before .before .before .before .scaled-by in
     let put-point = c .before .before .put-point in (
-      subst (λ (l : List Float). Scaling (now (args .positions)) (now (args .out)) l (loop .i + 1)) (sym (put-point .ensures)) (scaling-turns _ _ _ (loop .i) (scaled-by .result) (test .taken) (scaled-is (now (args .positions)) _ (loop .i) _ _ _ _ (scaled-by .ensures) (point-at .ensures) (loop .inv .1) (loop .inv .2)) (loop .inv .0)),
+      subst (λ (l : List Float). Scaling (now (args .positions)) (now (args .out)) l (loop .i + 1)) (sym (put-point .ensures)) (scaling-turns _ _ _ (loop .i)
+          (scaled-by .result) (test .taken) (scaled-is (now (args .positions)) _ (loop .i) _ _ _ _ (scaled-by .ensures) (point-at .ensures) (loop .inv .1) (loop .inv .2))
+          (loop .inv .0)),
       loop .inv .1,
       loop .inv .2,
     )

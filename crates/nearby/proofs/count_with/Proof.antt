@@ -39,8 +39,10 @@ loop-again c =
     let is-beside-at = c .before .is-beside-at in
     let if1 = c .if1 in
     ⊎-elim
-    (λ v. subst (λ (f : ℕ). Counted (λ k. besideAt (args .w) (now (args .cells)) k (args .j)) (args .j) f (loop .i + 1)) (sym (v .1)) (counted-one _ _ _ _ (test .taken) (sym (is-beside-at .ensures) ∙ v .0 .taken) (loop .inv)))
-    (λ v. subst (λ (f : ℕ). Counted (λ k. besideAt (args .w) (now (args .cells)) k (args .j)) (args .j) f (loop .i + 1)) (sym (v .1)) (counted-not _ _ _ _ (test .taken) (sym (is-beside-at .ensures) ∙ v .0 .left) (loop .inv)))
+    (λ v. subst (λ (f : ℕ). Counted (λ k. besideAt (args .w) (now (args .cells)) k (args .j)) (args .j) f (loop .i + 1)) (sym (v .1)) (counted-one _ _ _ _
+    (test .taken) (sym (is-beside-at .ensures) ∙ v .0 .taken) (loop .inv)))
+    (λ v. subst (λ (f : ℕ). Counted (λ k. besideAt (args .w) (now (args .cells)) k (args .j)) (args .j) f (loop .i + 1)) (sym (v .1)) (counted-not _ _ _ _
+    (test .taken) (sym (is-beside-at .ensures) ∙ v .0 .left) (loop .inv)))
     (if1 .came)
 
 returns : tie.Need-returns Inv-loop μ-loop

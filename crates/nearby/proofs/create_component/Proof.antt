@@ -51,7 +51,10 @@ loop-holds : tie.Need-loop-holds Inv-loop μ-loop
 loop-holds c =
     let args = c .before .before .before .before .before .before .args in
     let pre = c .before .before .before .before .before .before .pre in (
-      subst (λ (b : List ℕ). Good (nearBy (args .t) (args .w) (now (args .s)) (now (args .cells))) (args .n) b (args .start) (set (now (args .order)) (args .done) (args .start)) (set (now (args .seen)) (args .start) true) (set (now (args .node)) 0 (args .start)) (set (now (args .left)) 0 (args .n)) (args .done + 1) 1) (sym (take-set-le (args .done) (now (args .order)) (args .done) (args .start) (le-refl (args .done)))) (started _ _ (now (args .order)) (now (args .seen)) (now (args .node)) (now (args .left)) _ _ (pre .taken) (pre .node-room) (pre .left-room) (pre .inside) (pre .new) (pre .lowest)),
+      subst (λ (b : List ℕ). Good (nearBy (args .t) (args .w) (now (args .s)) (now (args .cells))) (args .n) b (args .start) (set (now (args .order)) (args .done)
+          (args .start)) (set (now (args .seen)) (args .start) true) (set (now (args .node)) 0 (args .start)) (set (now (args .left)) 0 (args .n)) (args .done + 1) 1)
+          (sym (take-set-le (args .done) (now (args .order)) (args .done) (args .start) (le-refl (args .done)))) (started _ _ (now (args .order)) (now (args .seen)) (now
+          (args .node)) (now (args .left)) _ _ (pre .taken) (pre .node-room) (pre .left-room) (pre .inside) (pre .new) (pre .lowest)),
       long-begins (set (now (args .order)) (args .done) (args .start)) (set (now (args .seen)) (args .start) true) (set (now (args .node)) 0 (args .start)) (set (now (args .left)) 0 (args .n)),
     )
 
@@ -237,7 +240,15 @@ slice-write-left-3 c =
     let next-near = c .before .next-near in
     let if1 = c .if1 in
     simp length-set
-    (omega (arith, deeper-in (loop .inv .0) (test .taken) (next-near .ensures) (if1 .left), taken-in (loop .inv .0) (test .taken) (next-near .ensures) (if1 .left), next-in (loop .inv .0) (test .taken) (next-near .ensures) (if1 .left), pre .listed .points .few, loop .inv .0 .left-room))
+    (omega (
+      arith,
+      deeper-in (loop .inv .0) (test .taken) (next-near .ensures) (if1 .left),
+      taken-in (loop .inv .0) (test .taken) (next-near .ensures)
+          (if1 .left),
+      next-in (loop .inv .0) (test .taken) (next-near .ensures) (if1 .left),
+      pre .listed .points .few,
+      loop .inv .0 .left-room,
+    ))
 
 add-taken-2 : tie.Need-add-taken-2 Inv-loop μ-loop
 add-taken-2 c =
@@ -308,7 +319,8 @@ returns c =
     record {
       taken = loop .inv .0 .held;
       lowest = loop .inv .0 .lowest;
-      list = ended (loop .inv .0) (omega (arith, test .left)) ∙ ap (λ (b : List ℕ). b ++ groupFrom (nearBy (args .t) (args .w) (now (args .s)) (now (args .cells))) (args .n) b (args .start)) (take-set-le (args .done) (now (args .order)) (args .done) (args .start) (le-refl (args .done)));
+      list = ended (loop .inv .0) (omega (arith, test .left)) ∙ ap (λ (b : List ℕ). b ++ groupFrom (nearBy (args .t) (args .w) (now (args .s)) (now (args .cells)))
+          (args .n) b (args .start)) (take-set-le (args .done) (now (args .order)) (args .done) (args .start) (le-refl (args .done)));
     }
 
 pub create-component-spec : {M : Type 1} → statement M
