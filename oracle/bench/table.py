@@ -11,6 +11,7 @@ SPREAD = "spread points"
 # Ours/Rust: calls, the most that it may be, and the meshes, all where none are named. It is asked of every mesh at every size.
 RATIOS = (
     ("the check of a mesh", ("mesh_number",), 1.0, ()),
+    ("faces in any order", ("push",), 1.0, ()),
     ("compaction", ("remove_unused_attrs",), 1.0, ()),
     ("removal", ("remove_degenerate_faces",), 1.0, ()),
     ("verdict", ("shell_condition",), 1.0, ()),

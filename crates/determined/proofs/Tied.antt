@@ -13,6 +13,7 @@ pub all-tied : AllTied
 all-tied = record {
   number-tied = λ κs a r e h. h;
   face-tied = λ κs a r e h. h;
+  push-tied = λ κs a r e h. h;
   compaction-tied = λ κs a r e h. h;
   removal-tied = λ κs a r e h. h;
   merging-tied = λ κs a r e h. h;

@@ -1,5 +1,5 @@
 -- The list of the calls is no retelling: each contract, as the source of its function has it, says what the list says. The kit hands
--- out a contract as `Post`: lifetimes, arguments, answer, arguments afterwards. A weaker `ensures` in any of the twelve sources is
+-- out a contract as `Post`: lifetimes, arguments, answer, arguments afterwards. A weaker `ensures` in any of the thirteen sources is
 -- refused here. Assumes nothing.
 use Prim.Native.Nat.{ℕ}
 use mathlib.Core.Path.{_≡_}
@@ -9,9 +9,11 @@ use denote.Ref.{RefT, now}
 use Rattle.mesh.specs.Mesh.{Mesh, meshOf}
 use Rattle.compaction.specs.Compaction as compaction
 use Rattle.folded.specs.Folded as removal
-use Rattle.determined.specs.Determined.{Call, TwoLists, number, face, compactionCall, removalCall, mergingCall, verdictCall, hemCall, portedCall, houseCall, panelsCall, readCall, sheetCall}
+use Rattle.determined.specs.Determined.{Call, TwoLists, number, face, pushCall, compactionCall, removalCall, mergingCall, verdictCall}
+use Rattle.determined.specs.Determined.{hemCall, portedCall, houseCall, panelsCall, readCall, sheetCall}
 use Rattle.mesh.proofs.number.Reads as mesh-number
 use Rattle.mesh.proofs.face.Reads as mesh-face
+use Rattle.faces.proofs.push.Reads as push
 use Rattle.compaction.proofs.remove_unused_attrs.Reads as remove-unused-attrs
 use Rattle.folded.proofs.remove_degenerate_faces.Reads as remove-degenerate-faces
 use Rattle.merging.proofs.put_together_same_attrs.Reads as put-together-same-attrs
@@ -69,10 +71,11 @@ abbrev pub OneResult :
 OneResult {K} {A} {R} {E} Post result =
     (κs : K) (a : A) (r q : R) (e f : E) → Post κs a r e → Post κs a q f → result r e ≡ result q f
 
--- the twelve calls
+-- the thirteen calls
 pub record AllTied : Type 0 where
   pub number-tied : Tied mesh-number.Post number meshIn (λ r e. r)
   pub face-tied : Tied mesh-face.Post face (λ a. (meshIn a, rest a .0)) (λ r e. now r)
+  pub push-tied : Tied push.Post pushCall (λ a. (twoLists a, twoLists (a .1 .1))) (λ r e. (r, twoLists (e .1 .1)))
   pub compaction-tied :
       Tied remove-unused-attrs.Post compactionCall (λ a. (meshIn a, compactedLists (rest a))) (λ r e. (r, compactedLists (rest e)))
   pub removal-tied :

@@ -22,7 +22,7 @@ const CORNERS: [usize; 3] = [256, 1_024, 4_096];
 /// Nothing of `argv` is read.
 #[no_mangle]
 pub unsafe extern "C" fn bench(library: Library, _: Watch, argc: c_int, _: *const *const c_char) -> c_int {
-    for call in Call::ALL.into_iter().filter(|call| *call != Call::Push) {
+    for call in Call::ALL {
         for corners in CORNERS {
             for case in cases(call, corners, argc > 1) {
                 print_times(&library, call, corners, &case);

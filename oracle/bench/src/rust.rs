@@ -8,7 +8,7 @@ use judge::Call;
 use std::time::Duration;
 use truck_meshalgo::analyzers::{boundary, Splitting, Topology};
 use truck_meshalgo::filters::OptimizingFilter;
-use truck_polymesh::{PolygonMesh, StandardAttributes};
+use truck_polymesh::{Faces, PolygonMesh, StandardAttributes, StandardVertex};
 
 /// How long the Rust takes for what a call gives; none where it has nothing like it. For house wires it is its `extract_boundaries`.
 pub fn time(call: Call, case: &Case) -> Option<Duration> {
@@ -38,7 +38,8 @@ pub fn time(call: Call, case: &Case) -> Option<Duration> {
         Call::HemEdges => fastest(|| (), |()| boundary(mesh.faces())),
         Call::ExtractBoundaries | Call::HouseWires => fastest(|| (), |()| mesh.extract_boundaries()),
         Call::Components => fastest(|| (), |()| mesh.components(true)),
-        Call::Face | Call::ReadPanel | Call::Sheet | Call::Push => return None,
+        Call::Push => pushing(&mesh),
+        Call::Face | Call::ReadPanel | Call::Sheet => return None,
     })
 }
 
@@ -48,4 +49,17 @@ fn attributes(mesh: &PolygonMesh) -> StandardAttributes {
         uv_coords: mesh.uv_coords().clone(),
         normals: mesh.normals().clone(),
     }
+}
+
+/// Its faces, which are there beforehand, pushed one by one.
+fn pushing(mesh: &PolygonMesh) -> Duration {
+    let faces: Vec<Vec<StandardVertex>> = mesh.face_iter().map(|face| face.to_vec()).collect();
+    fastest(
+        || (),
+        |()| {
+            let mut pushed: Faces = Faces::default();
+            faces.iter().for_each(|face| pushed.push(face));
+            pushed
+        },
+    )
 }
