@@ -11,7 +11,8 @@ MESH = "crates/mesh/specs/Mesh.antt"
 TABLE = "crates/mesh/specs/Table.antt"
 COMPACTION = "crates/compaction/specs/Compaction.antt"
 MERGING = "crates/merging/specs/Merging.antt"
-WIRES = "crates/wires/specs/Answers.antt"
+PORTED = "crates/ported/specs/Answers.antt"
+HOUSE = "crates/house/specs/Answers.antt"
 RECORDS = "crates/panelfile/specs/Records.antt"
 READING = "crates/panelfile/specs/Reading.antt"
 SHEET = "crates/sheet/specs/Sheet.antt"
@@ -20,7 +21,7 @@ FACES = "crates/faces/specs/Faces.antt"
 FOLDED = "crates/folded/specs/Folded.antt"
 EDGES = "crates/edges/specs/Answers.antt"
 PANELS = "crates/panels/specs/Contract.antt"
-SOURCES = (LIMITS, CONSTS, MESH, TABLE, COMPACTION, MERGING, WIRES, RECORDS, READING, SHEET, CALLS, FACES, FOLDED, EDGES, PANELS)
+SOURCES = (LIMITS, CONSTS, MESH, TABLE, COMPACTION, MERGING, PORTED, HOUSE, RECORDS, READING, SHEET, CALLS, FACES, FOLDED, EDGES, PANELS)
 
 
 class Unreadable(Exception):
@@ -51,7 +52,7 @@ NUMBER_ROWS = {
     ("COORDINATE", "Coordinate"): (MERGING, r"when \(anyBoundless m\) (\d+)"),
     ("QUOTIENT", "Quotient"): (MERGING, r"when \(anyDistant m t\) (\d+)"),
     ("ROOM", "Room"): (COMPACTION, r"when \(tooShort m r\) (\d+)"),
-    ("NO_HOUSE_WIRES", "NoHouseWires"): (WIRES, r"when \(unwired m\) (\d+)"),
+    ("NO_HOUSE_WIRES", "NoHouseWires"): (HOUSE, r"when \(unwired m\) (\d+)"),
     ("FILE_CUT", "FileCut"): (RECORDS, r"when \(ltb \(length s - at\) 4\) (\d+)"),
     ("RECORD", "Record"): (RECORDS, r"when \(ltb 4 kind\) (\d+)"),
     ("AFTER_END", "AfterEnd"): (READING, r"when \(ltb \(x \.at\) \(length s\)\) (\d+)"),
@@ -65,8 +66,8 @@ ROOM_RULES = {
     "bh_remove_degenerate_faces": (FOLDED, "tooShort"),
     "bh_put_together_same_attrs": (MERGING, "mergeNumber"),
     "bh_hem_edges": (EDGES, "hemNumber"),
-    "bh_extract_boundaries": (WIRES, "portedShort"),
-    "bh_house_wires": (WIRES, "houseShort"),
+    "bh_extract_boundaries": (PORTED, "portedShort"),
+    "bh_house_wires": (HOUSE, "houseShort"),
     "bh_components": (PANELS, "panelsNumber"),
     "bh_read_panel": (READING, "fullRoom"),
     "bh_sheet": (SHEET, "sheetNumber"),

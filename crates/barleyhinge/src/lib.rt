@@ -13,7 +13,8 @@ ghost use Rattle.folded.specs.Folded as folding;
 ghost use Rattle.edges.specs.Edges.{Verdict};
 ghost use Rattle.edges.specs.Answers.{verdictOf, HemAnswer};
 ghost use Rattle.merging.specs.Merging.{PutTogether};
-ghost use Rattle.wires.specs.Answers.{PortedAnswer, HouseAnswer};
+ghost use Rattle.ported.specs.Answers.{PortedAnswer};
+ghost use Rattle.house.specs.Answers.{HouseAnswer};
 ghost use Rattle.panels.specs.Contract as paneling;
 ghost use Rattle.panelfile.specs.Answer.{PanelRead};
 ghost use Rattle.sheet.specs.Sheet.{Printed};
@@ -239,7 +240,7 @@ pub extern "C" fn bh_extract_boundaries(
 ) -> u32
     ensures { λ r. ⌜ PortedAnswer (meshOf (now (positions .entry)) (now (textures .entry)) (now (normals .entry)) (now (corners .entry)) (now (sizes .entry))) (now (flat .entry)) (now (lengths .entry)) (now (flat .exit)) (now (lengths .exit)) r (now (flatcount .exit)) (now (wirecount .exit)) ⌝ }
 {
-    let ported = wires::extract_boundaries(
+    let ported = ported::extract_boundaries(
         positions,
         textures,
         normals,
@@ -268,7 +269,7 @@ pub extern "C" fn bh_house_wires(
 ) -> u32
     ensures { λ r. ⌜ HouseAnswer (meshOf (now (positions .entry)) (now (textures .entry)) (now (normals .entry)) (now (corners .entry)) (now (sizes .entry))) (now (flat .entry)) (now (lengths .entry)) (now (flat .exit)) (now (lengths .exit)) r (now (flatcount .exit)) (now (wirecount .exit)) ⌝ }
 {
-    let house = wires::house_wires(positions, textures, normals, corners, sizes, flat, lengths);
+    let house = house::house_wires(positions, textures, normals, corners, sizes, flat, lengths);
     *flatcount = house.flat;
     *wirecount = house.wires;
     house.number

@@ -16,7 +16,7 @@ use Rattle.folding.specs.Folding.{folded, trianglePieces, foldOf, quadranglePie
 use Rattle.folded.specs.Folded.{removed}
 use Rattle.compaction.specs.Compaction.{firstUses, place, renumber, entries, usedPositions, usedTextures, usedNormals, renumbered, compacted}
 use Rattle.edges.specs.Edges.{key, verdict, hems}
-use Rattle.wires.specs.House.{walk, wiresIn, houseWires}
+use Rattle.house.specs.House.{walk, wiresIn, houseWires}
 use Rattle.order.specs.Same.{Same, none, face, swap}
 use Rattle.calls.specs.Promises.{CleaningNotKept}
 use Rattle.calls.specs.Begun.{hemsOf, asDrawn, oneLater, twoPanels, otherFirst, touching, touchingLater, OtherHems, AsManyHems}

@@ -9,8 +9,8 @@ use Rattle.mesh.specs.Table.{meshNumber}
 use Rattle.edges.specs.Edges.{key, Irregular, hems}
 use Rattle.edges.specs.Answers.{meshEdgesOf, start, end, hemNumber}
 use Rattle.edges.proofs.OfHems.{mesh-hems-within}
-use Rattle.wires.specs.Hems.{pairs}
-use Rattle.wires.proofs.Tables.{pairs-of}
+use Rattle.tracing.specs.Hems.{pairs}
+use Rattle.tracing.proofs.Tables.{pairs-of}
 use Rattle.order.specs.Demand.{SameEdges}
 use Rattle.calls.specs.Calls.{cornersOf, VerdictCall, HemCall, startsWritten, endsWritten, edgesWritten}
 use Rattle.calls.specs.Order.{SameHems}

@@ -10,7 +10,8 @@ use Rattle.mesh.specs.Table.{meshNumber, when, firstOf, lent, short}
 use Rattle.mesh.proofs.After.{two-roomy}
 use Rattle.mesh.proofs.Numbers.{first-on, row-passed}
 use Rattle.edges.specs.Answers.{hemNumber}
-use Rattle.wires.specs.Answers.{unwired, portedNumber, houseNumber}
+use Rattle.house.specs.Answers.{unwired, houseNumber}
+use Rattle.ported.specs.Answers.{portedNumber}
 use Rattle.panels.specs.Contract.{panelsNumber}
 use Rattle.calls.specs.Order.{SameNumbers}
 

@@ -9,7 +9,7 @@ use Rattle.mesh.specs.Table.{meshNumber}
 use Rattle.edges.specs.Edges.{Verdict, verdict}
 use Rattle.edges.specs.Answers.{meshEdgesOf}
 use Rattle.edges.specs.declared.Judged.the-variants.{Found}
-use Rattle.wires.specs.Answers.{wired}
+use Rattle.house.specs.Answers.{wired}
 use Rattle.order.specs.Demand.{SameEdges, Demand3, SameByPosition}
 use Rattle.order.proofs.Matched.{same-map}
 use Rattle.order.proofs.Demand.{demand3, positions-enough}

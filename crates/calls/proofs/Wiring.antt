@@ -14,14 +14,17 @@ use Rattle.edges.specs.Edges.{Edge, Verdict, Irregular, Regular, Oriented, Clos
 use Rattle.edges.specs.Answers.{meshEdgesOf, verdictOf}
 use Rattle.edges.specs.declared.ShellCondition.{ShellCondition}
 use Rattle.edges.proofs.OfHems.{mesh-hems-within}
-use Rattle.wires.specs.Answers.{wired, portedNumber, houseNumber, Answered}
-use Rattle.wires.specs.House.{houseWires}
-use Rattle.wires.specs.Ported.{put, fill, portedWires}
-use Rattle.wires.specs.Tracing.{traces}
-use Rattle.wires.proofs.Answering.{ported-done, house-verdict}
-use Rattle.wires.proofs.Balance.{hems-balanced}
-use Rattle.wires.proofs.Closing.{Used, house-used}
-use Rattle.wires.proofs.Entries.{traces-enough, Roomy, traces-roomy}
+use Rattle.house.specs.Answers.{wired, houseNumber}
+use Rattle.ported.specs.Answers.{portedNumber}
+use Rattle.tracing.specs.Answers.{Answered}
+use Rattle.house.specs.House.{houseWires}
+use Rattle.ported.specs.Ported.{put, fill, portedWires}
+use Rattle.tracing.specs.Tracing.{traces}
+use Rattle.ported.proofs.Answering.{ported-done}
+use Rattle.house.proofs.Answering.{house-verdict}
+use Rattle.tracing.proofs.Balance.{hems-balanced}
+use Rattle.house.proofs.Closing.{Used, house-used}
+use Rattle.tracing.proofs.Entries.{traces-enough, Roomy, traces-roomy}
 use Rattle.order.specs.Demand.{SameEdges}
 use Rattle.calls.specs.Calls.{cornersOf, VerdictCall, says, WiresLeft, HouseCall, PortedCall}
 use Rattle.calls.specs.Order.{SameWires, Wired, SameHouse}

@@ -12,7 +12,7 @@ use Rattle.mesh.specs.Table.{meshNumber}
 use Rattle.folding.specs.Folding.{folded}
 use Rattle.compaction.specs.Compaction.{compacted}
 use Rattle.edges.specs.Edges.{Oriented, edgesOf, verdict, hems}
-use Rattle.wires.specs.House.{houseWires}
+use Rattle.house.specs.House.{houseWires}
 use Rattle.order.specs.Same.{Same}
 use Rattle.order.specs.Pairs.{plain, triangle}
 

@@ -12,8 +12,8 @@ use Rattle.edges.specs.declared.ShellCondition.{ShellCondition}
 use Rattle.edges.specs.declared.Judged.{Judged}
 use Rattle.edges.specs.declared.Judged.the-variants.{Found}
 use Rattle.edges.specs.declared.HemEdges.{HemEdges}
-use Rattle.wires.specs.Hems.{pairs}
-use Rattle.wires.specs.declared.Wires.{Wires}
+use Rattle.tracing.specs.Hems.{pairs}
+use Rattle.tracing.specs.declared.Wires.{Wires}
 use Rattle.lines.specs.Working.{parts}
 use Rattle.panels.specs.declared.Answer.{Answer}
 use Rattle.determined.specs.Determined.{verdictCall, hemCall, portedCall, houseCall, panelsCall}
@@ -55,7 +55,7 @@ module _ {m : Mesh} (r : HemCall m) where
   abbrev pub edgesWritten : List Edge
   edgesWritten = pairs startsWritten endsWritten
 
--- ---- `wires::house_wires` and `wires::extract_boundaries`
+-- ---- `house::house_wires` and `ported::extract_boundaries`
 
 -- what either of them leaves: its answer and the two lists
 pub record WiresLeft : Type 0 where

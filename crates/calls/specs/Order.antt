@@ -12,7 +12,8 @@ use Rattle.mesh.specs.Table.{meshNumber}
 use Rattle.edges.specs.Edges.{key}
 use Rattle.edges.specs.Answers.{hemNumber}
 use Rattle.edges.specs.declared.ShellCondition.{ShellCondition}
-use Rattle.wires.specs.Answers.{portedNumber, houseNumber}
+use Rattle.ported.specs.Answers.{portedNumber}
+use Rattle.house.specs.Answers.{houseNumber}
 use Rattle.panels.specs.Panels.{together}
 use Rattle.panels.specs.Contract.{panelsNumber}
 use Rattle.order.specs.Same.{Turned, Same, Matching}

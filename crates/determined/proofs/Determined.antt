@@ -11,8 +11,8 @@ use Rattle.compaction.specs.Compaction as compaction
 use Rattle.folded.specs.Folded as removal
 use Rattle.edges.specs.Answers.{answerOf, judged}
 use Rattle.edges.proofs.Answering.{answer-only}
-use Rattle.wires.specs.Answers.{Answered}
-use Rattle.wires.specs.declared.Wires.{Wires}
+use Rattle.tracing.specs.Answers.{Answered}
+use Rattle.tracing.specs.declared.Wires.{Wires}
 use Rattle.determined.specs.Determined.{Call, Determined, _and_, done, equals, TwoLists, number, face, pushCall, compactionCall, removalCall, mergingCall, verdictCall, hemCall, portedCall, houseCall, panelsCall, readCall, sheetCall, AllDetermined}
 
 -- ---- the general law

@@ -19,8 +19,9 @@ use Rattle.merging.specs.declared.Merged.{Merged}
 use Rattle.edges.specs.Answers.{answerOf, judged, HemAnswer}
 use Rattle.edges.specs.declared.Judged.{Judged}
 use Rattle.edges.specs.declared.HemEdges.{HemEdges}
-use Rattle.wires.specs.Answers.{PortedAnswer, HouseAnswer}
-use Rattle.wires.specs.declared.Wires.{Wires}
+use Rattle.ported.specs.Answers.{PortedAnswer}
+use Rattle.house.specs.Answers.{HouseAnswer}
+use Rattle.tracing.specs.declared.Wires.{Wires}
 use Rattle.panels.specs.Contract.{Answered}
 use Rattle.panels.specs.declared.Answer.{Answer}
 use Rattle.panelfile.specs.Answer.{PanelRead}
@@ -106,7 +107,7 @@ hemCall = record {
   Allows = λ g r. HemAnswer (g .0) (g .1 .0) (g .1 .1) (r .1 .0) (r .1 .1) (r .0);
 }
 
--- `wires::extract_boundaries` and `wires::house_wires`
+-- `ported::extract_boundaries` and `house::house_wires`
 abbrev pub portedCall : Call
 portedCall = record {
   Given = Mesh × TwoLists;

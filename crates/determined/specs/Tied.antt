@@ -19,8 +19,8 @@ use Rattle.folded.proofs.remove_degenerate_faces.Reads as remove-degenerate-fac
 use Rattle.merging.proofs.put_together_same_attrs.Reads as put-together-same-attrs
 use Rattle.edges.proofs.shell_condition.Reads as shell-condition
 use Rattle.edges.proofs.hem_edges.Reads as hem-edges
-use Rattle.wires.proofs.extract_boundaries.Reads as extract-boundaries
-use Rattle.wires.proofs.house_wires.Reads as house-wires
+use Rattle.ported.proofs.extract_boundaries.Reads as extract-boundaries
+use Rattle.house.proofs.house_wires.Reads as house-wires
 use Rattle.panels.proofs.components.Reads as components
 use Rattle.panelfile.proofs.read_panel.Reads as read-panel
 use Rattle.sheet.proofs.sheet.Reads as sheet

@@ -20,8 +20,9 @@ use Rattle.nearby.specs.Walk as groups
 use Rattle.merging.specs.Centre as centre
 use Rattle.merging.specs.Merging as merging
 use Rattle.edges.specs.Edges.{key, verdict, hems}
-use Rattle.wires.specs.House.{walk, wiresIn, houseWires}
-use Rattle.wires.specs.Ported.{follow, tracesIn, portedWires}
+use Rattle.house.specs.House.{walk, wiresIn, houseWires}
+use Rattle.tracing.specs.Following.{follow, tracesIn}
+use Rattle.ported.specs.Ported.{portedWires}
 use Rattle.panels.specs.Panels.{keyOf, search′, panelsFrom, panels}
 use Rattle.examples.specs.Twelve.{hasVerdict, hasHem, hasPorted, hasHouse, hasPanels, compacts, sixPositions, merges, threeTextures, allHold}
 

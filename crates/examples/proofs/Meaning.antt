@@ -19,8 +19,8 @@ use Rattle.mesh.specs.Mesh.{position, texture, threes}
 use Rattle.mesh.specs.Table.{meshNumber}
 use Rattle.edges.specs.Edges.{Edge, same, edgesOf, Verdict, Irregular, Regular, Oriented, Closed, verdict, hems}
 use Rattle.edges.proofs.SameEdge.{same-true, same-refl}
-use Rattle.wires.specs.Ported.{portedWires}
-use Rattle.wires.specs.House.{houseWires}
+use Rattle.ported.specs.Ported.{portedWires}
+use Rattle.house.specs.House.{houseWires}
 use Rattle.panels.specs.Panels.{panels}
 use Rattle.folded.proofs.Examples.{leaves-is}
 use Rattle.compaction.specs.Compaction.{compacted}

@@ -11,8 +11,8 @@ use Rattle.lists.specs.Same.{sameNumbers, sameLists}
 use Rattle.mesh.specs.Mesh.{Mesh, meshOf, Ring, missing, position, texture, threes}
 use Rattle.mesh.specs.Table.{meshNumber}
 use Rattle.edges.specs.Edges.{Edge, same, edgesOf, Verdict, Irregular, Regular, Oriented, Closed, verdict, hems}
-use Rattle.wires.specs.Ported.{portedWires}
-use Rattle.wires.specs.House.{houseWires}
+use Rattle.ported.specs.Ported.{portedWires}
+use Rattle.house.specs.House.{houseWires}
 use Rattle.panels.specs.Panels.{panels}
 use Rattle.folded.specs.Examples.{leaves, corner}
 use Rattle.compaction.specs.Compaction.{compacted}

@@ -8,7 +8,7 @@ use Rattle.folding.specs.Folding.{trianglePieces, pieces}
 use Rattle.folded.specs.Folded.{removed, unfoldedMesh}
 use Rattle.compaction.specs.Compaction.{firstUses, place, renumber, entries, usedPositions, usedTextures, usedNormals, renumbered, compacted}
 use Rattle.edges.specs.Edges.{key, verdict, hems}
-use Rattle.wires.specs.House.{walk, wiresIn, houseWires}
+use Rattle.house.specs.House.{walk, wiresIn, houseWires}
 use Rattle.sheet.specs.Sheet.{cleaned, foundIn}
 use Rattle.calls.specs.Begun.{touching, touchingLater}
 use Rattle.exports.specs.Sheets.{OtherHemLines}

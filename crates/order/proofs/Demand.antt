@@ -15,8 +15,8 @@ use Rattle.mesh.proofs.Accepted.{Accepted, accepted}
 use Rattle.edges.specs.Edges.{edgesOf, Verdict, Irregular, Oriented, Closed, verdict, hems}
 use Rattle.edges.proofs.HemUses.{not-irregular}
 use Rattle.edges.proofs.Reordered.{verdict-alike, hems-undirected, hems-alike}
-use Rattle.wires.specs.House.{houseWires}
-use Rattle.wires.specs.Ported.{portedWires}
+use Rattle.house.specs.House.{houseWires}
+use Rattle.ported.specs.Ported.{portedWires}
 use Rattle.order.specs.Same.{Same, Matching}
 use Rattle.order.specs.Demand.{SameEdges, Demand3, OrderIsFree, byPosition, SameByPosition, PositionsAreEnough}
 use Rattle.order.proofs.Matched.{same-map, same-matched}

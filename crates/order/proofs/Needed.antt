@@ -13,7 +13,7 @@ use Rattle.lists.proofs.Counting.{clash}
 use Rattle.mesh.specs.Mesh.{Mesh, faces}
 use Rattle.mesh.specs.Table.{overLimits, uneven, misfit, ungrouped, astray, shapeNumber, meshNumber}
 use Rattle.edges.specs.Edges.{edgesOf, same, key, Irregular, verdict, hems}
-use Rattle.wires.specs.House.{walk, wiresIn, houseWires}
+use Rattle.house.specs.House.{walk, wiresIn, houseWires}
 use Rattle.panels.specs.Panels.{keyOf, search′, panelsFrom, panels, together}
 use Rattle.order.specs.Same.{Turned, Same, face, swap}
 use Rattle.order.specs.Demand.{byPosition}

@@ -9,8 +9,8 @@ use lib.ListN.{length, getD}
 use Rattle.mesh.specs.Mesh.{Mesh, Ring, position, faces}
 use Rattle.mesh.specs.Table.{meshNumber}
 use Rattle.edges.specs.Edges.{edgesOf, key, Irregular, Oriented, Closed, verdict, hems}
-use Rattle.wires.specs.House.{houseWires}
-use Rattle.wires.specs.Ported.{portedWires}
+use Rattle.house.specs.House.{houseWires}
+use Rattle.ported.specs.Ported.{portedWires}
 use Rattle.panels.specs.Panels.{panels, together}
 use Rattle.order.specs.Same.{Turned, Same, Matching}
 

@@ -114,11 +114,11 @@ fn call_two(
         return calls::saying(r.number, r.count, 0);
     }
     if kind == PORTED {
-        let r = wires::extract_boundaries(positions, textures, normals, corners, sizes, a, b);
+        let r = ported::extract_boundaries(positions, textures, normals, corners, sizes, a, b);
         return calls::saying(r.number, r.flat, r.wires);
     }
     if kind == HOUSE {
-        let r = wires::house_wires(positions, textures, normals, corners, sizes, a, b);
+        let r = house::house_wires(positions, textures, normals, corners, sizes, a, b);
         return calls::saying(r.number, r.flat, r.wires);
     }
     let r = panels::components(

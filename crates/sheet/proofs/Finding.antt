@@ -23,10 +23,10 @@ use Rattle.edges.specs.Edges.{Edge, edgesOf, hems, verdict}
 use Rattle.edges.specs.Answers.{verdictOf}
 use Rattle.edges.specs.declared.ShellCondition.{ShellCondition}
 use Rattle.edges.proofs.OfHems.{mesh-hems-within}
-use Rattle.wires.specs.House.{houseWires}
-use Rattle.wires.specs.Answers.{wired, houseNumber, HouseAnswer}
-use Rattle.wires.proofs.HemLists.{house-uses}
-use Rattle.wires.proofs.Answering.{house-verdict}
+use Rattle.house.specs.House.{houseWires}
+use Rattle.house.specs.Answers.{wired, houseNumber, HouseAnswer}
+use Rattle.house.proofs.Given.{house-uses}
+use Rattle.house.proofs.Answering.{house-verdict}
 use Rattle.panels.specs.Panels.{joins, panels}
 use Rattle.panels.proofs.Parting.{panels-few}
 use Rattle.lines.specs.Working.{wiresBy, foundBy, Ready as LinesReady}

@@ -14,8 +14,8 @@ use Rattle.panelfile.specs.Reading.{panelNumber, panelMesh}
 use Rattle.folded.specs.Folded.{unfoldedMesh}
 use Rattle.compaction.specs.Compaction.{compacted}
 use Rattle.edges.specs.Edges.{Edge, edgesOf, hems, verdict}
-use Rattle.wires.specs.House.{houseWires}
-use Rattle.wires.specs.Answers.{wired}
+use Rattle.house.specs.House.{houseWires}
+use Rattle.house.specs.Answers.{wired}
 use Rattle.panels.specs.Panels.{panels}
 use Rattle.lines.specs.Lines.{Found, sheetText, refusal}
 use Rattle.sheet.specs.declared.Answer.{Answer}

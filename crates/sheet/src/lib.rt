@@ -284,7 +284,7 @@ fn found_in(
         lengths,
     );
     let count = parts.panels;
-    let wires = wires::house_wires(positions, textures, normals, corners, sizes, flat, lengths);
+    let wires = house::house_wires(positions, textures, normals, corners, sizes, flat, lengths);
     let f = wires.flat;
     let w = wires.wires;
     let found = Findings {

@@ -1,17 +1,1 @@
-pub mod Balance
-pub mod Closing
-pub mod Smallest
-pub mod Entries
-pub mod Tables
-pub mod Steps
-pub mod Following
-pub mod AllWires
-pub mod Twins
-pub mod Linking
-pub mod Lasts
-pub mod Chains
-pub mod Rising
-pub mod BlankTables
-pub mod HemLists
-pub mod Answering
 pub mod SingleStarts

@@ -11,14 +11,14 @@ use borrow.Author.Tests.{eqb-true, eq-eqb}
 use Rattle.lists.specs.Lists.{bump, keepIf}
 use Rattle.lists.proofs.Counting.{bump-plus}
 use Rattle.edges.specs.Edges.{Edge, meshEdges, hems}
-use Rattle.wires.specs.Hems.{outs}
-use Rattle.wires.specs.House.{houseWires}
-use Rattle.wires.specs.Ported.{put, fill, portedWires}
-use Rattle.wires.specs.Tracing.{traces}
+use Rattle.tracing.specs.Hems.{outs}
+use Rattle.house.specs.House.{houseWires}
+use Rattle.ported.specs.Ported.{put, fill, portedWires}
+use Rattle.tracing.specs.Tracing.{traces}
 use Rattle.wires.specs.Promises.{OneEach, PortedIsHouse}
-use Rattle.wires.proofs.Balance.{hems-balanced}
-use Rattle.wires.proofs.Twins.{from, Twin, outs-from, twin-traces}
-use Rattle.wires.proofs.Rising.{hems-rise, house-traced}
+use Rattle.tracing.proofs.Balance.{hems-balanced}
+use Rattle.tracing.proofs.Twins.{from, Twin, outs-from, twin-traces}
+use Rattle.house.proofs.Rising.{hems-rise, house-traced}
 
 none-from : (s : ℕ) (t : List Edge) → outs s t ≡ 0 → from s t ≡ []
 none-from s t o = go (from s t) (sym (outs-from s t) ∙ o)
@@ -54,7 +54,10 @@ put-from s d (e ∷ t) o =
         (b c : Bool) → eqb (d .0) (e .0) ≡ c → from s (put d t) ≡ from s t ++ from s (d ∷ [])
         → from s (cond b (d ∷ e ∷ t) (cond c (d ∷ t) (e ∷ put d t))) ≡ from s (e ∷ t) ++ from s (d ∷ [])
     go true c q h = front (eqb s (d .0)) refl
-    go false true q h = absurd (let z : bump (eqb (d .0) (e .0)) (outs (d .0) t) ≡ 0 = o in let y : bump true (outs (d .0) t) ≡ 0 = sym (ap (λ (b : Bool). bump b (outs (d .0) t)) q) ∙ z in omega arith)
+    go false true q h =
+        let z : bump (eqb (d .0) (e .0)) (outs (d .0) t) ≡ 0 = o in
+        let y : bump true (outs (d .0) t) ≡ 0 = sym (ap (λ (b : Bool). bump b (outs (d .0) t)) q) ∙ z in
+        absurd (omega arith)
     go false false q h = behind (eqb s (e .0)) h
 
 -- the whole map, where every start is new when its edge comes

@@ -13,7 +13,7 @@ use Rattle.sheet.proofs.found_in.Lts as lts
 use Rattle.edges.proofs.verdict_of.Reads as verdict-of-reads
 use Rattle.lines.proofs.put_sheet.Reads as put-sheet-reads
 use Rattle.panels.proofs.components.Reads as components-reads
-use Rattle.wires.proofs.house_wires.Reads as house-wires-reads
+use Rattle.house.proofs.house_wires.Reads as house-wires-reads
 
 verdict-of-requires : tie.Need-verdict-of-requires
 verdict-of-requires c κs = edged _ ((c .before .before .before .before .before .before .before .before .pre) .ready .accepted)

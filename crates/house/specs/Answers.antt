@@ -1,0 +1,49 @@
+-- The call's answer: its numbers by the table, and what it answers and leaves. Assumes nothing.
+use mathlib.Core.Bool.{Bool, true, false, not}
+use mathlib.Core.List.{List, [], _∷_}
+use Prim.Native.Nat.{ℕ, _≤_}
+use lib.ListN.{length}
+use Rattle.mesh.specs.Mesh.{Mesh, faces}
+use Rattle.mesh.specs.Table.{meshNumber, when, firstOf, lent, short}
+use Rattle.edges.specs.Runs.{Edged}
+use Rattle.edges.specs.Edges.{Edge, edgesOf, Verdict, Irregular, Regular, Oriented, Closed, verdict, hems}
+use Rattle.tracing.specs.Answers.{cornerCount, Answered}
+use Rattle.house.specs.House.{houseWires}
+
+-- 9: a list is shorter than one number per corner
+abbrev pub houseShort : Mesh → ℕ → ℕ → Bool
+houseShort m flat lengths = short (lent flat (cornerCount (m .corners)) ∷ lent lengths (cornerCount (m .corners)) ∷ [])
+
+-- 10: house wires are asked where the verdict is neither Oriented nor Closed
+abbrev pub wired : Verdict → Bool
+wired Irregular = false
+wired Regular = false
+wired Oriented = true
+wired Closed = true
+
+abbrev pub unwired : Mesh → Bool
+unwired m = not (wired (verdict (edgesOf (faces m))))
+
+-- the numbers of the call: 0 to 5, 9 and 10
+unfoldable pub houseNumber : Mesh → ℕ → ℕ → ℕ
+houseNumber m flat lengths = firstOf (meshNumber m ∷ when (houseShort m flat lengths) 9 ∷ when (unwired m) 10 ∷ [])
+
+-- the call
+abbrev pub HouseAnswer : Mesh → List ℕ → List ℕ → List ℕ → List ℕ → ℕ → ℕ → ℕ → Type 0
+HouseAnswer m flat lengths flat′ lengths′ number numbers wires =
+    Answered (houseNumber m (length flat) (length lengths)) (houseWires (hems (edgesOf (faces m)))) flat lengths flat′ lengths′ number numbers wires
+
+-- what the wires of a mesh that is accepted are given
+pub record HouseOf (corners sizes : List ℕ) (positions : ℕ) (flat lengths : List ℕ) : Type 0 where
+  pub edged : Edged corners sizes positions
+  pub numbers : cornerCount corners ≤ length flat
+  pub wires : cornerCount corners ≤ length lengths
+
+-- what they answer and leave: 10, or the wires of the hem edges, by the verdict v that was found with them
+abbrev pub HouseFound : Verdict → List Edge → List ℕ → List ℕ → List ℕ → List ℕ → ℕ → ℕ → ℕ → Type 0
+HouseFound v hem flat lengths flat′ lengths′ number numbers wires =
+    Answered (when (not (wired v)) 10) (houseWires hem) flat lengths flat′ lengths′ number numbers wires
+
+abbrev pub HouseDone : List Edge → List ℕ → List ℕ → List ℕ → List ℕ → ℕ → ℕ → ℕ → Type 0
+HouseDone es flat lengths flat′ lengths′ number numbers wires =
+    HouseFound (verdict es) (hems es) flat lengths flat′ lengths′ number numbers wires

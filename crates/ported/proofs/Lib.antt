@@ -1,0 +1,5 @@
+pub mod Lasts
+pub mod Numbering
+pub mod PortedTables
+pub mod Given
+pub mod Answering

@@ -1,0 +1,5 @@
+-- the rule, and the call
+pub mod Ported
+pub mod Answers
+-- the steps of the code
+pub mod Keeping

@@ -1,0 +1,12 @@
+pub mod Balance
+pub mod Starts
+pub mod Smallest
+pub mod Entries
+pub mod Tables
+pub mod Steps
+pub mod Following
+pub mod AllWires
+pub mod Twins
+pub mod BlankTables
+pub mod HemLists
+pub mod Answering
