@@ -10,7 +10,7 @@ use lib.Ieee.{Float}
 use borrow.Author.Tests.{eqb-true, not-true}
 use Rattle.lists.proofs.Bools.{and-left, and-right}
 use Rattle.panelfile.specs.declared.Progress.{Progress}
-use Rattle.panelfile.specs.Records.{recordFrom}
+use Rattle.records.specs.Records.{recordFrom}
 use Rattle.panelfile.specs.Reading.{Reader, reader, nothing, take1, going, readFrom, readAll}
 use Rattle.panelfile.specs.Working.{Within, Long, Holds, Stepped}
 use Rattle.panelfile.proofs.Sane.{read-on, read-off}

@@ -17,12 +17,13 @@ use Rattle.grouping.specs.Push.{cornerCount}
 use Rattle.grouping.proofs.Placing.{count-append}
 use Rattle.grouping.proofs.Accepting.{sized, Orderly}
 use Rattle.floating.specs.Points.{coordinates}
-use Rattle.panelfile.specs.declared.Record.{Record}
-use Rattle.panelfile.specs.declared.Record.the-variants.{Position, Texture, Normal, Face, End, Refused}
-use Rattle.panelfile.specs.Records.{recordFrom}
-use Rattle.panelfile.specs.Reading.{Drawn, Reader, reader, nothing, limited, take1, going, readFrom, readAll, ringFrom, withPosition, withTexture, withNormal, withFace}
-use Rattle.panelfile.proofs.Ringing.{ring-length, ring-corners}
-use Rattle.panelfile.proofs.Fitting.{Fitted, record-fits}
+use Rattle.records.specs.declared.Record.{Record}
+use Rattle.records.specs.declared.Record.the-variants.{Position, Texture, Normal, Face, End, Refused}
+use Rattle.records.specs.Records.{recordFrom}
+use Rattle.panelfile.specs.Reading.{Drawn, Reader, reader, nothing, limited, take1, going, readFrom, readAll, withPosition, withTexture, withNormal, withFace}
+use Rattle.records.specs.Records.{ringFrom}
+use Rattle.records.proofs.Ringing.{ring-length, ring-corners}
+use Rattle.records.proofs.Fitting.{Fitted, record-fits}
 
 abbrev pub InOrder : Drawn → Type 0
 InOrder d = Orderly (d .positions) (d .textures) (d .normals) (d .faces)

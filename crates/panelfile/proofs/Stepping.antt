@@ -22,14 +22,15 @@ use Rattle.grouping.proofs.Placing.{count-append}
 use Rattle.floating.specs.declared.Point.{Point}
 use Rattle.floating.specs.declared.Texel.{Texel}
 use Rattle.floating.specs.Points.{coordinates}
-use Rattle.panelfile.specs.declared.Record.{Record}
-use Rattle.panelfile.specs.declared.Record.the-variants.{Position, Texture, Normal, Face, End, Refused}
+use Rattle.records.specs.declared.Record.{Record}
+use Rattle.records.specs.declared.Record.the-variants.{Position, Texture, Normal, Face, End, Refused}
 use Rattle.panelfile.specs.declared.Progress.{Progress}
-use Rattle.panelfile.specs.Reading.{Reader, reader, limited, take1, takeFace, ringFrom, withPosition, withTexture, withNormal, withFace}
-use Rattle.panelfile.specs.Records.{numberOf}
+use Rattle.panelfile.specs.Reading.{Reader, reader, limited, take1, takeFace, withPosition, withTexture, withNormal, withFace}
+use Rattle.records.specs.Records.{ringFrom}
+use Rattle.records.specs.Records.{numberOf}
 use Rattle.panelfile.specs.Working.{caseOf, stoppedWith, Able, Holds, Stepped}
-use Rattle.panelfile.proofs.Record.{the-type}
-use Rattle.panelfile.proofs.Ringing.{ring-flat, ring-length}
+use Rattle.records.proofs.Record.{the-type}
+use Rattle.records.proofs.Ringing.{ring-flat, ring-length}
 
 -- ---- a stop
 

@@ -12,14 +12,9 @@ use Rattle.mesh.specs.Limits.{width, entryLimit, cornerLimit, faceLimit}
 use Rattle.mesh.specs.Mesh.{Mesh, Ring, meshOf}
 use Rattle.mesh.specs.Table.{when, firstOf, astrayAt, Lent, lent, short, after}
 use Rattle.grouping.specs.Push.{pushed, cornerCount}
-use Rattle.panelfile.specs.declared.Record.{Record}
-use Rattle.panelfile.specs.declared.Record.the-variants.{Position, Texture, Normal, Face, End, Refused}
-use Rattle.panelfile.specs.Records.{word, recordFrom, numberOf, valuesOf}
-
--- n corners from a place on, three four-byte numbers each
-abbrev pub ringFrom : List ℕ → ℕ → ℕ → Ring
-ringFrom s zero a = []
-ringFrom s (suc n) a = (word s a ∷ word s (a + 4) ∷ word s (a + 8) ∷ []) ∷ ringFrom s n (a + 12)
+use Rattle.records.specs.declared.Record.{Record}
+use Rattle.records.specs.declared.Record.the-variants.{Position, Texture, Normal, Face, End, Refused}
+use Rattle.records.specs.Records.{ringFrom, recordFrom, numberOf, valuesOf}
 
 -- what has been drawn so far: coordinates, and the faces of three or more corners in the order they came
 pub record Drawn : Type 0 where

@@ -8,8 +8,9 @@ use lib.Ieee.{Float}
 use Rattle.lists.specs.Lists.{joined, each}
 use Rattle.mesh.specs.Limits.{width, ringLimit, entryLimit, cornerLimit, faceLimit, pointNumbers, texelNumbers, cornerNumbers}
 use Rattle.grouping.specs.Push.{cornerCount}
-use Rattle.panelfile.specs.declared.Record.{Record}
-use Rattle.panelfile.specs.declared.Record.the-variants.{Position, Texture, Normal, Face, End, Refused}
+use Rattle.records.specs.declared.Record.{Record}
+use Rattle.records.specs.declared.Record.the-variants.{Position, Texture, Normal, Face, End, Refused}
+use Rattle.records.specs.Records.{endOf, Placed}
 use Rattle.panelfile.specs.declared.Progress.{Progress}
 use Rattle.panelfile.specs.Reading.{Reader, take1, readAll}
 
@@ -21,24 +22,6 @@ caseOf (Normal p) = 2
 caseOf (Face a n) = 3
 caseOf End = 4
 caseOf (Refused n) = 5
-
--- where the record at a place ends; a refused one ends where it begins
-abbrev pub endOf : ℕ → Record → ℕ
-endOf at (Position p) = at + 28
-endOf at (Texture t) = at + 20
-endOf at (Normal p) = at + 28
-endOf at (Face a n) = a + 12 * n
-endOf at End = at + 4
-endOf at (Refused n) = at
-
--- a face begins behind its header and its count, and has at most 32 corners; a refusal has a number
-abbrev pub Placed : ℕ → Record → Type 0
-Placed at (Position p) = Unit {0}
-Placed at (Texture t) = Unit {0}
-Placed at (Normal p) = Unit {0}
-Placed at (Face a n) = (at < a) × (n ≤ ringLimit)
-Placed at End = Unit {0}
-Placed at (Refused n) = n ≡ 0 → ⊥
 
 -- the counts are within the limits, and the place within the file
 pub record Within (size : ℕ) (y : Progress) : Type 0 where

@@ -3,9 +3,9 @@ use Rattle.panelfile.proofs.Stepping.{stepped-at, after-position, posit
 use mathlib.Core.Path.{subst}
 use Prim.Native.Nat.{_≤_}
 use lib.ListN.{length}
-use Rattle.panelfile.specs.declared.Record.{Record}
-use Rattle.panelfile.specs.Working.{endOf}
-use Rattle.panelfile.proofs.Fitting.{able}
+use Rattle.records.specs.declared.Record.{Record}
+use Rattle.records.specs.Records.{endOf}
+use Rattle.panelfile.proofs.Taking.{able}
 use native.Mathlib.Omega.{arith}
 use borrow.Author.Needs.{needs}
 use Rattle.panelfile.proofs.steps.step.Statement.{statement}

@@ -1,8 +1,8 @@
 -- `panelfile::steps::step_end` meets its contract: the end record ends the reading, and what is left is a refusal, which stops it with its number. Assumes nothing.
 use mathlib.Core.Path.{subst}
 use Prim.Native.Nat.{_+_, _≤_}
-use Rattle.panelfile.specs.declared.Record.{Record}
-use Rattle.panelfile.specs.Working.{endOf}
+use Rattle.records.specs.declared.Record.{Record}
+use Rattle.records.specs.Records.{endOf}
 use Rattle.panelfile.proofs.Stepping.{end-step, refusal-step}
 use native.Mathlib.Omega.{arith}
 use borrow.Author.Needs.{needs}

@@ -2,8 +2,8 @@
 use mathlib.Core.Path.{refl, subst}
 use Prim.Native.Nat.{_≤_}
 use lib.ListN.{length}
-use Rattle.panelfile.specs.declared.Record.{Record}
-use Rattle.panelfile.specs.Working.{endOf, Placed}
+use Rattle.records.specs.declared.Record.{Record}
+use Rattle.records.specs.Records.{endOf, Placed}
 use Rattle.panelfile.proofs.Stepping.{after-face, face-drop, face-stop, face-step}
 use native.Mathlib.Omega.{arith}
 use borrow.Author.Needs.{needs}
