@@ -12,7 +12,7 @@ use Rattle.records.specs.declared.Record.{Record}
 use Rattle.records.specs.declared.Record.the-variants.{Position, Texture, Normal, Face, End, Refused}
 use Rattle.records.specs.Records.{endOf, Placed}
 use Rattle.panelfile.specs.declared.Progress.{Progress}
-use Rattle.panelfile.specs.Reading.{Reader, take1, readAll}
+use Rattle.panelfile.specs.Reading.{Reader, takeRecord, readAll}
 
 -- the cases of a record, in the order in which the steps look for them
 abbrev pub caseOf : Record → ℕ
@@ -77,7 +77,7 @@ pub record Holds (z : Reader) (y : Progress) (p t n : List Float) (c s : List �
 pub record Stepped (file : List ℕ) (r : Record) (x y : Progress) (p p' t t' n n' : List Float) (c c' s s' : List ℕ) : Type 0 where
   pub within : Within (length file) y
   pub moved : y .number ≡ 0 → y .ended ≡ false → x .at < y .at
-  pub taken : (z : Reader) → Holds z x p t n c s → Holds (take1 file z r) y p' t' n' c' s'
+  pub taken : (z : Reader) → Holds z x p t n c s → Holds (takeRecord file z r) y p' t' n' c' s'
 
 -- lent lists at the full limits at least
 pub record Full (p t n : List Float) (c s : List ℕ) : Type 0 where

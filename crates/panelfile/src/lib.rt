@@ -7,6 +7,7 @@ mod reading;
 mod steps;
 
 ghost use mathlib.Core.Path.{_≡_};
+ghost use Rattle.mesh.specs.Mesh.{meshOf};
 ghost use Rattle.panelfile.specs.Answer.{PanelRead};
 
 // How far the reading is: the next record's place, the number of a refusal, whether the end record was met, and how many
@@ -23,7 +24,7 @@ pub struct Progress {
 }
 
 // The reader's answer: its number, and how many positions, texture points, normals, corners and faces the mesh has.
-pub struct Panel {
+pub struct MeshRead {
     pub number: u32,
     pub positions: usize,
     pub textures: usize,
@@ -45,8 +46,11 @@ pub fn read_panel(
     normals: &mut [f64],
     corners: &mut [u32],
     sizes: &mut [u32],
-) -> Panel
-    ensures { λ r. ⌜ PanelRead (now (file .entry)) r (now (positions .entry)) (now (positions .exit)) (now (textures .entry)) (now (textures .exit)) (now (normals .entry)) (now (normals .exit)) (now (corners .entry)) (now (corners .exit)) (now (sizes .entry)) (now (sizes .exit)) ⌝ }
+) -> MeshRead
+    ensures { λ r. ⌜ PanelRead (now (file .entry))
+        (meshOf (now (positions .entry)) (now (textures .entry)) (now (normals .entry)) (now (corners .entry)) (now (sizes .entry)))
+        (meshOf (now (positions .exit)) (now (textures .exit)) (now (normals .exit)) (now (corners .exit)) (now (sizes .exit)))
+        r ⌝ }
 {
     if reading::is_short(
         positions.len(),

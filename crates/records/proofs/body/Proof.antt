@@ -36,10 +36,18 @@ unfolding bodyFrom
 returns-4 c = rw (c .before .if4 .taken) (ap Normal (c .point-from2 .ensures))
 
 face-requires : tie.Need-face-requires
-face-requires c κs = (a-face _ _ (c .before .before .before .before .before .pre .0) (c .before .before .before .if1 .left) (c .before .before .if2 .left) (c .before .if3 .left) (c .if4 .left) (c .before .before .before .before .before .pre .1 .1), c .before .before .before .before .before .pre .1 .0)
+face-requires c κs =
+    let at-if3 = c .before in
+    let at-if1 = at-if3 .before .before in
+    let start = at-if1 .before .before in
+    (a-face _ _ (start .pre .0) (at-if1 .if1 .left) (at-if3 .before .if2 .left) (at-if3 .if3 .left) (c .if4 .left) (start .pre .1 .1), start .pre .1 .0)
 
 returns-5 : tie.Need-returns-5
-returns-5 c = c .face .ensures ∙ body-face _ _ _ _ (c .before .before .before .before .before .before .pre .0) (c .before .before .before .before .if1 .left) (c .before .before .before .if2 .left) (c .before .before .if3 .left) (c .before .if4 .left)
+returns-5 c =
+    let at-if4 = c .before in
+    let at-if2 = at-if4 .before .before in
+    let start = at-if2 .before .before .before in
+    c .face .ensures ∙ body-face _ _ _ _ (start .pre .0) (at-if2 .before .if1 .left) (at-if2 .if2 .left) (at-if4 .before .if3 .left) (at-if4 .if4 .left)
 
 pub body-spec : {M : Type 1} → statement M
 body-spec =

@@ -74,7 +74,10 @@ loop-less : tie.Need-loop-less Inv-loop μ-loop
 loop-less c = search needs
 
 loop-again : tie.Need-loop-again Inv-loop μ-loop
-loop-again c = ringing-turns _ _ _ _ _ _ _ _ _ _ (c .before .before .before .loop-test .taken) (c .before .before .word .ensures) (c .before .word2 .ensures) (c .word3 .ensures) (c .before .before .before .before .loop .inv)
+loop-again c =
+    let at-word2 = c .before in
+    let at-loop-test = at-word2 .before .before in
+    ringing-turns _ _ _ _ _ _ _ _ _ _ (at-loop-test .loop-test .taken) (at-word2 .before .word .ensures) (at-word2 .word2 .ensures) (c .word3 .ensures) (at-loop-test .before .loop .inv)
 
 same-length : tie.Need-same-length Inv-loop μ-loop
 same-length c = search needs
