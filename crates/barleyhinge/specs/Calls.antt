@@ -16,7 +16,7 @@ use Rattle.merging.specs.declared.Merged.{Merged}
 use Rattle.edges.specs.Edges.{Verdict, verdict}
 use Rattle.edges.specs.Answers.{meshEdgesOf}
 use Rattle.edges.specs.declared.HemEdges.{HemEdges}
-use Rattle.panelfile.specs.declared.Panel.{Panel}
+use Rattle.panelfile.specs.declared.MeshRead.{MeshRead}
 use Rattle.sheet.specs.declared.Answer.{Answer as Sheet}
 
 -- where the part of face k starts in the list of corners: behind three numbers for each corner of the faces before it; 0 where
@@ -63,7 +63,7 @@ abbrev pub hemmedBy : ℕ → ℕ → HemEdges
 hemmedBy number n = record { number = number; count = n }
 
 -- what the reader answers: the number returned, and the counts of positions, texture points, normals, corners and faces
-abbrev pub readBy : ℕ → ℕ → ℕ → ℕ → ℕ → ℕ → Panel
+abbrev pub readBy : ℕ → ℕ → ℕ → ℕ → ℕ → ℕ → MeshRead
 readBy number p t n c f =
     record { number = number; positions = p; textures = t; normals = n; corners = c; faces = f }
 

@@ -321,7 +321,10 @@ pub extern "C" fn bh_read_panel(
     cornercount: &mut usize,
     facecount: &mut usize,
 ) -> u32
-    ensures { λ r. ⌜ PanelRead (now (file .entry)) (call.readBy r (now (positioncount .exit)) (now (texturecount .exit)) (now (normalcount .exit)) (now (cornercount .exit)) (now (facecount .exit))) (now (positions .entry)) (now (positions .exit)) (now (textures .entry)) (now (textures .exit)) (now (normals .entry)) (now (normals .exit)) (now (corners .entry)) (now (corners .exit)) (now (sizes .entry)) (now (sizes .exit)) ⌝ }
+    ensures { λ r. ⌜ PanelRead (now (file .entry))
+        (meshOf (now (positions .entry)) (now (textures .entry)) (now (normals .entry)) (now (corners .entry)) (now (sizes .entry)))
+        (meshOf (now (positions .exit)) (now (textures .exit)) (now (normals .exit)) (now (corners .exit)) (now (sizes .exit)))
+        (call.readBy r (now (positioncount .exit)) (now (texturecount .exit)) (now (normalcount .exit)) (now (cornercount .exit)) (now (facecount .exit))) ⌝ }
 {
     let panel = panelfile::read_panel(file, positions, textures, normals, corners, sizes);
     *positioncount = panel.positions;

@@ -25,7 +25,7 @@ use Rattle.tracing.specs.declared.Wires.{Wires}
 use Rattle.panels.specs.Contract.{Answered}
 use Rattle.panels.specs.declared.Answer.{Answer}
 use Rattle.panelfile.specs.Answer.{PanelRead}
-use Rattle.panelfile.specs.declared.Panel.{Panel}
+use Rattle.panelfile.specs.declared.MeshRead.{MeshRead}
 use Rattle.sheet.specs.Sheet.{Printed}
 use Rattle.sheet.specs.declared.Answer.{Answer as Sheet}
 
@@ -134,14 +134,8 @@ panelsCall = record {
 abbrev pub readCall : Call
 readCall = record {
   Given = List ℕ × Mesh;
-  Result = Panel × Mesh;
-  Allows = λ g r.
-      PanelRead (g .0) (r .0)
-      (g .1 .positions) (r .1 .positions)
-      (g .1 .textures) (r .1 .textures)
-      (g .1 .normals) (r .1 .normals)
-      (g .1 .corners) (r .1 .corners)
-      (g .1 .sizes) (r .1 .sizes);
+  Result = MeshRead × Mesh;
+  Allows = λ g r. PanelRead (g .0) (g .1) (r .1) (r .0);
 }
 
 -- `sheet::sheet`: the bytes of a file, and the lent list

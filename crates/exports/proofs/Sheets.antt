@@ -19,7 +19,7 @@ use Rattle.folded.specs.Folded.{unfoldedMesh}
 use Rattle.folded.proofs.Accepted.{removed-accepted}
 use Rattle.calls.proofs.Cleaned.{folded-same, folded-by-position}
 use Rattle.folded.proofs.Accepted.{faces-stay}
-use Rattle.panelfile.specs.Reading.{finish, readAll, panelNumber, panelMesh}
+use Rattle.panelfile.specs.Reading.{finish, readAll, readingNumber, panelMesh}
 use Rattle.panelfile.proofs.Ending.{read-accepted}
 use Rattle.lines.specs.Lines.{sheetText, hemLines}
 use Rattle.sheet.specs.Sheet.{cleaned, printed, fileNumber, sheetOf, sheetNumber}
@@ -33,10 +33,10 @@ use Rattle.exports.proofs.Compactions.{but-attributes, own-cover, lines
 
 module _ (a : List ℕ) (e : fileNumber a ≡ 0) where
   pub file-accepted : meshNumber (panelMesh a) ≡ 0
-  unfolding fileNumber panelNumber short
+  unfolding fileNumber readingNumber short
   file-accepted =
       read-accepted a
-      (first-head (finish a (readAll a)) [] (first-head (panelNumber [] a) [] (first-tail (when (ltb 65536 (length a)) 1) (panelNumber [] a ∷ []) e)))
+      (first-head (finish a (readAll a)) [] (first-head (readingNumber [] a) [] (first-tail (when (ltb 65536 (length a)) 1) (readingNumber [] a ∷ []) e)))
 
   sheet-is : sheetOf a ≡ firstLines (found a) ++ hemLines (found a .wires)
   unfolding sheetOf printed sheetText

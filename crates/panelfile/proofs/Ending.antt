@@ -12,7 +12,7 @@ use borrow.Author.Tests.{lt-ltb, le-ltb, ltb-false}
 use Rattle.lists.proofs.Bools.{or-false-left, or-false-right}
 use Rattle.lists.specs.Lists.{some, joined, each, sum}
 use Rattle.mesh.specs.Limits.{width, faceLimit, pointNumbers, texelNumbers, cornerNumbers}
-use Rattle.mesh.specs.Mesh.{meshOf, rings}
+use Rattle.mesh.specs.Mesh.{Mesh, meshOf, rings}
 use Rattle.mesh.specs.Table.{when, astray, astrayAt, short, meshNumber}
 use Rattle.mesh.specs.Face.{Sound}
 use Rattle.mesh.proofs.Faces.{isRing, rings-back}
@@ -22,8 +22,8 @@ use Rattle.grouping.proofs.Placing.{length-flat}
 use Rattle.grouping.proofs.Pushed.{every-pushed}
 use Rattle.grouping.proofs.Accepting.{threes-flat, accepted-faces}
 use Rattle.panelfile.specs.declared.Progress.{Progress}
-use Rattle.panelfile.specs.declared.Panel.{Panel}
-use Rattle.panelfile.specs.Reading.{Drawn, Reader, readAll, meshDrawn, finish, fullRoom, panelNumber, panelMesh}
+use Rattle.panelfile.specs.declared.MeshRead.{MeshRead}
+use Rattle.panelfile.specs.Reading.{Drawn, Reader, readAll, meshDrawn, finish, fullRoom, roomOf, readingNumber, panelMesh}
 use Rattle.panelfile.specs.Promises.{ReadIsAccepted}
 use Rattle.panelfile.specs.Working.{Drawing, Full}
 use Rattle.panelfile.specs.Answer.{PanelRead, Handed, refusedWith}
@@ -96,7 +96,8 @@ module _ (file : List ℕ) (x : Progress) (p t n : List Float) (c s : List ℕ) 
       (p1 p2 t1 t2 n1 n2 : List Float) (c1 c2 s1 s2 : List ℕ) (fc ff : ℕ)
       → p2 ≡ sets p1 0 (take (3 * x .positions) p) → t2 ≡ sets t1 0 (take (2 * x .textures) t) → n2 ≡ sets n1 0 (take (3 * x .normals) n)
       → Placed (pushed (rings (take (x .faces) s) (take (width * x .corners) c))) c1 c2 s1 s2 0 0 fc ff
-      → Handed (panelMesh file) (record { number = 0; positions = x .positions; textures = x .textures; normals = x .normals; corners = fc; faces = ff }) p1 p2 t1 t2 n1 n2 c1 c2 s1 s2
+      → Handed (panelMesh file) (meshOf p1 t1 n1 c1 s1) (meshOf p2 t2 n2 c2 s2)
+      (record { number = 0; positions = x .positions; textures = x .textures; normals = x .normals; corners = fc; faces = ff })
   unfolding panelMesh meshDrawn
   handed p1 p2 t1 t2 n1 n2 c1 c2 s1 s2 fc ff ep et en q =
       let fs = drawn .faces in
@@ -121,32 +122,42 @@ module _ (file : List ℕ) (x : Progress) (p t n : List Float) (c s : List ℕ) 
 
 -- ---- the whole call
 
-module _ (file : List ℕ) (p t n : List Float) (c s : List ℕ) where
+module _ (file : List ℕ) (before : Mesh) where
   abbrev rooms : Bool
-  rooms = short (fullRoom (length p) (length t) (length n) (length c) (length s))
+  rooms = short (roomOf before)
 
-  pub call-short : rooms ≡ true → (r : Panel) → r ≡ refusedWith 9 → PanelRead file r p p t t n n c c s s
-  unfolding panelNumber
-  call-short e r f = rw f (record { number = rw e; position-count = refl; texture-count = refl; normal-count = refl; corner-count = refl; face-count = refl; positions = refl; textures = refl; normals = refl; corners = refl; sizes = refl })
+  refused-is : (k : ℕ) → (k ≡ 0 → ⊥) → k ≡ readingNumber (roomOf before) file → PanelRead file before before (refusedWith k)
+  refused-is zero h e = absurd (h refl)
+  refused-is (suc k) h e = record {
+    number = e;
+    position-count = refl;
+    texture-count = refl;
+    normal-count = refl;
+    corner-count = refl;
+    face-count = refl;
+    positions = refl;
+    textures = refl;
+    normals = refl;
+    corners = refl;
+    sizes = refl;
+  }
 
-  refused-panel : (k : ℕ) → suc k ≡ panelNumber (fullRoom (length p) (length t) (length n) (length c) (length s)) file → PanelRead file (refusedWith (suc k)) p p t t n n c c s s
-  refused-panel k e = record { number = e; position-count = refl; texture-count = refl; normal-count = refl; corner-count = refl; face-count = refl; positions = refl; textures = refl; normals = refl; corners = refl; sizes = refl }
-
-  go : (k : ℕ) → (k ≡ 0 → ⊥) → k ≡ panelNumber (fullRoom (length p) (length t) (length n) (length c) (length s)) file → PanelRead file (refusedWith k) p p t t n n c c s s
-  go zero h e = absurd (h refl)
-  go (suc k) h e = refused-panel k e
+  pub call-short : rooms ≡ true → (r : MeshRead) → r ≡ refusedWith 9 → PanelRead file before before r
+  unfolding readingNumber
+  call-short e r f = rw f (refused-is 9 (λ z. omega arith) (rw e))
 
   pub call-refused :
-      rooms ≡ false → (number : ℕ) → (number ≡ 0 → ⊥) → number ≡ finish file (readAll file) → (r : Panel) → r ≡ refusedWith number → PanelRead file r p p t t n n c c s s
-  unfolding panelNumber
+      rooms ≡ false → (number : ℕ) → (number ≡ 0 → ⊥) → number ≡ finish file (readAll file)
+      → (r : MeshRead) → r ≡ refusedWith number → PanelRead file before before r
+  unfolding readingNumber
   call-refused e number h f r g =
-      rw g (go number h (rw e (f ∙ sym (first-is (finish file (readAll file)) [] (λ z. h (f ∙ z))))))
+      rw g (refused-is number h (rw e (f ∙ sym (first-is (finish file (readAll file)) [] (λ z. h (f ∙ z))))))
 
   pub call-done :
-      (r : Panel) (p' t' n' : List Float) (c' s' : List ℕ) → rooms ≡ false → 0 ≡ finish file (readAll file) → Handed (panelMesh file) r p p' t t' n n' c c' s s'
-      → PanelRead file r p p' t t' n n' c c' s s'
-  unfolding panelNumber
-  call-done r p' t' n' c' s' e f h = record {
+      (r : MeshRead) (afterwards : Mesh) → rooms ≡ false → 0 ≡ finish file (readAll file) → Handed (panelMesh file) before afterwards r
+      → PanelRead file before afterwards r
+  unfolding readingNumber
+  call-done r afterwards e f h = record {
     number = h .number ∙ rw (e, ← f);
     position-count = rw (h .number) (h .position-count);
     texture-count = rw (h .number) (h .texture-count);
@@ -172,7 +183,7 @@ read-accepted file e =
     let e2 = first-tail a (when b 5 ∷ []) e1 in
     accepted-faces (z .drawn .positions) (z .drawn .textures) (z .drawn .normals) (z .drawn .faces) (all-sane file .drawn) (when-not b 4 (first-head (when b 5) [] e2))
 
--- lent lists that are not short are at the full limits at least
+-- before lists that are not short are at the full limits at least
 pub not-short : (p t n : List Float) (c s : List ℕ) → short (fullRoom (length p) (length t) (length n) (length c) (length s)) ≡ false → Full p t n c s
 unfolding short fullRoom
 not-short p t n c s e =

@@ -1,6 +1,4 @@
-pub mod Recorded
-pub mod Ringing
-pub mod Fitting
+pub mod Taking
 pub mod Stepping
 pub mod Sane
 pub mod Looping

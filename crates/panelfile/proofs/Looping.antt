@@ -10,8 +10,8 @@ use lib.Ieee.{Float}
 use borrow.Author.Tests.{eqb-true, not-true}
 use Rattle.lists.proofs.Bools.{and-left, and-right}
 use Rattle.panelfile.specs.declared.Progress.{Progress}
-use Rattle.panelfile.specs.Records.{recordFrom}
-use Rattle.panelfile.specs.Reading.{Reader, reader, nothing, take1, going, readFrom, readAll}
+use Rattle.records.specs.Records.{recordFrom}
+use Rattle.panelfile.specs.Reading.{Reader, reader, nothing, takeRecord, going, readFrom, readAll}
 use Rattle.panelfile.specs.Working.{Within, Long, Holds, Stepped}
 use Rattle.panelfile.proofs.Sane.{read-on, read-off}
 
@@ -60,7 +60,7 @@ same-going : (z : Reader) (x : Progress) (p t n : List Float) (c s : List ℕ) �
 same-going z x p t n c s h = ap (λ (b : Bool). not b && eqb (z .number) 0) (sym (h .end)) ∙ ap (λ (k : ℕ). not (x .ended) && eqb k 0) (sym (h .refusal))
 
 -- there is a record more to be read
-one-more : (f : ℕ) (file : List ℕ) (z : Reader) → 0 < f → going z ≡ true → (g : ℕ) × (f ≡ suc g) × (readFrom f file z ≡ readFrom g file (take1 file z (recordFrom file (z .at))))
+one-more : (f : ℕ) (file : List ℕ) (z : Reader) → 0 < f → going z ≡ true → (g : ℕ) × (f ≡ suc g) × (readFrom f file z ≡ readFrom g file (takeRecord file z (recordFrom file (z .at))))
 one-more zero file z h e = absurd (let k : 0 < 0 = h in omega arith)
 one-more (suc g) file z h e = (g, refl, read-on g file z e)
 
@@ -72,13 +72,13 @@ reading-turns file x y go go' p p' t t' n n' c c' s s' g u st l f =
     let z = u .now' in
     let e : goingOn x ≡ true = sym (u .flag) ∙ g in
     let m = one-more (u .fuel) file z (omega (arith, u .enough g, u .within .place)) (same-going z x p t n c s (u .holds) ∙ e) in
-    let k : Holds (take1 file z (recordFrom file (x .at))) y p' t' n' c' s' = st .taken z (u .holds) in
+    let k : Holds (takeRecord file z (recordFrom file (x .at))) y p' t' n' c' s' = st .taken z (u .holds) in
     record {
       within = st .within;
       long = l;
       flag = f;
       fuel = m .0;
-      now' = take1 file z (recordFrom file (z .at));
+      now' = takeRecord file z (recordFrom file (z .at));
       enough = λ h.
           let o : goingOn y ≡ true = sym f ∙ h in
           omega (arith, u .enough g, m .1, st .moved (unrefused y o) (unended y o));

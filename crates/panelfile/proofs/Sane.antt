@@ -17,12 +17,13 @@ use Rattle.grouping.specs.Push.{cornerCount}
 use Rattle.grouping.proofs.Placing.{count-append}
 use Rattle.grouping.proofs.Accepting.{sized, Orderly}
 use Rattle.floating.specs.Points.{coordinates}
-use Rattle.panelfile.specs.declared.Record.{Record}
-use Rattle.panelfile.specs.declared.Record.the-variants.{Position, Texture, Normal, Face, End, Refused}
-use Rattle.panelfile.specs.Records.{recordFrom}
-use Rattle.panelfile.specs.Reading.{Drawn, Reader, reader, nothing, limited, take1, going, readFrom, readAll, ringFrom, withPosition, withTexture, withNormal, withFace}
-use Rattle.panelfile.proofs.Ringing.{ring-length, ring-corners}
-use Rattle.panelfile.proofs.Fitting.{Fitted, record-fits}
+use Rattle.records.specs.declared.Record.{Record}
+use Rattle.records.specs.declared.Record.the-variants.{Position, Texture, Normal, Face, End, Refused}
+use Rattle.records.specs.Records.{recordFrom}
+use Rattle.panelfile.specs.Reading.{Drawn, Reader, reader, nothing, limited, takeRecord, going, readFrom, readAll, withPosition, withTexture, withNormal, withFace}
+use Rattle.records.specs.Records.{ringFrom}
+use Rattle.records.proofs.Ringing.{ring-length, ring-corners}
+use Rattle.records.proofs.Fitting.{Fitted, record-fits}
 
 abbrev pub InOrder : Drawn → Type 0
 InOrder d = Orderly (d .positions) (d .textures) (d .normals) (d .faces)
@@ -42,8 +43,8 @@ face-sized s n a h l = rw (ring-length s n a) (and-both (leb 3 n) (leb n ringLim
 every-more : (p : Ring → Bool) (fs : List Ring) (f : Ring) → every p fs ≡ true → p f ≡ true → every p (fs ++ f ∷ []) ≡ true
 every-more p fs f e h = every-append p fs (f ∷ []) ∙ rw (e, h)
 
-take-sane : (s : List ℕ) (z : Reader) (r : Record) → Fitted (length s) (z .at) r → Sane (length s) z → Sane (length s) (take1 s z r)
-unfolding take1
+take-sane : (s : List ℕ) (z : Reader) (r : Record) → Fitted (length s) (z .at) r → Sane (length s) z → Sane (length s) (takeRecord s z r)
+unfolding takeRecord
 take-sane s z (Position p) f h =
     let d = z .drawn in
     limited-sane (length s) (ltb pointNumbers (length (d .positions) + 3)) z (reader (z .at + 28) 0 false (withPosition (coordinates p) d)) h
@@ -121,7 +122,7 @@ take-sane s z End f h = record { place = f .fits; drawn = h .drawn }
 take-sane s z (Refused n) f h = record { place = h .place; drawn = h .drawn }
 
 -- one more record, where the reading goes on
-pub read-on : (f : ℕ) (s : List ℕ) (z : Reader) → going z ≡ true → readFrom (suc f) s z ≡ readFrom f s (take1 s z (recordFrom s (z .at)))
+pub read-on : (f : ℕ) (s : List ℕ) (z : Reader) → going z ≡ true → readFrom (suc f) s z ≡ readFrom f s (takeRecord s z (recordFrom s (z .at)))
 unfolding readFrom
 read-on f s z e = rw (e, readFrom)
 
@@ -134,7 +135,7 @@ read-sane : (f : ℕ) (s : List ℕ) (z : Reader) → Sane (length s) z → Sane
 read-sane zero s z h = rw (let e : readFrom zero s z ≡ z = unfold readFrom in refl in e) h
 read-sane (suc f) s z h =
     by-cases (going z)
-    (λ e. rw (read-on f s z e) (read-sane f s (take1 s z (recordFrom s (z .at))) (take-sane s z (recordFrom s (z .at)) (record-fits s (z .at) (h .place)) h)))
+    (λ e. rw (read-on f s z e) (read-sane f s (takeRecord s z (recordFrom s (z .at))) (take-sane s z (recordFrom s (z .at)) (record-fits s (z .at) (h .place)) h)))
     (λ e. rw (read-off (suc f) s z e) h)
 
 -- whatever the bytes, what is read is in order

@@ -22,14 +22,15 @@ use Rattle.grouping.proofs.Placing.{count-append}
 use Rattle.floating.specs.declared.Point.{Point}
 use Rattle.floating.specs.declared.Texel.{Texel}
 use Rattle.floating.specs.Points.{coordinates}
-use Rattle.panelfile.specs.declared.Record.{Record}
-use Rattle.panelfile.specs.declared.Record.the-variants.{Position, Texture, Normal, Face, End, Refused}
+use Rattle.records.specs.declared.Record.{Record}
+use Rattle.records.specs.declared.Record.the-variants.{Position, Texture, Normal, Face, End, Refused}
 use Rattle.panelfile.specs.declared.Progress.{Progress}
-use Rattle.panelfile.specs.Reading.{Reader, reader, limited, take1, takeFace, ringFrom, withPosition, withTexture, withNormal, withFace}
-use Rattle.panelfile.specs.Records.{numberOf}
+use Rattle.panelfile.specs.Reading.{Reader, reader, limited, takeRecord, takeFace, withPosition, withTexture, withNormal, withFace}
+use Rattle.records.specs.Records.{ringFrom}
+use Rattle.records.specs.Records.{numberOf}
 use Rattle.panelfile.specs.Working.{caseOf, stoppedWith, Able, Holds, Stepped}
-use Rattle.panelfile.proofs.Record.{the-type}
-use Rattle.panelfile.proofs.Ringing.{ring-flat, ring-length}
+use Rattle.records.proofs.Record.{the-type}
+use Rattle.records.proofs.Ringing.{ring-flat, ring-length}
 
 -- ---- a stop
 
@@ -51,7 +52,7 @@ stopped z x k p t n c s e h = record {
 pub stepped-stop :
     (file : List ℕ) (r : Record) (x : Progress) (k : ℕ) (p t n : List Float) (c s : List ℕ)
     → Able (length file) r x → (k ≡ 0 → ⊥)
-    → ((z : Reader) → Holds z x p t n c s → reader (z .at) k false (z .drawn) ≡ take1 file z r)
+    → ((z : Reader) → Holds z x p t n c s → reader (z .at) k false (z .drawn) ≡ takeRecord file z r)
     → Stepped file r x (stoppedWith x k) p p t t n n c c s s
 stepped-stop file r x k p t n c s a j f = record {
   within = record { positions = a .within .positions; textures = a .within .textures; normals = a .within .normals; corners = a .within .corners; faces = a .within .faces; place = a .within .place };
@@ -73,13 +74,13 @@ atPosition x = record { at = x .at + 28; number = x .number; ended = x .ended; p
 
 module _ (file : List ℕ) (x : Progress) (pt : Point) (p t n : List Float) (c s : List ℕ) (a : Able (length file) (Position pt) x) (l : length p ≡ pointNumbers) where
   pub position-over : entryLimit ≤ x .positions → Stepped file (Position pt) x (stoppedWith x 1) p p t t n n c c s s
-  unfolding take1
+  unfolding takeRecord
   position-over h =
       stepped-stop file (Position pt) x 1 p t n c s a (λ e. omega arith)
       (λ z k. over-limit _ z _ (lt-ltb pointNumbers (length (z .drawn .positions) + 3) (omega (arith, length-of (3 * x .positions) p (z .drawn .positions) (omega (arith, a .within .positions)) (k .positions)))))
 
   pub position-taken : x .positions < entryLimit → Stepped file (Position pt) x (atPosition x) p (sets p (3 * x .positions) (coordinates pt)) t t n n c c s s
-  unfolding take1
+  unfolding takeRecord
   position-taken h = record {
     within = record { positions = omega arith; textures = a .within .textures; normals = a .within .normals; corners = a .within .corners; faces = a .within .faces; place = a .fits };
     moved = λ e i. omega arith;
@@ -107,13 +108,13 @@ atTexture x = record { at = x .at + 20; number = x .number; ended = x .ended; po
 
 module _ (file : List ℕ) (x : Progress) (tx : Texel) (p t n : List Float) (c s : List ℕ) (a : Able (length file) (Texture tx) x) (l : length t ≡ texelNumbers) where
   pub texture-over : entryLimit ≤ x .textures → Stepped file (Texture tx) x (stoppedWith x 1) p p t t n n c c s s
-  unfolding take1
+  unfolding takeRecord
   texture-over h =
       stepped-stop file (Texture tx) x 1 p t n c s a (λ e. omega arith)
       (λ z k. over-limit _ z _ (lt-ltb texelNumbers (length (z .drawn .textures) + 2) (omega (arith, length-of (2 * x .textures) t (z .drawn .textures) (omega (arith, a .within .textures)) (k .textures)))))
 
   pub texture-taken : x .textures < entryLimit → Stepped file (Texture tx) x (atTexture x) p p t (sets t (2 * x .textures) (tx .u ∷ tx .v ∷ [])) n n c c s s
-  unfolding take1
+  unfolding takeRecord
   texture-taken h = record {
     within = record { positions = a .within .positions; textures = omega arith; normals = a .within .normals; corners = a .within .corners; faces = a .within .faces; place = a .fits };
     moved = λ e i. omega arith;
@@ -141,13 +142,13 @@ atNormal x = record { at = x .at + 28; number = x .number; ended = x .ended; pos
 
 module _ (file : List ℕ) (x : Progress) (pt : Point) (p t n : List Float) (c s : List ℕ) (a : Able (length file) (Normal pt) x) (l : length n ≡ pointNumbers) where
   pub normal-over : entryLimit ≤ x .normals → Stepped file (Normal pt) x (stoppedWith x 1) p p t t n n c c s s
-  unfolding take1
+  unfolding takeRecord
   normal-over h =
       stepped-stop file (Normal pt) x 1 p t n c s a (λ e. omega arith)
       (λ z k. over-limit _ z _ (lt-ltb pointNumbers (length (z .drawn .normals) + 3) (omega (arith, length-of (3 * x .normals) n (z .drawn .normals) (omega (arith, a .within .normals)) (k .normals)))))
 
   pub normal-taken : x .normals < entryLimit → Stepped file (Normal pt) x (atNormal x) p p t t n (sets n (3 * x .normals) (coordinates pt)) c c s s
-  unfolding take1
+  unfolding takeRecord
   normal-taken h = record {
     within = record { positions = a .within .positions; textures = a .within .textures; normals = omega arith; corners = a .within .corners; faces = a .within .faces; place = a .fits };
     moved = λ e i. omega arith;
@@ -174,7 +175,7 @@ abbrev pub atEnd : Progress → Progress
 atEnd x = record { at = x .at + 4; number = x .number; ended = true; positions = x .positions; textures = x .textures; normals = x .normals; corners = x .corners; faces = x .faces }
 
 pub end-taken : (file : List ℕ) (x : Progress) (p t n : List Float) (c s : List ℕ) → Able (length file) End x → Stepped file End x (atEnd x) p p t t n n c c s s
-unfolding take1
+unfolding takeRecord
 end-taken file x p t n c s a = record {
   within = record { positions = a .within .positions; textures = a .within .textures; normals = a .within .normals; corners = a .within .corners; faces = a .within .faces; place = a .fits };
   moved = λ e i. omega arith;
@@ -193,7 +194,7 @@ end-taken file x p t n c s a = record {
 }
 
 pub refusal-taken : (file : List ℕ) (x : Progress) (k : ℕ) (p t n : List Float) (c s : List ℕ) → Able (length file) (Refused k) x → Stepped file (Refused k) x (stoppedWith x k) p p t t n n c c s s
-unfolding take1
+unfolding takeRecord
 refusal-taken file x k p t n c s a = stepped-stop file (Refused k) x k p t n c s a (a .placed) (λ z h. refl)
 
 -- ---- a face
@@ -211,7 +212,7 @@ map-one (x ∷ fs) f = ap (λ (l : List ℕ). length x ∷ l) (map-one fs f)
 module _ (file : List ℕ) (x : Progress) (i m : ℕ) (p t n : List Float) (c s : List ℕ) (a : Able (length file) (Face i m) x) where
   -- fewer than three corners: dropped
   pub face-dropped : m < 3 → Stepped file (Face i m) x (pastFace x i m) p p t t n n c c s s
-  unfolding take1
+  unfolding takeRecord
   face-dropped h = record {
     within = record { positions = a .within .positions; textures = a .within .textures; normals = a .within .normals; corners = a .within .corners; faces = a .within .faces; place = a .fits };
     moved = λ e j. omega (arith, a .placed .0);
@@ -221,7 +222,7 @@ module _ (file : List ℕ) (x : Progress) (i m : ℕ) (p t n : List Float) (c s 
   }
 
   pub face-over : 3 ≤ m → cornerLimit < x .corners + m → Stepped file (Face i m) x (stoppedWith x 1) p p t t n n c c s s
-  unfolding take1
+  unfolding takeRecord
   face-over g h =
       stepped-stop file (Face i m) x 1 p t n c s a (λ e. omega arith)
       (λ z k.
@@ -231,7 +232,7 @@ module _ (file : List ℕ) (x : Progress) (i m : ℕ) (p t n : List Float) (c s 
   pub face-taken :
       3 ≤ m → x .corners + m ≤ cornerLimit → length c ≡ cornerNumbers → length s ≡ faceLimit
       → Stepped file (Face i m) x (atFace x i m) p p t t n n c (sets c (width * x .corners) (joined (ringFrom file m i))) s (set s (x .faces) m)
-  unfolding take1
+  unfolding takeRecord
   face-taken g h lc ls = record {
     within = record { positions = a .within .positions; textures = a .within .textures; normals = a .within .normals; corners = h; faces = omega (arith, a .within .faces); place = a .fits };
     moved = λ e j. omega (arith, a .placed .0);

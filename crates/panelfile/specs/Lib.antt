@@ -1,4 +1,3 @@
-pub mod Records
 pub mod Reading
 pub mod Working
 pub mod Answer

@@ -12,14 +12,9 @@ use Rattle.mesh.specs.Limits.{width, entryLimit, cornerLimit, faceLimit}
 use Rattle.mesh.specs.Mesh.{Mesh, Ring, meshOf}
 use Rattle.mesh.specs.Table.{when, firstOf, astrayAt, Lent, lent, short, after}
 use Rattle.grouping.specs.Push.{pushed, cornerCount}
-use Rattle.panelfile.specs.declared.Record.{Record}
-use Rattle.panelfile.specs.declared.Record.the-variants.{Position, Texture, Normal, Face, End, Refused}
-use Rattle.panelfile.specs.Records.{word, recordFrom, numberOf, valuesOf}
-
--- n corners from a place on, three four-byte numbers each
-abbrev pub ringFrom : List ℕ → ℕ → ℕ → Ring
-ringFrom s zero a = []
-ringFrom s (suc n) a = (word s a ∷ word s (a + 4) ∷ word s (a + 8) ∷ []) ∷ ringFrom s n (a + 12)
+use Rattle.records.specs.declared.Record.{Record}
+use Rattle.records.specs.declared.Record.the-variants.{Position, Texture, Normal, Face, End, Refused}
+use Rattle.records.specs.Records.{ringFrom, recordFrom, numberOf, valuesOf}
 
 -- what has been drawn so far: coordinates, and the faces of three or more corners in the order they came
 pub record Drawn : Type 0 where
@@ -65,13 +60,13 @@ takeFace false s a n x =
     limited (ltb cornerLimit (cornerCount (x .drawn .faces) + n)) x (reader (a + 12 * n) 0 false (withFace (ringFrom s n a) (x .drawn)))
 
 -- one record is taken, with its values; a refusal stops the reading there, with its number
-unfoldable pub take1 : List ℕ → Reader → Record → Reader
-take1 s x (Position p) = limited (ltb (entryLimit * 3) (length (x .drawn .positions) + 3)) x (reader (x .at + 28) 0 false (withPosition (valuesOf (Position p)) (x .drawn)))
-take1 s x (Texture t) = limited (ltb (entryLimit * 2) (length (x .drawn .textures) + 2)) x (reader (x .at + 20) 0 false (withTexture (valuesOf (Texture t)) (x .drawn)))
-take1 s x (Normal p) = limited (ltb (entryLimit * 3) (length (x .drawn .normals) + 3)) x (reader (x .at + 28) 0 false (withNormal (valuesOf (Normal p)) (x .drawn)))
-take1 s x (Face a n) = takeFace (ltb n 3) s a n x
-take1 s x End = reader (x .at + 4) 0 true (x .drawn)
-take1 s x (Refused n) = reader (x .at) (numberOf (Refused n)) false (x .drawn)
+unfoldable pub takeRecord : List ℕ → Reader → Record → Reader
+takeRecord s x (Position p) = limited (ltb (entryLimit * 3) (length (x .drawn .positions) + 3)) x (reader (x .at + 28) 0 false (withPosition (valuesOf (Position p)) (x .drawn)))
+takeRecord s x (Texture t) = limited (ltb (entryLimit * 2) (length (x .drawn .textures) + 2)) x (reader (x .at + 20) 0 false (withTexture (valuesOf (Texture t)) (x .drawn)))
+takeRecord s x (Normal p) = limited (ltb (entryLimit * 3) (length (x .drawn .normals) + 3)) x (reader (x .at + 28) 0 false (withNormal (valuesOf (Normal p)) (x .drawn)))
+takeRecord s x (Face a n) = takeFace (ltb n 3) s a n x
+takeRecord s x End = reader (x .at + 4) 0 true (x .drawn)
+takeRecord s x (Refused n) = reader (x .at) (numberOf (Refused n)) false (x .drawn)
 
 -- the reading goes on until a refusal or the end record
 abbrev pub going : Reader → Bool
@@ -80,7 +75,7 @@ going x = not (x .ended) && eqb (x .number) 0
 -- record by record; the first argument bounds their number: one more than the bytes is enough
 unfoldable pub readFrom : ℕ → List ℕ → Reader → Reader
 readFrom zero s x = x
-readFrom (suc f) s x = elim (going x) [ true ↦ readFrom f s (take1 s x (recordFrom s (x .at))) | false ↦ x ]
+readFrom (suc f) s x = elim (going x) [ true ↦ readFrom f s (takeRecord s x (recordFrom s (x .at))) | false ↦ x ]
 
 unfoldable pub readAll : List ℕ → Reader
 readAll s = readFrom (suc (length s)) s (reader 0 0 false nothing)
@@ -98,8 +93,12 @@ finish s x =
 unfoldable pub fullRoom : ℕ → ℕ → ℕ → ℕ → ℕ → List Lent
 fullRoom p t n c s = lent p (entryLimit * 3) ∷ lent t (entryLimit * 2) ∷ lent n (entryLimit * 3) ∷ lent c (cornerLimit * width) ∷ lent s faceLimit ∷ []
 
-unfoldable pub panelNumber : List Lent → List ℕ → ℕ
-panelNumber rooms s = firstOf (when (short rooms) 9 ∷ finish s (readAll s) ∷ [])
+-- the five lent lists, as they are lent
+abbrev pub roomOf : Mesh → List Lent
+roomOf m = fullRoom (length (m .positions)) (length (m .textures)) (length (m .normals)) (length (m .corners)) (length (m .sizes))
+
+unfoldable pub readingNumber : List Lent → List ℕ → ℕ
+readingNumber rooms s = firstOf (when (short rooms) 9 ∷ finish s (readAll s) ∷ [])
 
 -- the mesh of a file
 unfoldable pub panelMesh : List ℕ → Mesh

@@ -8,10 +8,11 @@ use lib.Ieee.{Float}
 use Rattle.lists.specs.Lists.{joined, each}
 use Rattle.mesh.specs.Limits.{width, ringLimit, entryLimit, cornerLimit, faceLimit, pointNumbers, texelNumbers, cornerNumbers}
 use Rattle.grouping.specs.Push.{cornerCount}
-use Rattle.panelfile.specs.declared.Record.{Record}
-use Rattle.panelfile.specs.declared.Record.the-variants.{Position, Texture, Normal, Face, End, Refused}
+use Rattle.records.specs.declared.Record.{Record}
+use Rattle.records.specs.declared.Record.the-variants.{Position, Texture, Normal, Face, End, Refused}
+use Rattle.records.specs.Records.{endOf, Placed}
 use Rattle.panelfile.specs.declared.Progress.{Progress}
-use Rattle.panelfile.specs.Reading.{Reader, take1, readAll}
+use Rattle.panelfile.specs.Reading.{Reader, takeRecord, readAll}
 
 -- the cases of a record, in the order in which the steps look for them
 abbrev pub caseOf : Record → ℕ
@@ -21,24 +22,6 @@ caseOf (Normal p) = 2
 caseOf (Face a n) = 3
 caseOf End = 4
 caseOf (Refused n) = 5
-
--- where the record at a place ends; a refused one ends where it begins
-abbrev pub endOf : ℕ → Record → ℕ
-endOf at (Position p) = at + 28
-endOf at (Texture t) = at + 20
-endOf at (Normal p) = at + 28
-endOf at (Face a n) = a + 12 * n
-endOf at End = at + 4
-endOf at (Refused n) = at
-
--- a face begins behind its header and its count, and has at most 32 corners; a refusal has a number
-abbrev pub Placed : ℕ → Record → Type 0
-Placed at (Position p) = Unit {0}
-Placed at (Texture t) = Unit {0}
-Placed at (Normal p) = Unit {0}
-Placed at (Face a n) = (at < a) × (n ≤ ringLimit)
-Placed at End = Unit {0}
-Placed at (Refused n) = n ≡ 0 → ⊥
 
 -- the counts are within the limits, and the place within the file
 pub record Within (size : ℕ) (y : Progress) : Type 0 where
@@ -94,7 +77,7 @@ pub record Holds (z : Reader) (y : Progress) (p t n : List Float) (c s : List �
 pub record Stepped (file : List ℕ) (r : Record) (x y : Progress) (p p' t t' n n' : List Float) (c c' s s' : List ℕ) : Type 0 where
   pub within : Within (length file) y
   pub moved : y .number ≡ 0 → y .ended ≡ false → x .at < y .at
-  pub taken : (z : Reader) → Holds z x p t n c s → Holds (take1 file z r) y p' t' n' c' s'
+  pub taken : (z : Reader) → Holds z x p t n c s → Holds (takeRecord file z r) y p' t' n' c' s'
 
 -- lent lists at the full limits at least
 pub record Full (p t n : List Float) (c s : List ℕ) : Type 0 where

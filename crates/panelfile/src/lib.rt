@@ -3,26 +3,12 @@
 // A file is records, each a two-byte length, a two-byte kind and a body, little-endian, up to an end record. The reader takes one
 // record after the other into lists of its own, so that a refused file writes nothing; then it looks at what follows the end record
 // and at the indices, groups the faces as `push` does, and copies.
-mod bytes;
 mod reading;
-mod records;
 mod steps;
 
 ghost use mathlib.Core.Path.{_≡_};
+ghost use Rattle.mesh.specs.Mesh.{meshOf};
 ghost use Rattle.panelfile.specs.Answer.{PanelRead};
-use floating::Point;
-use floating::Texel;
-
-// What one record answers.
-pub enum Record {
-    Position(Point),
-    Texture(Texel),
-    Normal(Point),
-    // The place of its first corner, and how many corners there are.
-    Face(usize, u32),
-    End,
-    Refused(u32),
-}
 
 // How far the reading is: the next record's place, the number of a refusal, whether the end record was met, and how many
 // positions, texture points, normals, corners and faces are drawn.
@@ -38,7 +24,7 @@ pub struct Progress {
 }
 
 // The reader's answer: its number, and how many positions, texture points, normals, corners and faces the mesh has.
-pub struct Panel {
+pub struct MeshRead {
     pub number: u32,
     pub positions: usize,
     pub textures: usize,
@@ -60,8 +46,11 @@ pub fn read_panel(
     normals: &mut [f64],
     corners: &mut [u32],
     sizes: &mut [u32],
-) -> Panel
-    ensures { λ r. ⌜ PanelRead (now (file .entry)) r (now (positions .entry)) (now (positions .exit)) (now (textures .entry)) (now (textures .exit)) (now (normals .entry)) (now (normals .exit)) (now (corners .entry)) (now (corners .exit)) (now (sizes .entry)) (now (sizes .exit)) ⌝ }
+) -> MeshRead
+    ensures { λ r. ⌜ PanelRead (now (file .entry))
+        (meshOf (now (positions .entry)) (now (textures .entry)) (now (normals .entry)) (now (corners .entry)) (now (sizes .entry)))
+        (meshOf (now (positions .exit)) (now (textures .exit)) (now (normals .exit)) (now (corners .exit)) (now (sizes .exit)))
+        r ⌝ }
 {
     if reading::is_short(
         positions.len(),

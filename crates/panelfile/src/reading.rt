@@ -3,11 +3,12 @@ ghost use mathlib.Core.Path.{_≡_};
 ghost use mathlib.Core.Bool.{not, _&&_};
 ghost use lib.ListN.{length};
 ghost use lib.Dec.{eqb};
+ghost use Rattle.mesh.specs.Mesh.{meshOf};
 ghost use Rattle.mesh.specs.Table.{short};
 ghost use Rattle.panelfile.specs.Reading.{readAll, finish, fullRoom, panelMesh};
 ghost use Rattle.panelfile.specs.Working.{Within, Long, Holds, Full, Drawing};
 ghost use Rattle.panelfile.specs.Answer.{refusedWith, Handed};
-use crate::Panel;
+use crate::MeshRead;
 use crate::Progress;
 
 // Record by record, until a refusal or the end record.
@@ -70,10 +71,10 @@ pub fn is_short(p: usize, t: usize, n: usize, c: usize, s: usize) -> bool
 }
 
 // A refusal: its number, and counts of 0.
-pub fn refused(number: u32) -> Panel
+pub fn refused(number: u32) -> MeshRead
     ensures { λ r. ⌜ r ≡ refusedWith number ⌝ }
 {
-    Panel {
+    MeshRead {
         number,
         positions: 0,
         textures: 0,
@@ -129,9 +130,12 @@ pub fn hand_over(
     normals: &mut [f64],
     corners: &mut [u32],
     sizes: &mut [u32],
-) -> Panel
+) -> MeshRead
     requires { ⌜ Drawing (now file) x (now p) (now t) (now n) (now c) (now s) × Full (now positions) (now textures) (now normals) (now corners) (now sizes) ⌝ }
-    ensures { λ r. ⌜ Handed (panelMesh (now (file .entry))) r (now (positions .entry)) (now (positions .exit)) (now (textures .entry)) (now (textures .exit)) (now (normals .entry)) (now (normals .exit)) (now (corners .entry)) (now (corners .exit)) (now (sizes .entry)) (now (sizes .exit)) ⌝ }
+    ensures { λ r. ⌜ Handed (panelMesh (now (file .entry)))
+        (meshOf (now (positions .entry)) (now (textures .entry)) (now (normals .entry)) (now (corners .entry)) (now (sizes .entry)))
+        (meshOf (now (positions .exit)) (now (textures .exit)) (now (normals .exit)) (now (corners .exit)) (now (sizes .exit)))
+        r ⌝ }
 {
     let np = x.positions;
     let nt = x.textures;
@@ -145,7 +149,7 @@ pub fn hand_over(
     lists::put_coordinates(&t[..tn], textures, 0);
     lists::put_coordinates(&n[..nm], normals, 0);
     let filled = grouping::push_all(&c[..nc], &s[..ns], corners, sizes);
-    Panel {
+    MeshRead {
         number: 0,
         positions: np,
         textures: nt,

@@ -4,15 +4,12 @@ ghost use mathlib.Core.Bool.{false};
 ghost use mathlib.Core.List.{List};
 ghost use Prim.Native.Nat.{ℕ, _+_, _*_, _≤_, _<_};
 ghost use lib.ListN.{length};
-ghost use lib.Seq.{sets};
 ghost use lib.Ieee.{Float};
-ghost use Rattle.lists.specs.Lists.{joined};
-ghost use Rattle.mesh.specs.Limits.{width, faceLimit, pointNumbers, texelNumbers, cornerNumbers};
-ghost use Rattle.panelfile.specs.Records.{recordFrom};
-ghost use Rattle.panelfile.specs.Reading.{ringFrom};
+ghost use Rattle.mesh.specs.Limits.{faceLimit, pointNumbers, texelNumbers, cornerNumbers};
+ghost use Rattle.records.specs.Records.{recordFrom};
 ghost use Rattle.panelfile.specs.Working.{caseOf, stoppedWith, Within, Able, Long, Stepped};
 use crate::Progress;
-use crate::Record;
+use records::Record;
 
 // The record at the reader's place.
 pub fn step(
@@ -28,7 +25,7 @@ pub fn step(
     ensures { λ y. ⌜ Stepped (now (file .entry)) (recordFrom (now (file .entry)) (x .at)) x y (now (positions .entry)) (now (positions .exit)) (now (textures .entry)) (now (textures .exit)) (now (normals .entry)) (now (normals .exit)) (now (corners .entry)) (now (corners .exit)) (now (sizes .entry)) (now (sizes .exit)) ⌝ }
 {
     let at = x.at;
-    let r = crate::records::record_at(file, at);
+    let r = records::record_at(file, at);
     let Record::Position(p) = r else {
         return step_texture(file, r, textures, normals, corners, sizes, x);
     };
@@ -133,7 +130,7 @@ fn step_face(
     if mesh::CORNERS < more {
         return refused(x, 1);
     }
-    put_ring(file, a, m, corners, c);
+    records::put_ring(file, a, m, corners, c);
     sizes[f] = n;
     let faces = f + 1;
     y.corners = more;
@@ -147,7 +144,7 @@ fn step_end(r: Record, x: Progress, size: usize) -> Progress
     ensures { λ y. ⌜ ((file : List ℕ) (p t n : List Float) (c s : List ℕ) → length file ≡ size → Stepped file r x y p p t t n n c c s s) ⌝ }
 {
     let Record::End = r else {
-        return refused(x, crate::records::number_of(r));
+        return refused(x, records::number_of(r));
     };
     let at = x.at;
     let next = at + 4;
@@ -164,20 +161,4 @@ fn refused(x: Progress, number: u32) -> Progress
     let mut y = x;
     y.number = number;
     y
-}
-
-// The n corners from place a of the file, behind `at` corners of the list.
-fn put_ring(file: &[u8], a: usize, n: usize, out: &mut [u32], at: usize)
-    requires { ⌜ (a + 12 * n ≤ length (now file)) × (width * (at + n) ≤ length (now out)) ⌝ }
-    ensures { λ _. ⌜ now (out .exit) ≡ sets (now (out .entry)) (width * at) (joined (ringFrom (now (file .entry)) n a)) ⌝ }
-{
-    let mut k: usize = 0;
-    while k < n {
-        let from = a + 12 * k;
-        let to = mesh::WIDTH * (at + k);
-        out[to] = crate::bytes::word(file, from);
-        out[to + 1] = crate::bytes::word(file, from + 4);
-        out[to + 2] = crate::bytes::word(file, from + 8);
-        k += 1;
-    }
 }

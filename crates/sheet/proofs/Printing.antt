@@ -9,7 +9,7 @@ use borrow.Author.Tests.{lt-ltb, le-ltb}
 use Rattle.mesh.specs.Table.{firstOf, short}
 use Rattle.lines.specs.Lines.{refusal}
 use Rattle.lines.specs.Working.{Sheeted}
-use Rattle.panelfile.specs.Reading.{panelNumber, panelMesh}
+use Rattle.panelfile.specs.Reading.{readingNumber, panelMesh}
 use Rattle.sheet.specs.Sheet.{printed, fileNumber, sheetOf, sheetNumber, Printed}
 
 pub short-of-room : (file out : List ℕ) → length out < 65536 → Printed file out out (record { number = 9; length = 0 })
@@ -38,6 +38,6 @@ pub long-file : (file : List ℕ) → 65536 < length file → refusal 1 ≡ shee
 unfolding sheetOf fileNumber printed
 long-file file h = rw (lt-ltb 65536 (length file) h)
 
-pub short-file : (file : List ℕ) → length file ≤ 65536 → printed (panelNumber [] file) (panelMesh file) ≡ sheetOf file
+pub short-file : (file : List ℕ) → length file ≤ 65536 → printed (readingNumber [] file) (panelMesh file) ≡ sheetOf file
 unfolding sheetOf fileNumber
-short-file file h = rw (le-ltb 65536 (length file) h, one-alone (panelNumber [] file))
+short-file file h = rw (le-ltb 65536 (length file) h, one-alone (readingNumber [] file))

@@ -14,8 +14,8 @@ use Rattle.mesh.proofs.After.{after-done}
 use Rattle.mesh.proofs.Numbers.{first-head}
 use Rattle.lines.specs.Lines.{sheetText, refusal}
 use Rattle.lines.specs.Working.{Sheeted}
-use Rattle.panelfile.specs.declared.Panel.{Panel}
-use Rattle.panelfile.specs.Reading.{readAll, finish, fullRoom, panelNumber, panelMesh}
+use Rattle.panelfile.specs.declared.MeshRead.{MeshRead}
+use Rattle.panelfile.specs.Reading.{readAll, finish, fullRoom, readingNumber, panelMesh}
 use Rattle.panelfile.specs.Answer.{PanelRead}
 use Rattle.panelfile.proofs.Ending.{read-accepted}
 use Rattle.sheet.specs.Sheet.{cleaned, foundIn, printed}
@@ -48,7 +48,7 @@ pub record Fronts (m : Mesh) (p t n : List Float) (c s : List ℕ) (i j k l f : 
   pub sizes : Front s (m .sizes) f
 
 -- no more of anything than the limits
-pub record Few (r : Panel) : Type 0 where
+pub record Few (r : MeshRead) : Type 0 where
   pub positions : r .positions ≤ entryLimit
   pub textures : r .textures ≤ entryLimit
   pub normals : r .normals ≤ entryLimit
@@ -59,14 +59,14 @@ pub fronts-are :
     → meshOf (take (3 * i) p) (take (2 * j) t) (take (3 * k) n) (take (width * l) c) (take f s) ≡ m
 fronts-are r = rw (r .positions .is, r .textures .is, r .normals .is, r .corners .is, r .sizes .is)
 
-module _ {file : List ℕ} {r : Panel} {p p′ t t′ n n′ : List Float} {c c′ s s′ out : List ℕ} (room : FileRoom p t n c s out)
-    (read : PanelRead file r p p′ t t′ n n′ c c′ s s′) where
-  pub read-number : r .number ≡ panelNumber [] file
-  unfolding panelNumber fullRoom short
+module _ {file : List ℕ} {r : MeshRead} {p p′ t t′ n n′ : List Float} {c c′ s s′ out : List ℕ} (room : FileRoom p t n c s out)
+    (read : PanelRead file (meshOf p t n c s) (meshOf p′ t′ n′ c′ s′) r) where
+  pub read-number : r .number ≡ readingNumber [] file
+  unfolding readingNumber fullRoom short
   read-number = rw (read .number, room .positions, room .textures, room .normals, room .corners, room .sizes)
 
   pub mesh-accepted : r .number ≡ 0 → meshNumber (panelMesh file) ≡ 0
-  unfolding panelNumber short
+  unfolding readingNumber short
   mesh-accepted z = read-accepted file (first-head (finish file (readAll file)) [] (sym read-number ∙ z))
 
   pub read-fronts : r .number ≡ 0 → Fronts (panelMesh file) p′ t′ n′ c′ s′ (r .positions) (r .textures) (r .normals) (r .corners) (r .faces)
@@ -93,8 +93,8 @@ module _ {file : List ℕ} {r : Panel} {p p′ t t′ n n′ : List Float} {c c�
   pub read-ready : r .number ≡ 0 → Ready (meshOf (take (3 * r .positions) p′) (take (2 * r .textures) t′) (take (3 * r .normals) n′) (take (width * r .corners) c′) (take (r .faces) s′)) out
   read-ready z = record { accepted = ap meshNumber (fronts-are (read-fronts z)) ∙ mesh-accepted z; room = room .room }
 
-  pub read-text : (z : r .number ≡ 0) → sheetText (foundIn (cleaned (meshOf (take (3 * r .positions) p′) (take (2 * r .textures) t′) (take (3 * r .normals) n′) (take (width * r .corners) c′) (take (r .faces) s′)))) ≡ printed (panelNumber [] file) (panelMesh file)
+  pub read-text : (z : r .number ≡ 0) → sheetText (foundIn (cleaned (meshOf (take (3 * r .positions) p′) (take (2 * r .textures) t′) (take (3 * r .normals) n′) (take (width * r .corners) c′) (take (r .faces) s′)))) ≡ printed (readingNumber [] file) (panelMesh file)
   read-text z = ap (λ (m : Mesh). sheetText (foundIn (cleaned m))) (fronts-are (read-fronts z)) ∙ printed-done _ (panelMesh file) (sym read-number ∙ z)
 
-  pub refused-text : (r .number ≡ 0 → ⊥) → refusal (r .number) ≡ printed (panelNumber [] file) (panelMesh file)
-  refused-text h = ap refusal read-number ∙ printed-refused (panelNumber [] file) (panelMesh file) (λ z. h (read-number ∙ z))
+  pub refused-text : (r .number ≡ 0 → ⊥) → refusal (r .number) ≡ printed (readingNumber [] file) (panelMesh file)
+  refused-text h = ap refusal read-number ∙ printed-refused (readingNumber [] file) (panelMesh file) (λ z. h (read-number ∙ z))

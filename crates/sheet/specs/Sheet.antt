@@ -10,7 +10,7 @@ use lib.Seq.{sets}
 use lib.Dec.{ltb}
 use Rattle.mesh.specs.Mesh.{Mesh, faces, positionCount, textureCount, normalCount}
 use Rattle.mesh.specs.Table.{when, firstOf, lent, short, after}
-use Rattle.panelfile.specs.Reading.{panelNumber, panelMesh}
+use Rattle.panelfile.specs.Reading.{readingNumber, panelMesh}
 use Rattle.folded.specs.Folded.{unfoldedMesh}
 use Rattle.compaction.specs.Compaction.{compacted}
 use Rattle.edges.specs.Edges.{Edge, edgesOf, hems, verdict}
@@ -46,7 +46,7 @@ printed (suc n) m = refusal (suc n)
 
 -- a file of at most 65,536 bytes; more gives 1
 unfoldable pub fileNumber : List ℕ → ℕ
-fileNumber file = firstOf (when (ltb 65536 (length file)) 1 ∷ panelNumber [] file ∷ [])
+fileNumber file = firstOf (when (ltb 65536 (length file)) 1 ∷ readingNumber [] file ∷ [])
 
 unfoldable pub sheetOf : List ℕ → List ℕ
 sheetOf file = printed (fileNumber file) (panelMesh file)

@@ -9,7 +9,7 @@ ghost use lib.ListN.{length};
 ghost use Rattle.mesh.specs.Mesh.{meshOf};
 ghost use Rattle.lines.specs.Lines.{sheetText};
 ghost use Rattle.lines.specs.Working.{Sheeted};
-ghost use Rattle.panelfile.specs.Reading.{panelNumber, panelMesh};
+ghost use Rattle.panelfile.specs.Reading.{readingNumber, panelMesh};
 ghost use Rattle.compaction.specs.Compaction.{compacted};
 ghost use Rattle.sheet.specs.Sheet.{cleaned, foundIn, printed, Printed};
 ghost use Rattle.sheet.specs.Working.{Ready, FileRoom, MeshRoom, CleanRoom, WireRoom};
@@ -49,7 +49,7 @@ pub fn sheet(file: &[u8], out: &mut [u8]) -> Answer
 // The sheet of a file: lists for its mesh.
 fn from_file(file: &[u8], out: &mut [u8]) -> usize
     requires { ⌜ 65536 ≤ length (now out) ⌝ }
-    ensures { λ r. ⌜ Sheeted (printed (panelNumber [] (now (file .entry))) (panelMesh (now (file .entry)))) (now (out .entry)) (now (out .exit)) r ⌝ }
+    ensures { λ r. ⌜ Sheeted (printed (readingNumber [] (now (file .entry))) (panelMesh (now (file .entry)))) (now (out .entry)) (now (out .exit)) r ⌝ }
 {
     let mut positions = [0.0f64; mesh::POINT_NUMBERS];
     let mut textures = [0.0f64; mesh::TEXEL_NUMBERS];
@@ -78,7 +78,7 @@ fn read_in(
     out: &mut [u8],
 ) -> usize
     requires { ⌜ FileRoom (now positions) (now textures) (now normals) (now corners) (now sizes) (now out) ⌝ }
-    ensures { λ r. ⌜ Sheeted (printed (panelNumber [] (now (file .entry))) (panelMesh (now (file .entry)))) (now (out .entry)) (now (out .exit)) r ⌝ }
+    ensures { λ r. ⌜ Sheeted (printed (readingNumber [] (now (file .entry))) (panelMesh (now (file .entry)))) (now (out .entry)) (now (out .exit)) r ⌝ }
 {
     let panel = panelfile::read_panel(file, positions, textures, normals, corners, sizes);
     let number = panel.number;

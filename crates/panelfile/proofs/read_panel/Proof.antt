@@ -12,7 +12,7 @@ refused-requires : tie.Need-refused-requires
 refused-requires c κs = search needs
 
 returns : tie.Need-returns
-returns c = call-short _ _ _ _ _ _ (sym (c .before .before .is-short .ensures) ∙ c .before .if1 .taken) _ (c .refused .ensures)
+returns c = call-short _ _ (sym (c .before .before .is-short .ensures) ∙ c .before .if1 .taken) _ (c .refused .ensures)
 
 slice-aggregate-read-records : tie.Need-slice-aggregate-read-records
 slice-aggregate-read-records c = search needs
@@ -54,7 +54,10 @@ refused-requires-2 : tie.Need-refused-requires-2
 refused-requires-2 c κs = search needs
 
 returns-2 : tie.Need-returns-2
-returns-2 c = call-refused _ _ _ _ _ _ (sym (c .before .before .before .before .before .before .before .before .before .before .before .before .before .before .before .before .before .before .before .before .is-short .ensures) ∙ c .before .before .before .before .before .before .before .before .before .before .before .before .before .before .before .before .before .before .before .if1 .left) _ (c .before .if2 .taken) (c .before .before .number-at-end .ensures) _ (c .refused2 .ensures)
+returns-2 c =
+    let at-if2 = c .before in
+    let at-if1 = at-if2 .before .before .before .before .before .before .before .before .before .before .before .before .before .before .before .before .before .before in
+    call-refused _ _ (sym (at-if1 .before .is-short .ensures) ∙ at-if1 .if1 .left) _ (at-if2 .if2 .taken) (at-if2 .before .number-at-end .ensures) _ (c .refused2 .ensures)
 
 slice-aggregate-hand-over : tie.Need-slice-aggregate-hand-over
 slice-aggregate-hand-over c = search needs
@@ -72,7 +75,11 @@ slice-aggregate-hand-over-5 : tie.Need-slice-aggregate-hand-over-5
 slice-aggregate-hand-over-5 c = search needs
 
 hand-over-requires : tie.Need-hand-over-requires
-hand-over-requires c κs = (record { within = c .before .before .before .before .before .before .before .before .before .before .before .before .before .before .before .before .before .before .before .before .before .before .read-records .ensures .0; long = search needs; holds = c .before .before .before .before .before .before .before .before .before .before .before .before .before .before .before .before .before .before .before .before .before .before .read-records .ensures .1 }, not-short _ _ _ _ _ (sym (c .before .before .before .before .before .before .before .before .before .before .before .before .before .before .before .before .before .before .before .before .before .before .before .before .before .before .before .before .before .is-short .ensures) ∙ c .before .before .before .before .before .before .before .before .before .before .before .before .before .before .before .before .before .before .before .before .before .before .before .before .before .before .before .before .if1 .left))
+hand-over-requires c κs =
+    let on20 = c .before .before .before .before .before .before .before .before .before .before .before .before .before .before .before .before .before .before .before .before in
+    let at-read-records = on20 .before .before in
+    let at-if1 = at-read-records .before .before .before .before .before .before in
+    (record { within = at-read-records .read-records .ensures .0; long = search needs; holds = at-read-records .read-records .ensures .1 }, not-short _ _ _ _ _ (sym (at-if1 .before .is-short .ensures) ∙ at-if1 .if1 .left))
 
 same-length : tie.Need-same-length
 same-length c = search needs
@@ -90,7 +97,11 @@ same-length-5 : tie.Need-same-length-5
 same-length-5 c = search needs
 
 returns-3 : tie.Need-returns-3
-returns-3 c = call-done _ _ _ _ _ _ _ _ _ _ _ _ (sym (c .before .before .before .before .before .before .before .before .before .before .before .before .before .before .before .before .before .before .before .before .before .before .before .before .before .before .before .before .before .before .before .before .before .before .before .before .before .before .before .before .is-short .ensures) ∙ c .before .before .before .before .before .before .before .before .before .before .before .before .before .before .before .before .before .before .before .before .before .before .before .before .before .before .before .before .before .before .before .before .before .before .before .before .before .before .before .if1 .left) (sym (c .before .before .before .before .before .before .before .before .before .before .before .before .before .before .before .before .before .before .before .before .before .if2 .left) ∙ c .before .before .before .before .before .before .before .before .before .before .before .before .before .before .before .before .before .before .before .before .before .before .number-at-end .ensures) (c .before .before .before .before .before .before .before .before .before .before .hand-over .ensures)
+returns-3 c =
+    let at-hand-over = c .before .before .before .before .before .before .before .before .before .before in
+    let at-if2 = at-hand-over .before .before .before .before .before .before .before .before .before .before .before in
+    let at-if1 = at-if2 .before .before .before .before .before .before .before .before .before .before .before .before .before .before .before .before .before .before in
+    call-done _ _ _ _ (sym (at-if1 .before .is-short .ensures) ∙ at-if1 .if1 .left) (sym (at-if2 .if2 .left) ∙ at-if2 .before .number-at-end .ensures) (at-hand-over .hand-over .ensures)
 
 pub read-panel-spec : {M : Type 1} → statement M
 read-panel-spec =

@@ -22,28 +22,49 @@ slice-aggregate-put-coordinates : tie.Need-slice-aggregate-put-coordinates
 slice-aggregate-put-coordinates c = sym (front-positions _ _ _ _ _ _ _ (c .before .before .before .before .before .before .before .before .before .before .before .before .before .pre .0))
 
 put-coordinates-requires : tie.Need-put-coordinates-requires
-put-coordinates-requires c κs = omega (arith, front-positions _ _ _ _ _ _ _ (c .before .before .before .before .before .before .before .before .before .before .before .before .before .before .pre .0), c .before .before .before .before .before .before .before .before .before .before .before .before .before .before .pre .0 .within .positions, c .before .before .before .before .before .before .before .before .before .before .before .before .before .before .pre .1 .positions)
+put-coordinates-requires c κs =
+    let start = c .before .before .before .before .before .before .before .before .before .before .before .before .before .before in
+    omega (arith, front-positions _ _ _ _ _ _ _ (start .pre .0), start .pre .0 .within .positions, start .pre .1 .positions)
 
 slice-aggregate-put-coordinates-2 : tie.Need-slice-aggregate-put-coordinates-2
-slice-aggregate-put-coordinates-2 c = sym (front-textures _ _ _ _ _ _ _ (c .before .before .before .before .before .before .before .before .before .before .before .before .before .before .before .before .before .before .pre .0))
+slice-aggregate-put-coordinates-2 c =
+    let start = c .before .before .before .before .before .before .before .before .before .before .before .before .before .before .before .before .before .before in
+    sym (front-textures _ _ _ _ _ _ _ (start .pre .0))
 
 put-coordinates-requires-2 : tie.Need-put-coordinates-requires-2
-put-coordinates-requires-2 c κs = omega (arith, front-textures _ _ _ _ _ _ _ (c .before .before .before .before .before .before .before .before .before .before .before .before .before .before .before .before .before .before .before .pre .0), c .before .before .before .before .before .before .before .before .before .before .before .before .before .before .before .before .before .before .before .pre .0 .within .textures, c .before .before .before .before .before .before .before .before .before .before .before .before .before .before .before .before .before .before .before .pre .1 .textures)
+put-coordinates-requires-2 c κs =
+    let start = c .before .before .before .before .before .before .before .before .before .before .before .before .before .before .before .before .before .before .before in
+    omega (arith, front-textures _ _ _ _ _ _ _ (start .pre .0), start .pre .0 .within .textures, start .pre .1 .textures)
 
 slice-aggregate-put-coordinates-3 : tie.Need-slice-aggregate-put-coordinates-3
-slice-aggregate-put-coordinates-3 c = sym (front-normals _ _ _ _ _ _ _ (c .before .before .before .before .before .before .before .before .before .before .before .before .before .before .before .before .before .before .before .before .before .before .before .pre .0))
+slice-aggregate-put-coordinates-3 c =
+    let on20 = c .before .before .before .before .before .before .before .before .before .before .before .before .before .before .before .before .before .before .before .before in
+    let start = on20 .before .before .before in
+    sym (front-normals _ _ _ _ _ _ _ (start .pre .0))
 
 put-coordinates-requires-3 : tie.Need-put-coordinates-requires-3
-put-coordinates-requires-3 c κs = omega (arith, front-normals _ _ _ _ _ _ _ (c .before .before .before .before .before .before .before .before .before .before .before .before .before .before .before .before .before .before .before .before .before .before .before .before .pre .0), c .before .before .before .before .before .before .before .before .before .before .before .before .before .before .before .before .before .before .before .before .before .before .before .before .pre .0 .within .normals, c .before .before .before .before .before .before .before .before .before .before .before .before .before .before .before .before .before .before .before .before .before .before .before .before .pre .1 .normals)
+put-coordinates-requires-3 c κs =
+    let on20 = c .before .before .before .before .before .before .before .before .before .before .before .before .before .before .before .before .before .before .before .before in
+    let start = on20 .before .before .before .before in
+    omega (arith, front-normals _ _ _ _ _ _ _ (start .pre .0), start .pre .0 .within .normals, start .pre .1 .normals)
 
 slice-aggregate-push-all : tie.Need-slice-aggregate-push-all
-slice-aggregate-push-all c = sym (front-corners _ _ _ _ _ _ _ (c .before .before .before .before .before .before .before .before .before .before .before .before .before .before .before .before .before .before .before .before .before .before .before .before .before .before .before .before .pre .0))
+slice-aggregate-push-all c =
+    let on20 = c .before .before .before .before .before .before .before .before .before .before .before .before .before .before .before .before .before .before .before .before in
+    let start = on20 .before .before .before .before .before .before .before .before in
+    sym (front-corners _ _ _ _ _ _ _ (start .pre .0))
 
 slice-aggregate-push-all-2 : tie.Need-slice-aggregate-push-all-2
-slice-aggregate-push-all-2 c = sym (front-sizes _ _ _ _ _ _ _ (c .before .before .before .before .before .before .before .before .before .before .before .before .before .before .before .before .before .before .before .before .before .before .before .before .before .before .before .before .before .pre .0))
+slice-aggregate-push-all-2 c =
+    let on20 = c .before .before .before .before .before .before .before .before .before .before .before .before .before .before .before .before .before .before .before .before in
+    let start = on20 .before .before .before .before .before .before .before .before .before in
+    sym (front-sizes _ _ _ _ _ _ _ (start .pre .0))
 
 push-all-requires : tie.Need-push-all-requires
-push-all-requires c κs = (own-sound _ _ _ _ _ _ _ (c .before .before .before .before .before .before .before .before .before .before .before .before .before .before .before .before .before .before .before .before .before .before .before .before .before .before .before .before .before .before .before .pre .0), (omega (arith, front-corners _ _ _ _ _ _ _ (c .before .before .before .before .before .before .before .before .before .before .before .before .before .before .before .before .before .before .before .before .before .before .before .before .before .before .before .before .before .before .before .pre .0), c .before .before .before .before .before .before .before .before .before .before .before .before .before .before .before .before .before .before .before .before .before .before .before .before .before .before .before .before .before .before .before .pre .0 .within .corners, c .before .before .before .before .before .before .before .before .before .before .before .before .before .before .before .before .before .before .before .before .before .before .before .before .before .before .before .before .before .before .before .pre .1 .corners), omega (arith, front-sizes _ _ _ _ _ _ _ (c .before .before .before .before .before .before .before .before .before .before .before .before .before .before .before .before .before .before .before .before .before .before .before .before .before .before .before .before .before .before .before .pre .0), c .before .before .before .before .before .before .before .before .before .before .before .before .before .before .before .before .before .before .before .before .before .before .before .before .before .before .before .before .before .before .before .pre .0 .within .faces, c .before .before .before .before .before .before .before .before .before .before .before .before .before .before .before .before .before .before .before .before .before .before .before .before .before .before .before .before .before .before .before .pre .0 .within .corners, c .before .before .before .before .before .before .before .before .before .before .before .before .before .before .before .before .before .before .before .before .before .before .before .before .before .before .before .before .before .before .before .pre .1 .sizes)))
+push-all-requires c κs =
+    let on20 = c .before .before .before .before .before .before .before .before .before .before .before .before .before .before .before .before .before .before .before .before in
+    let start = on20 .before .before .before .before .before .before .before .before .before .before .before in
+    (own-sound _ _ _ _ _ _ _ (start .pre .0), (omega (arith, front-corners _ _ _ _ _ _ _ (start .pre .0), start .pre .0 .within .corners, start .pre .1 .corners), omega (arith, front-sizes _ _ _ _ _ _ _ (start .pre .0), start .pre .0 .within .faces, start .pre .0 .within .corners, start .pre .1 .sizes)))
 
 same-length : tie.Need-same-length
 same-length c = search needs
@@ -61,7 +82,13 @@ same-length-5 : tie.Need-same-length-5
 same-length-5 c = search needs
 
 returns : tie.Need-returns
-returns c = handed _ _ _ _ _ _ _ (c .before .before .before .before .before .before .before .before .before .before .before .before .before .before .before .before .before .before .before .before .before .before .before .before .before .before .before .before .before .before .before .before .before .before .before .before .pre .0) _ _ _ _ _ _ _ _ _ _ _ _ (c .before .before .before .before .before .before .before .before .before .before .before .before .before .before .before .before .before .before .before .before .before .put-coordinates .ensures) (c .before .before .before .before .before .before .before .before .before .before .before .before .before .before .before .before .put-coordinates2 .ensures) (c .before .before .before .before .before .before .before .before .before .before .before .put-coordinates3 .ensures) (c .before .before .before .before .push-all .ensures)
+returns c =
+    let at-push-all = c .before .before .before .before in
+    let at-put-coordinates3 = at-push-all .before .before .before .before .before .before .before in
+    let at-put-coordinates2 = at-put-coordinates3 .before .before .before .before .before in
+    let at-put-coordinates = at-put-coordinates2 .before .before .before .before .before in
+    let start = at-put-coordinates .before .before .before .before .before .before .before .before .before .before .before .before .before .before .before in
+    handed _ _ _ _ _ _ _ (start .pre .0) _ _ _ _ _ _ _ _ _ _ _ _ (at-put-coordinates .put-coordinates .ensures) (at-put-coordinates2 .put-coordinates2 .ensures) (at-put-coordinates3 .put-coordinates3 .ensures) (at-push-all .push-all .ensures)
 
 pub hand-over-spec : {M : Type 1} → statement M
 hand-over-spec =

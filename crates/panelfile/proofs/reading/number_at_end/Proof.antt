@@ -36,16 +36,28 @@ slice-aggregate-astray-4 : tie.Need-slice-aggregate-astray-4
 slice-aggregate-astray-4 c = sym (front-corners _ _ _ _ _ _ _ (c .before .before .before .before .before .before .before .before .before .before .before .before .before .before .before .before .pre))
 
 slice-aggregate-astray-5 : tie.Need-slice-aggregate-astray-5
-slice-aggregate-astray-5 c = sym (front-sizes _ _ _ _ _ _ _ (c .before .before .before .before .before .before .before .before .before .before .before .before .before .before .before .before .before .pre))
+slice-aggregate-astray-5 c =
+    let start = c .before .before .before .before .before .before .before .before .before .before .before .before .before .before .before .before .before in
+    sym (front-sizes _ _ _ _ _ _ _ (start .pre))
 
 astray-requires : tie.Need-astray-requires
-astray-requires c κs = omega (arith, front-corners _ _ _ _ _ _ _ (c .before .before .before .before .before .before .before .before .before .before .before .before .before .before .before .before .before .pre))
+astray-requires c κs =
+    let start = c .before .before .before .before .before .before .before .before .before .before .before .before .before .before .before .before .before in
+    omega (arith, front-corners _ _ _ _ _ _ _ (start .pre))
 
 returns-3 : tie.Need-returns-3
-returns-3 c = end-astray _ _ _ _ _ _ _ (c .before .before .before .before .before .before .before .before .before .before .before .before .before .before .before .before .before .before .before .pre) (c .before .before .before .before .before .before .before .before .if1 .left) (c .before .before .before .before .before .before .before .if2 .left) (sym (own-astray _ _ _ _ _ _ _ (c .before .before .before .before .before .before .before .before .before .before .before .before .before .before .before .before .before .before .before .pre)) ∙ sym (c .before .astray .ensures) ∙ c .if3 .taken)
+returns-3 c =
+    let at-astray = c .before in
+    let at-if2 = at-astray .before .before .before .before .before .before in
+    let start = at-if2 .before .before .before .before .before .before .before .before .before .before .before .before in
+    end-astray _ _ _ _ _ _ _ (start .pre) (at-if2 .before .if1 .left) (at-if2 .if2 .left) (sym (own-astray _ _ _ _ _ _ _ (start .pre)) ∙ sym (at-astray .astray .ensures) ∙ c .if3 .taken)
 
 returns-4 : tie.Need-returns-4
-returns-4 c = end-well _ _ _ _ _ _ _ (c .before .before .before .before .before .before .before .before .before .before .before .before .before .before .before .before .before .before .before .pre) (c .before .before .before .before .before .before .before .before .if1 .left) (c .before .before .before .before .before .before .before .if2 .left) (sym (own-astray _ _ _ _ _ _ _ (c .before .before .before .before .before .before .before .before .before .before .before .before .before .before .before .before .before .before .before .pre)) ∙ sym (c .before .astray .ensures) ∙ c .if3 .left)
+returns-4 c =
+    let at-astray = c .before in
+    let at-if2 = at-astray .before .before .before .before .before .before in
+    let start = at-if2 .before .before .before .before .before .before .before .before .before .before .before .before in
+    end-well _ _ _ _ _ _ _ (start .pre) (at-if2 .before .if1 .left) (at-if2 .if2 .left) (sym (own-astray _ _ _ _ _ _ _ (start .pre)) ∙ sym (at-astray .astray .ensures) ∙ c .if3 .left)
 
 pub number-at-end-spec : {M : Type 1} → statement M
 number-at-end-spec =

@@ -16,13 +16,18 @@ loop-holds : tie.Need-loop-holds Inv-loop μ-loop
 loop-holds c = reading-begins _ _ _ _ _ _ (c .before .before .before .before .before .before .pre)
 
 step-requires : tie.Need-step-requires Inv-loop μ-loop
-step-requires c κs = (c .before .before .before .before .before .before .loop .inv .within, (unrefused (c .before .before .before .before .before .before .loop .x) (sym (c .before .before .before .before .before .before .loop .inv .flag) ∙ c .before .before .before .before .before .loop-test .taken), (unended (c .before .before .before .before .before .before .loop .x) (sym (c .before .before .before .before .before .before .loop .inv .flag) ∙ c .before .before .before .before .before .loop-test .taken), c .before .before .before .before .before .before .loop .inv .long)))
+step-requires c κs =
+    let at-loop-test = c .before .before .before .before .before in
+    (at-loop-test .before .loop .inv .within, (unrefused (at-loop-test .before .loop .x) (sym (at-loop-test .before .loop .inv .flag) ∙ at-loop-test .loop-test .taken), (unended (at-loop-test .before .loop .x) (sym (at-loop-test .before .loop .inv .flag) ∙ at-loop-test .loop-test .taken), at-loop-test .before .loop .inv .long)))
 
 goes-on-requires : tie.Need-goes-on-requires Inv-loop μ-loop
 goes-on-requires c κs = search needs
 
 loop-less : tie.Need-loop-less Inv-loop μ-loop
-loop-less c = reading-falls _ (c .before .before .before .before .before .before .before .before .before .before .before .before .before .before .before .before .before .before .loop .x) (c .before .before .before .before .before .before .before .before .before .before .before .step .result) (c .before .before .before .before .before .before .before .before .before .before .before .before .before .before .before .before .before .before .loop .go) (c .goes-on .result) (c .before .before .before .before .before .before .before .before .before .before .before .before .before .before .before .before .before .loop-test .taken) (c .before .before .before .before .before .before .before .before .before .before .before .step .ensures .within .place) (c .goes-on .ensures) (c .before .before .before .before .before .before .before .before .before .before .before .step .ensures .moved)
+loop-less c =
+    let at-step = c .before .before .before .before .before .before .before .before .before .before .before in
+    let at-loop-test = at-step .before .before .before .before .before .before in
+    reading-falls _ (at-loop-test .before .loop .x) (at-step .step .result) (at-loop-test .before .loop .go) (c .goes-on .result) (at-loop-test .loop-test .taken) (at-step .step .ensures .within .place) (c .goes-on .ensures) (at-step .step .ensures .moved)
 
 loop-again : tie.Need-loop-again Inv-loop μ-loop
 loop-again c =

@@ -3,9 +3,9 @@ use Rattle.panelfile.proofs.Stepping.{stepped-at, after-position, posit
 use mathlib.Core.Path.{subst}
 use Prim.Native.Nat.{_≤_}
 use lib.ListN.{length}
-use Rattle.panelfile.specs.declared.Record.{Record}
-use Rattle.panelfile.specs.Working.{endOf}
-use Rattle.panelfile.proofs.Fitting.{able}
+use Rattle.records.specs.declared.Record.{Record}
+use Rattle.records.specs.Records.{endOf}
+use Rattle.panelfile.proofs.Taking.{able}
 use native.Mathlib.Omega.{arith}
 use borrow.Author.Needs.{needs}
 use Rattle.panelfile.proofs.steps.step.Statement.{statement}
@@ -18,7 +18,10 @@ enum-known-r : tie.Need-enum-known-r
 enum-known-r c = search needs
 
 step-texture-requires : tie.Need-step-texture-requires
-step-texture-requires c κs = (able _ _ _ (c .before .before .before .before .before .before .before .before .before .before .before .before .pre .0) (c .before .before .before .before .before .before .before .before .before .before .before .before .pre .1 .0) (c .before .before .before .before .before .before .before .before .before .before .before .before .pre .1 .1 .0) (c .before .before .before .before .before .record-at .ensures), (after-position (c .before .before .before .before .before .record-at .result) (c .before .before .before .before .match .keys2), (c .before .before .before .before .before .before .before .before .before .before .before .before .pre .1 .1 .1 .textures, (c .before .before .before .before .before .before .before .before .before .before .before .before .pre .1 .1 .1 .normals, (c .before .before .before .before .before .before .before .before .before .before .before .before .pre .1 .1 .1 .corners, c .before .before .before .before .before .before .before .before .before .before .before .before .pre .1 .1 .1 .sizes)))))
+step-texture-requires c κs =
+    let at-match = c .before .before .before .before in
+    let start = at-match .before .before .before .before .before .before .before .before in
+    (able _ _ _ (start .pre .0) (start .pre .1 .0) (start .pre .1 .1 .0) (at-match .before .record-at .ensures), (after-position (at-match .before .record-at .result) (at-match .match .keys2), (start .pre .1 .1 .1 .textures, (start .pre .1 .1 .1 .normals, (start .pre .1 .1 .1 .corners, start .pre .1 .1 .1 .sizes)))))
 
 same-length : tie.Need-same-length
 same-length c = search needs
@@ -33,19 +36,31 @@ same-length-4 : tie.Need-same-length-4
 same-length-4 c = search needs
 
 returns : tie.Need-returns
-returns c = stepped-at _ _ _ _ _ _ _ _ _ _ _ _ _ _ _ (c .before .before .before .before .before .before .before .before .before .before .before .before .before .before .record-at .ensures) (c .before .before .before .before .before .before .before .before .step-texture .ensures _)
+returns c =
+    let at-step-texture = c .before .before .before .before .before .before .before .before in
+    let at-record-at = at-step-texture .before .before .before .before .before .before in
+    stepped-at _ _ _ _ _ _ _ _ _ _ _ _ _ _ _ (at-record-at .record-at .ensures) (at-step-texture .step-texture .ensures _)
 
 refused-requires : tie.Need-refused-requires
 refused-requires c κs = search needs
 
 returns-2 : tie.Need-returns-2
-returns-2 c = stepped-at _ _ _ _ _ _ _ _ _ _ _ _ _ _ _ (c .before .before .before .before .before .record-at .ensures) (position-stop _ _ _ _ _ _ _ _ (able _ _ _ (c .before .before .before .before .before .before .before .before .before .before .before .before .pre .0) (c .before .before .before .before .before .before .before .before .before .before .before .before .pre .1 .0) (c .before .before .before .before .before .before .before .before .before .before .before .before .pre .1 .1 .0) (c .before .before .before .before .before .record-at .ensures)) _ (c .before .before .before .r .given .1) (c .before .before .before .before .before .before .before .before .before .before .before .before .pre .1 .1 .1 .positions) (c .before .if1 .taken) _ (c .refused .ensures))
+returns-2 c =
+    let at-if1 = c .before in
+    let at-r = at-if1 .before .before in
+    let at-record-at = at-r .before .before in
+    let start = at-record-at .before .before .before .before .before .before .before in
+    stepped-at _ _ _ _ _ _ _ _ _ _ _ _ _ _ _ (at-record-at .record-at .ensures) (position-stop _ _ _ _ _ _ _ _ (able _ _ _ (start .pre .0) (start .pre .1 .0) (start .pre .1 .1 .0) (at-record-at .record-at .ensures)) _ (at-r .r .given .1) (start .pre .1 .1 .1 .positions) (at-if1 .if1 .taken) _ (c .refused .ensures))
 
 put-point-requires : tie.Need-put-point-requires
 put-point-requires c κs = omega (arith, c .before .before .before .before .before .before .before .before .before .before .before .before .pre .1 .1 .1 .positions, c .before .if1 .left)
 
 add-next : tie.Need-add-next
-add-next c = omega (arith, subst (λ (r : Record). endOf ((c .before .before .before .before .before .before .before .before .before .before .before .before .before .before .before .args .x) .at) r ≤ length (c .before .before .before .before .before .before .before .before .before .before .before .before .before .before .before .args .file .now)) (c .before .before .before .before .before .before .r .given .1) (able _ _ _ (c .before .before .before .before .before .before .before .before .before .before .before .before .before .before .before .pre .0) (c .before .before .before .before .before .before .before .before .before .before .before .before .before .before .before .pre .1 .0) (c .before .before .before .before .before .before .before .before .before .before .before .before .before .before .before .pre .1 .1 .0) (c .before .before .before .before .before .before .before .before .record-at .ensures) .fits))
+add-next c =
+    let at-r = c .before .before .before .before .before .before in
+    let at-record-at = at-r .before .before in
+    let start = at-record-at .before .before .before .before .before .before .before in
+    omega (arith, subst (λ (r : Record). endOf ((start .args .x) .at) r ≤ length (start .args .file .now)) (at-r .r .given .1) (able _ _ _ (start .pre .0) (start .pre .1 .0) (start .pre .1 .1 .0) (at-record-at .record-at .ensures) .fits))
 
 add-more : tie.Need-add-more
 add-more c = search needs
@@ -54,7 +69,13 @@ same-length-5 : tie.Need-same-length-5
 same-length-5 c = search needs
 
 returns-3 : tie.Need-returns-3
-returns-3 c = stepped-at _ _ _ _ _ _ _ _ _ _ _ _ _ _ _ (c .before .before .before .before .before .before .before .before .record-at .ensures) (position-step _ _ _ _ _ _ _ _ (able _ _ _ (c .before .before .before .before .before .before .before .before .before .before .before .before .before .before .before .pre .0) (c .before .before .before .before .before .before .before .before .before .before .before .before .before .before .before .pre .1 .0) (c .before .before .before .before .before .before .before .before .before .before .before .before .before .before .before .pre .1 .1 .0) (c .before .before .before .before .before .before .before .before .record-at .ensures)) _ (c .before .before .before .before .before .before .r .given .1) (c .before .before .before .before .before .before .before .before .before .before .before .before .before .before .before .pre .1 .1 .1 .positions) (c .before .before .before .before .if1 .left) _ (c .before .before .put-point .ensures))
+returns-3 c =
+    let at-put-point = c .before .before in
+    let at-if1 = at-put-point .before .before in
+    let at-r = at-if1 .before .before in
+    let at-record-at = at-r .before .before in
+    let start = at-record-at .before .before .before .before .before .before .before in
+    stepped-at _ _ _ _ _ _ _ _ _ _ _ _ _ _ _ (at-record-at .record-at .ensures) (position-step _ _ _ _ _ _ _ _ (able _ _ _ (start .pre .0) (start .pre .1 .0) (start .pre .1 .1 .0) (at-record-at .record-at .ensures)) _ (at-r .r .given .1) (start .pre .1 .1 .1 .positions) (at-if1 .if1 .left) _ (at-put-point .put-point .ensures))
 
 pub step-spec : {M : Type 1} → statement M
 step-spec =

@@ -1,8 +1,8 @@
 -- `panelfile::steps::step_end` meets its contract: the end record ends the reading, and what is left is a refusal, which stops it with its number. Assumes nothing.
 use mathlib.Core.Path.{subst}
 use Prim.Native.Nat.{_+_, _≤_}
-use Rattle.panelfile.specs.declared.Record.{Record}
-use Rattle.panelfile.specs.Working.{endOf}
+use Rattle.records.specs.declared.Record.{Record}
+use Rattle.records.specs.Records.{endOf}
 use Rattle.panelfile.proofs.Stepping.{end-step, refusal-step}
 use native.Mathlib.Omega.{arith}
 use borrow.Author.Needs.{needs}
@@ -19,7 +19,10 @@ refused-requires : tie.Need-refused-requires
 refused-requires c κs = search needs
 
 returns : tie.Need-returns
-returns c = λ file p t n c' s l. refusal-step file _ _ p t n c' s _ _ _ (c .before .before .before .pre .0) (c .before .before .before .pre .1) (c .before .before .match .keys2) (c .before .number-of .ensures) (c .refused .ensures) l
+returns c =
+    let at-number-of = c .before in
+    let start = at-number-of .before .before in
+    λ file p t n c' s l. refusal-step file _ _ p t n c' s _ _ _ (start .pre .0) (start .pre .1) (at-number-of .before .match .keys2) (at-number-of .number-of .ensures) (c .refused .ensures) l
 
 add-next : tie.Need-add-next
 add-next c =

@@ -2,8 +2,8 @@
 use mathlib.Core.Path.{refl, subst}
 use Prim.Native.Nat.{_≤_}
 use lib.ListN.{length}
-use Rattle.panelfile.specs.declared.Record.{Record}
-use Rattle.panelfile.specs.Working.{endOf, Placed}
+use Rattle.records.specs.declared.Record.{Record}
+use Rattle.records.specs.Records.{endOf, Placed}
 use Rattle.panelfile.proofs.Stepping.{after-face, face-drop, face-stop, face-step}
 use native.Mathlib.Omega.{arith}
 use borrow.Author.Needs.{needs}
@@ -26,10 +26,16 @@ mul-next : tie.Need-mul-next
 mul-next c = search needs
 
 add-next : tie.Need-add-next
-add-next c = omega (arith, subst (λ (r : Record). endOf ((c .before .before .before .before .before .before .args .x) .at) r ≤ length (c .before .before .before .before .before .before .args .file .now)) (c .before .r .given .1) (c .before .before .before .before .before .before .pre .0 .fits))
+add-next c =
+    let at-r = c .before in
+    let start = at-r .before .before .before .before .before in
+    omega (arith, subst (λ (r : Record). endOf ((start .args .x) .at) r ≤ length (start .args .file .now)) (at-r .r .given .1) (start .pre .0 .fits))
 
 add-more : tie.Need-add-more
-add-more c = omega (arith, c .before .before .before .before .before .before .pre .0 .within .corners, subst (λ (r : Record). Placed ((c .before .before .before .before .before .before .args .x) .at) r) (c .before .r .given .1) (c .before .before .before .before .before .before .pre .0 .placed) .1)
+add-more c =
+    let at-r = c .before in
+    let start = at-r .before .before .before .before .before in
+    omega (arith, start .pre .0 .within .corners, subst (λ (r : Record). Placed ((start .args .x) .at) r) (at-r .r .given .1) (start .pre .0 .placed) .1)
 
 returns-2 : tie.Need-returns-2
 returns-2 c = λ p t n. face-drop _ _ _ p t n _ _ (c .before .before .before .before .before .before .before .pre .0) _ _ (c .before .before .r .given .1) (c .if1 .taken)
@@ -38,19 +44,32 @@ refused-requires : tie.Need-refused-requires
 refused-requires c κs = search needs
 
 returns-3 : tie.Need-returns-3
-returns-3 c = λ p t n. face-stop _ _ _ p t n _ _ (c .before .before .before .before .before .before .before .before .before .pre .0) _ _ (c .before .before .before .before .r .given .1) (c .before .before .if1 .left) (c .before .if2 .taken) _ (c .refused .ensures)
+returns-3 c =
+    let at-if2 = c .before in
+    let at-r = at-if2 .before .before .before in
+    let start = at-r .before .before .before .before .before in
+    λ p t n. face-stop _ _ _ p t n _ _ (start .pre .0) _ _ (at-r .r .given .1) (at-if2 .before .if1 .left) (at-if2 .if2 .taken) _ (c .refused .ensures)
 
 put-ring-requires : tie.Need-put-ring-requires
-put-ring-requires c κs = (subst (λ (r : Record). endOf ((c .before .before .before .before .before .before .before .before .before .args .x) .at) r ≤ length (c .before .before .before .before .before .before .before .before .before .args .file .now)) (c .before .before .before .before .r .given .1) (c .before .before .before .before .before .before .before .before .before .pre .0 .fits), omega (arith, c .before .before .before .before .before .before .before .before .before .pre .1 .1 .0, c .before .if2 .left))
+put-ring-requires c κs =
+    let at-if2 = c .before in
+    let at-r = at-if2 .before .before .before in
+    let start = at-r .before .before .before .before .before in
+    (subst (λ (r : Record). endOf ((start .args .x) .at) r ≤ length (start .args .file .now)) (at-r .r .given .1) (start .pre .0 .fits), omega (arith, start .pre .1 .1 .0, at-if2 .if2 .left))
 
 mul-sizes : tie.Need-mul-sizes
 mul-sizes c = search needs
 
 slice-write-sizes : tie.Need-slice-write-sizes
-slice-write-sizes c = omega (arith, c .before .before .before .before .before .before .before .before .before .before .before .before .pre .1 .1 .1, c .before .before .before .before .before .before .before .before .before .before .before .before .pre .0 .within .faces, c .before .before .before .before .before .if1 .left, c .before .before .before .before .if2 .left)
+slice-write-sizes c =
+    let at-if2 = c .before .before .before .before in
+    let start = at-if2 .before .before .before .before .before .before .before .before in
+    omega (arith, start .pre .1 .1 .1, start .pre .0 .within .faces, at-if2 .before .if1 .left, at-if2 .if2 .left)
 
 add-faces : tie.Need-add-faces
-add-faces c = omega (arith, c .before .before .before .before .before .before .before .before .before .before .before .before .pre .0 .within .faces, c .before .before .before .before .before .before .before .before .before .before .before .before .pre .0 .within .corners)
+add-faces c =
+    let start = c .before .before .before .before .before .before .before .before .before .before .before .before in
+    omega (arith, start .pre .0 .within .faces, start .pre .0 .within .corners)
 
 same-length : tie.Need-same-length
 same-length c = search needs
@@ -59,7 +78,12 @@ same-length-2 : tie.Need-same-length-2
 same-length-2 c = search needs
 
 returns-4 : tie.Need-returns-4
-returns-4 c = λ p t n. face-step _ _ _ p t n _ _ (c .before .before .before .before .before .before .before .before .before .before .before .before .pre .0) _ _ (c .before .before .before .before .before .before .before .r .given .1) (c .before .before .before .before .before .if1 .left) (c .before .before .before .before .if2 .left) (c .before .before .before .before .before .before .before .before .before .before .before .before .pre .1 .1 .0) (c .before .before .before .before .before .before .before .before .before .before .before .before .pre .1 .1 .1) _ (c .before .before .put-ring .ensures)
+returns-4 c =
+    let at-put-ring = c .before .before in
+    let at-if2 = at-put-ring .before .before in
+    let at-r = at-if2 .before .before .before in
+    let start = at-r .before .before .before .before .before in
+    λ p t n. face-step _ _ _ p t n _ _ (start .pre .0) _ _ (at-r .r .given .1) (at-if2 .before .if1 .left) (at-if2 .if2 .left) (start .pre .1 .1 .0) (start .pre .1 .1 .1) _ (at-put-ring .put-ring .ensures)
 
 pub step-face-spec : {M : Type 1} → statement M
 step-face-spec =

@@ -2,8 +2,8 @@
 use mathlib.Core.Path.{subst}
 use Prim.Native.Nat.{_≤_}
 use lib.ListN.{length, length-set}
-use Rattle.panelfile.specs.declared.Record.{Record}
-use Rattle.panelfile.specs.Working.{endOf}
+use Rattle.records.specs.declared.Record.{Record}
+use Rattle.records.specs.Records.{endOf}
 use Rattle.panelfile.proofs.Stepping.{after-texture, texture-stop, texture-step}
 use native.Mathlib.Omega.{arith}
 use borrow.Author.Needs.{needs}
@@ -14,7 +14,10 @@ enum-known-r : tie.Need-enum-known-r
 enum-known-r c = search needs
 
 step-normal-requires : tie.Need-step-normal-requires
-step-normal-requires c κs = (c .before .before .before .before .before .before .before .before .before .pre .0, (after-texture (c .before .before .before .before .before .before .before .before .before .args .r) (c .before .before .before .before .before .before .before .before .before .pre .1 .0) (c .before .before .before .match .keys2), c .before .before .before .before .before .before .before .before .before .pre .1 .1 .1))
+step-normal-requires c κs =
+    let at-match = c .before .before .before in
+    let start = at-match .before .before .before .before .before .before in
+    (start .pre .0, (after-texture (start .args .r) (start .pre .1 .0) (at-match .match .keys2), start .pre .1 .1 .1))
 
 same-length : tie.Need-same-length
 same-length c = search needs
@@ -32,7 +35,11 @@ refused-requires : tie.Need-refused-requires
 refused-requires c κs = search needs
 
 returns-2 : tie.Need-returns-2
-returns-2 c = λ p. texture-stop _ _ _ p _ _ _ _ (c .before .before .before .before .before .before .before .before .before .before .pre .0) _ (c .before .before .before .r .given .1) (c .before .before .before .before .before .before .before .before .before .before .pre .1 .1 .0) (c .before .if1 .taken) _ (c .refused .ensures)
+returns-2 c =
+    let at-if1 = c .before in
+    let at-r = at-if1 .before .before in
+    let start = at-r .before .before .before .before .before .before .before in
+    λ p. texture-stop _ _ _ p _ _ _ _ (start .pre .0) _ (at-r .r .given .1) (start .pre .1 .1 .0) (at-if1 .if1 .taken) _ (c .refused .ensures)
 
 mul-b : tie.Need-mul-b
 mul-b c = search needs
@@ -53,7 +60,10 @@ slice-write-textures-2 : tie.Need-slice-write-textures-2
 slice-write-textures-2 c = simp length-set (omega (arith, c .before .before .before .before .before .before .before .before .before .pre .1 .1 .0, c .if1 .left))
 
 add-next : tie.Need-add-next
-add-next c = omega (arith, subst (λ (r : Record). endOf ((c .before .before .before .before .before .before .before .before .before .args .x) .at) r ≤ length (c .before .before .before .before .before .before .before .before .before .args .file .now)) (c .before .before .r .given .1) (c .before .before .before .before .before .before .before .before .before .pre .0 .fits))
+add-next c =
+    let at-r = c .before .before in
+    let start = at-r .before .before .before .before .before .before .before in
+    omega (arith, subst (λ (r : Record). endOf ((start .args .x) .at) r ≤ length (start .args .file .now)) (at-r .r .given .1) (start .pre .0 .fits))
 
 add-more : tie.Need-add-more
 add-more c = search needs
@@ -62,7 +72,10 @@ same-length-4 : tie.Need-same-length-4
 same-length-4 c = search needs
 
 returns-3 : tie.Need-returns-3
-returns-3 c = λ p. texture-step _ _ _ p _ _ _ _ (c .before .before .before .before .before .before .before .before .before .pre .0) _ (c .before .before .r .given .1) (c .before .before .before .before .before .before .before .before .before .pre .1 .1 .0) (c .if1 .left)
+returns-3 c =
+    let at-r = c .before .before in
+    let start = at-r .before .before .before .before .before .before .before in
+    λ p. texture-step _ _ _ p _ _ _ _ (start .pre .0) _ (at-r .r .given .1) (start .pre .1 .1 .0) (c .if1 .left)
 
 pub step-texture-spec : {M : Type 1} → statement M
 step-texture-spec =

@@ -1,0 +1,67 @@
+-- A record stands within the file: where it ends, and what a refusal and a face are. Assumes nothing.
+use mathlib.Core.Path.{_≡_, refl}
+use mathlib.Core.Bool.{true, false, not}
+use mathlib.Core.List.{List, [], _∷_}
+use Prim.Native.Nat.{ℕ, zero, suc, _+_, _*_, _-_, _≤_}
+use native.Mathlib.Omega.{arith}
+use lib.ListN.{length}
+use lib.Dec.{ltb, eqb}
+use borrow.Author.Tests.{ltb-false, not-false, eqb-true}
+use Rattle.mesh.specs.Limits.{ringLimit}
+use Rattle.mesh.specs.Table.{when, firstOf}
+use Rattle.mesh.proofs.Numbers.{first-head, first-tail, when-not}
+use Rattle.records.specs.declared.Record.{Record}
+use Rattle.records.specs.declared.Record.the-variants.{Face, Refused}
+use Rattle.little.specs.Little.{byte, half}
+use Rattle.records.specs.Records.{endOf, Placed, lengthFits, unless, faceFrom, bodyFrom, recordFrom}
+
+-- an answer at a place of a file of that size
+pub record Fitted (size at : ℕ) (r : Record) : Type 0 where
+  pub fits : endOf at r ≤ size
+  pub placed : Placed at r
+
+-- a refusal fits, and what is not refused fits where nothing is given
+refused-fits : (size at k : ℕ) → at ≤ size → Fitted size at (Refused (suc k))
+refused-fits size at k h = record { fits = h; placed = λ e. let z : suc k ≡ 0 = e in omega arith }
+
+unless-fits : (size at k : ℕ) (r : Record) → at ≤ size → (k ≡ 0 → Fitted size at r) → Fitted size at (unless k r)
+unless-fits size at zero r h f = f refl
+unless-fits size at (suc k) r h f = refused-fits size at k h
+
+face-fits : (s : List ℕ) (at n : ℕ) → at ≤ length s → at + 4 + n ≤ length s → Fitted (length s) at (faceFrom s (at + 4) n)
+unfolding faceFrom
+face-fits s at n h l =
+    let b = at + 4 in
+    let c = byte s b in
+    let other = when (ltb ringLimit c) 3 ∷ [] in
+    unless-fits (length s) at (firstOf (when (not (eqb (1 + 12 * c) n)) 12 ∷ other)) (Face (b + 1) c) h
+    (λ e.
+    let i : 1 + 12 * c ≡ n = eqb-true (1 + 12 * c) n (not-false (eqb (1 + 12 * c) n) (when-not (not (eqb (1 + 12 * c) n)) 11 (first-head (when (not (eqb (1 + 12 * c) n)) 12) other e))) in
+    let j : c ≤ ringLimit = ltb-false ringLimit c (when-not (ltb ringLimit c) 2 (first-head (when (ltb ringLimit c) 3) [] (first-tail (when (not (eqb (1 + 12 * c) n)) 12) other e))) in
+    record { fits = omega arith; placed = (omega arith, j) })
+
+body-fits : (s : List ℕ) (at n k : ℕ) → at ≤ length s → at + 4 + n ≤ length s → lengthFits k n ≡ true → Fitted (length s) at (bodyFrom s (at + 4) n k)
+unfolding bodyFrom lengthFits
+body-fits s at n zero h l e = record { fits = omega arith; placed = tt }
+body-fits s at n (suc zero) h l e = record { fits = let i : n ≡ 24 = eqb-true n 24 e in omega arith; placed = tt }
+body-fits s at n (suc (suc zero)) h l e = record { fits = let i : n ≡ 16 = eqb-true n 16 e in omega arith; placed = tt }
+body-fits s at n (suc (suc (suc zero))) h l e = record { fits = let i : n ≡ 24 = eqb-true n 24 e in omega arith; placed = tt }
+body-fits s at n (suc (suc (suc (suc k)))) h l e = face-fits s at n h l
+
+pub record-fits : (s : List ℕ) (at : ℕ) → at ≤ length s → Fitted (length s) at (recordFrom s at)
+unfolding recordFrom
+record-fits s at h =
+    let n = half s at in
+    let k = half s (at + 2) in
+    let a = when (ltb (length s - at) 4) 11 in
+    let b = when (ltb 4 k) 12 in
+    let c = when (not (lengthFits k n)) 12 in
+    let d = when (ltb (length s - (at + 4)) n) 11 in
+    unless-fits (length s) at (firstOf (a ∷ b ∷ c ∷ d ∷ [])) (bodyFrom s (at + 4) n k) h
+    (λ e.
+    let e1 = first-tail a (b ∷ c ∷ d ∷ []) e in
+    let e2 = first-tail b (c ∷ d ∷ []) e1 in
+    let e3 = first-tail c (d ∷ []) e2 in
+    let i : 4 ≤ length s - at = ltb-false (length s - at) 4 (when-not (ltb (length s - at) 4) 10 (first-head a (b ∷ c ∷ d ∷ []) e)) in
+    let j : n ≤ length s - (at + 4) = ltb-false (length s - (at + 4)) n (when-not (ltb (length s - (at + 4)) n) 10 (first-head d [] e3)) in
+    body-fits s at n k h (omega arith) (not-false (lengthFits k n) (when-not (not (lengthFits k n)) 11 (first-head c (d ∷ []) e2))))

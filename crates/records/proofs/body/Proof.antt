@@ -1,0 +1,64 @@
+-- `records::body` meets its contract: kind by kind; the length says that the body's bytes are there. Assumes nothing.
+use mathlib.Core.Path.{ap, _∙_, refl}
+use Rattle.records.specs.declared.Record.the-variants.{Position, Texture, Normal}
+use Rattle.records.specs.Records.{bodyFrom, lengthFits}
+use Rattle.records.proofs.Recorded.{body-is, a-face, body-face}
+use native.Mathlib.Omega.{arith}
+use Rattle.records.proofs.body.Statement.{statement}
+use Rattle.records.proofs.body.Tie as tie
+
+returns : tie.Need-returns
+unfolding bodyFrom
+returns c = rw (c .if1 .taken)
+
+point-from-requires : tie.Need-point-from-requires
+unfolding lengthFits
+point-from-requires c κs = omega (arith, c .before .before .before .pre .1 .0, body-is _ 1 _ 24 (c .if2 .taken) refl (c .before .before .before .pre .1 .1))
+
+returns-2 : tie.Need-returns-2
+unfolding bodyFrom
+returns-2 c = rw (c .before .if2 .taken) (ap Position (c .point-from .ensures))
+
+texel-from-requires : tie.Need-texel-from-requires
+unfolding lengthFits
+texel-from-requires c κs = omega (arith, c .before .before .before .before .pre .1 .0, body-is _ 2 _ 16 (c .if3 .taken) refl (c .before .before .before .before .pre .1 .1))
+
+returns-3 : tie.Need-returns-3
+unfolding bodyFrom
+returns-3 c = rw (c .before .if3 .taken) (ap Texture (c .texel-from .ensures))
+
+point-from-requires-2 : tie.Need-point-from-requires-2
+unfolding lengthFits
+point-from-requires-2 c κs = omega (arith, c .before .before .before .before .before .pre .1 .0, body-is _ 3 _ 24 (c .if4 .taken) refl (c .before .before .before .before .before .pre .1 .1))
+
+returns-4 : tie.Need-returns-4
+unfolding bodyFrom
+returns-4 c = rw (c .before .if4 .taken) (ap Normal (c .point-from2 .ensures))
+
+face-requires : tie.Need-face-requires
+face-requires c κs =
+    let at-if3 = c .before in
+    let at-if1 = at-if3 .before .before in
+    let start = at-if1 .before .before in
+    (a-face _ _ (start .pre .0) (at-if1 .if1 .left) (at-if3 .before .if2 .left) (at-if3 .if3 .left) (c .if4 .left) (start .pre .1 .1), start .pre .1 .0)
+
+returns-5 : tie.Need-returns-5
+returns-5 c =
+    let at-if4 = c .before in
+    let at-if2 = at-if4 .before .before in
+    let start = at-if2 .before .before .before in
+    c .face .ensures ∙ body-face _ _ _ _ (start .pre .0) (at-if2 .before .if1 .left) (at-if2 .if2 .left) (at-if4 .before .if3 .left) (at-if4 .if4 .left)
+
+pub body-spec : {M : Type 1} → statement M
+body-spec =
+    tie.close
+    (tie.spec
+    returns
+    point-from-requires
+    returns-2
+    texel-from-requires
+    returns-3
+    point-from-requires-2
+    returns-4
+    face-requires
+    returns-5)

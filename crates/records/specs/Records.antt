@@ -1,0 +1,103 @@
+-- One record of the panel file (added), as document 01, 'The panel file and the sheet', has it. Assumes nothing.
+use Prim.Native.Nat.{ℕ, zero, suc, _+_, _*_, _-_, _%_, _≤_, _<_}
+use mathlib.Core.Path.{_≡_}
+use mathlib.Core.Bool.{Bool, not, _&&_}
+use mathlib.Core.List.{List, [], _∷_}
+use lib.ListN.{length}
+use lib.Dec.{ltb, leb, eqb}
+use lib.Ieee.{Float, ofBits, binary64}
+use Rattle.little.specs.Little.{byte, half, word, long}
+use Rattle.mesh.specs.Limits.{ringLimit}
+use Rattle.mesh.specs.Mesh.{Ring}
+use Rattle.mesh.specs.Table.{when, firstOf}
+use Rattle.floating.specs.declared.Point.{Point}
+use Rattle.floating.specs.declared.Texel.{Texel}
+use Rattle.floating.specs.Points.{point, texel, coordinates}
+use Rattle.records.specs.declared.Record.{Record}
+use Rattle.records.specs.declared.Record.the-variants.{Position, Texture, Normal, Face, End, Refused}
+
+-- numbers are little-endian; a coordinate is the f64 of eight bytes; every NaN pattern is the one NaN
+unfoldable pub coordinate : List ℕ → ℕ → Float
+coordinate s i = ofBits binary64 (long s i)
+
+unfoldable pub pointFrom : List ℕ → ℕ → Point
+pointFrom s i = point (coordinate s i) (coordinate s (i + 8)) (coordinate s (i + 16))
+
+unfoldable pub texelFrom : List ℕ → ℕ → Texel
+texelFrom s i = texel (coordinate s i) (coordinate s (i + 8))
+
+-- the length of a body by its kind: end 0, position 24, texture 16, normal 24, and of a face 1 + 12m for some m up to 255
+unfoldable pub lengthFits : ℕ → ℕ → Bool
+lengthFits zero n = eqb n 0
+lengthFits (suc zero) n = eqb n 24
+lengthFits (suc (suc zero)) n = eqb n 16
+lengthFits (suc (suc (suc zero))) n = eqb n 24
+lengthFits (suc (suc (suc (suc k)))) n = leb n (1 + 12 * 255) && eqb (n % 12) 1
+
+-- a refusal where a number is given, else the record
+abbrev pub unless : ℕ → Record → Record
+unless zero r = r
+unless (suc n) r = Refused (suc n)
+
+-- a face: n unlike m gives 12, n over 32 gives 3; its first corner stands behind the byte n
+unfoldable pub faceFrom : List ℕ → ℕ → ℕ → Record
+faceFrom s b n =
+    unless (firstOf (when (not (eqb (1 + 12 * byte s b) n)) 12 ∷ when (ltb ringLimit (byte s b)) 3 ∷ [])) (Face (b + 1) (byte s b))
+
+-- the body of n bytes at b, by its kind
+unfoldable pub bodyFrom : List ℕ → ℕ → ℕ → ℕ → Record
+bodyFrom s b n zero = End
+bodyFrom s b n (suc zero) = Position (pointFrom s b)
+bodyFrom s b n (suc (suc zero)) = Texture (texelFrom s b)
+bodyFrom s b n (suc (suc (suc zero))) = Normal (pointFrom s b)
+bodyFrom s b n (suc (suc (suc (suc k)))) = faceFrom s b n
+
+-- the record at a place: two-byte length of its body, two-byte kind, body; header cut 11, kind 12, length 12, body cut 11
+unfoldable pub recordFrom : List ℕ → ℕ → Record
+recordFrom s at =
+    let n = half s at in
+    let kind = half s (at + 2) in
+    unless
+    (firstOf (when (ltb (length s - at) 4) 11 ∷ when (ltb 4 kind) 12 ∷ when (not (lengthFits kind n)) 12 ∷ when (ltb (length s - (at + 4)) n) 11 ∷ []))
+    (bodyFrom s (at + 4) n kind)
+
+-- this paper's number for each answer: that of a refusal, 0 for every other
+abbrev pub numberOf : Record → ℕ
+numberOf (Position p) = 0
+numberOf (Texture t) = 0
+numberOf (Normal p) = 0
+numberOf (Face a n) = 0
+numberOf End = 0
+numberOf (Refused n) = n
+
+-- and its values: the coordinates of an attribute record, in the order of the file; none for every other
+abbrev pub valuesOf : Record → List Float
+valuesOf (Position p) = coordinates p
+valuesOf (Texture t) = t .u ∷ t .v ∷ []
+valuesOf (Normal p) = coordinates p
+valuesOf (Face a n) = []
+valuesOf End = []
+valuesOf (Refused n) = []
+
+-- n corners from a place on, three four-byte numbers each
+abbrev pub ringFrom : List ℕ → ℕ → ℕ → Ring
+ringFrom s zero a = []
+ringFrom s (suc n) a = (word s a ∷ word s (a + 4) ∷ word s (a + 8) ∷ []) ∷ ringFrom s n (a + 12)
+
+-- where the record at a place ends; a refused one ends where it begins
+abbrev pub endOf : ℕ → Record → ℕ
+endOf at (Position p) = at + 28
+endOf at (Texture t) = at + 20
+endOf at (Normal p) = at + 28
+endOf at (Face a n) = a + 12 * n
+endOf at End = at + 4
+endOf at (Refused n) = at
+
+-- a face begins behind its header and its count, and has at most 32 corners; a refusal has a number
+abbrev pub Placed : ℕ → Record → Type 0
+Placed at (Position p) = Unit {0}
+Placed at (Texture t) = Unit {0}
+Placed at (Normal p) = Unit {0}
+Placed at (Face a n) = (at < a) × (n ≤ ringLimit)
+Placed at End = Unit {0}
+Placed at (Refused n) = n ≡ 0 → ⊥

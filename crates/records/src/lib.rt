@@ -1,0 +1,133 @@
+// One record of the panel file: what it is, and how it is read.
+//
+// A record is a two-byte length, a two-byte kind and a body. Reading one answers a `Record`, which carries its numbers or its refusal; the
+// corners of a face are read where they are wanted. What the records of a file come to is for the reader, crate panelfile. The definitions
+// that a caller cites stand in specs/Records.antt.
+mod coordinates;
+
+ghost use mathlib.Core.Path.{_≡_};
+ghost use mathlib.Core.Bool.{true, false, not};
+ghost use Prim.Native.Nat.{_+_, _*_, _≤_, _<_};
+ghost use lib.ListN.{length};
+ghost use lib.Seq.{sets};
+ghost use Rattle.lists.specs.Lists.{joined};
+ghost use Rattle.mesh.specs.Limits.{width};
+ghost use Rattle.records.specs.Records as records;
+use floating::Point;
+use floating::Texel;
+
+// What one record answers.
+pub enum Record {
+    Position(Point),
+    Texture(Texel),
+    Normal(Point),
+    // The place of its first corner, and how many corners there are.
+    Face(usize, u32),
+    End,
+    Refused(u32),
+}
+
+// The record at a place of the file: header cut 11, kind 12, length 12, body cut 11, then its body.
+pub fn record_at(s: &[u8], at: usize) -> Record
+    requires { ⌜ at ≤ length (now s) ⌝ }
+    ensures { λ r. ⌜ r ≡ records.recordFrom (now (s .entry)) at ⌝ }
+{
+    if s.len() - at < 4 {
+        return Record::Refused(11);
+    }
+    let n = little::half(s, at) as usize;
+    let kind = little::half(s, at + 2);
+    if 4 < kind {
+        return Record::Refused(12);
+    }
+    if misfits(kind, n) {
+        return Record::Refused(12);
+    }
+    let b = at + 4;
+    if s.len() - b < n {
+        return Record::Refused(11);
+    }
+    body(s, b, n, kind)
+}
+
+// Whether a body of n bytes is wrong for its kind.
+fn misfits(kind: u32, n: usize) -> bool
+    requires { ⌜ kind ≤ 4 ⌝ }
+    ensures { λ r. ⌜ r ≡ not (records.lengthFits kind n) ⌝ }
+{
+    if kind == 0 {
+        return n != 0;
+    }
+    if kind == 2 {
+        return n != 16;
+    }
+    if kind == 4 {
+        if n <= 3061 {
+            return n % 12 != 1;
+        }
+        return true;
+    }
+    n != 24
+}
+
+// The body of n bytes at b.
+fn body(s: &[u8], b: usize, n: usize, kind: u32) -> Record
+    requires { ⌜ (kind ≤ 4) × ((b + n ≤ length (now s)) × (records.lengthFits kind n ≡ true)) ⌝ }
+    ensures { λ r. ⌜ r ≡ records.bodyFrom (now (s .entry)) b n kind ⌝ }
+{
+    if kind == 0 {
+        return Record::End;
+    }
+    if kind == 1 {
+        return Record::Position(coordinates::point_from(s, b));
+    }
+    if kind == 2 {
+        return Record::Texture(coordinates::texel_from(s, b));
+    }
+    if kind == 3 {
+        return Record::Normal(coordinates::point_from(s, b));
+    }
+    face(s, b, n)
+}
+
+// A face: n unlike m gives 12, n over 32 gives 3.
+fn face(s: &[u8], b: usize, n: usize) -> Record
+    requires { ⌜ (0 < n) × (b + n ≤ length (now s)) ⌝ }
+    ensures { λ r. ⌜ r ≡ records.faceFrom (now (s .entry)) b n ⌝ }
+{
+    let count = little::wide(s[b]);
+    let m = count as usize;
+    if 1 + 12 * m != n {
+        return Record::Refused(12);
+    }
+    if mesh::RING < m {
+        return Record::Refused(3);
+    }
+    Record::Face(b + 1, count)
+}
+
+// This paper's number for an answer: that of a refusal, 0 for every other.
+pub fn number_of(r: Record) -> u32
+    ensures { λ n. ⌜ n ≡ records.numberOf r ⌝ }
+{
+    match r {
+        Record::Refused(n) => n,
+        _ => 0,
+    }
+}
+
+// The n corners from place a of the file, behind `at` corners of the list.
+pub fn put_ring(file: &[u8], a: usize, n: usize, out: &mut [u32], at: usize)
+    requires { ⌜ (a + 12 * n ≤ length (now file)) × (width * (at + n) ≤ length (now out)) ⌝ }
+    ensures { λ _. ⌜ now (out .exit) ≡ sets (now (out .entry)) (width * at) (joined (records.ringFrom (now (file .entry)) n a)) ⌝ }
+{
+    let mut k: usize = 0;
+    while k < n {
+        let from = a + 12 * k;
+        let to = mesh::WIDTH * (at + k);
+        out[to] = little::word(file, from);
+        out[to + 1] = little::word(file, from + 4);
+        out[to + 2] = little::word(file, from + 8);
+        k += 1;
+    }
+}
