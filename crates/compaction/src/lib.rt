@@ -77,7 +77,7 @@ fn refused(number: u32) -> Compacted
 
 // One pass over the corners; `cs`, `ps`, `ts` and `ns` are lent for the new corners, positions, texture points and normals. Each
 // column has its own map from old to new numbers, and its own count of entries used.
-fn compact(
+pub fn compact(
     positions: &[f64],
     textures: &[f64],
     normals: &[f64],

@@ -71,7 +71,12 @@ fn refused(number: u32) -> Removed
 }
 
 // What is left of the faces of an accepted mesh. Where none is folded, that is all of them, as they stand.
-fn remove(corners: &[u32], sizes: &[u32], newcorners: &mut [u32], newsizes: &mut [u32]) -> Filled
+pub fn remove(
+    corners: &[u32],
+    sizes: &[u32],
+    newcorners: &mut [u32],
+    newsizes: &mut [u32],
+) -> Filled
     requires { ⌜ Given (now corners) (now sizes) (now newcorners) (now newsizes) ⌝ }
     ensures { λ r. ⌜ Placed (want.removed (rings (now (sizes .entry)) (now (corners .entry))))
         (now (newcorners .entry)) (now (newcorners .exit)) (now (newsizes .entry)) (now (newsizes .exit))

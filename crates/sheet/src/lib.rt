@@ -140,15 +140,7 @@ fn unfold_in(
     requires { ⌜ MeshRoom (meshOf (now positions) (now textures) (now normals) (now corners) (now sizes)) (now newcorners) (now newsizes) (now out) ⌝ }
     ensures { λ r. ⌜ Sheeted (sheetText (foundIn (cleaned (meshOf (now (positions .entry)) (now (textures .entry)) (now (normals .entry)) (now (corners .entry)) (now (sizes .entry)))))) (now (out .entry)) (now (out .exit)) r ⌝ }
 {
-    let left = folded::remove_degenerate_faces(
-        positions,
-        textures,
-        normals,
-        corners,
-        sizes,
-        newcorners,
-        newsizes,
-    );
+    let left = folded::remove(corners, sizes, newcorners, newsizes);
     let c = mesh::WIDTH * left.corners;
     let f = left.faces;
     from_unfolded(
@@ -207,12 +199,11 @@ fn compact_in(
     requires { ⌜ CleanRoom (meshOf (now positions) (now textures) (now normals) (now corners) (now sizes)) (now newcorners) (now newpositions) (now newtextures) (now newnormals) (now out) ⌝ }
     ensures { λ r. ⌜ Sheeted (sheetText (foundIn (compacted (meshOf (now (positions .entry)) (now (textures .entry)) (now (normals .entry)) (now (corners .entry)) (now (sizes .entry)))))) (now (out .entry)) (now (out .exit)) r ⌝ }
 {
-    let left = compaction::remove_unused_attrs(
+    let left = compaction::compact(
         positions,
         textures,
         normals,
         corners,
-        sizes,
         newcorners,
         newpositions,
         newtextures,

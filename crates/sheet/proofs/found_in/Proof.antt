@@ -25,34 +25,70 @@ house-wires-requires : tie.Need-house-wires-requires
 house-wires-requires c κs = search needs
 
 cast-t26 : tie.Need-cast-t26
-cast-t26 c = omega (arith, accepted _ ((c .before .before .before .before .before .before .before .before .before .before .before .before .before .before .before .before .before .before .before .before .before .before .before .pre) .ready .accepted) .limits .positions)
+cast-t26 c =
+    let on20 = c .before .before .before .before .before .before .before .before .before .before .before .before .before .before .before .before .before .before .before .before in
+    let start = on20 .before .before .before in
+    omega (arith, accepted _ ((start .pre) .ready .accepted) .limits .positions)
 
 cast-t29 : tie.Need-cast-t29
-cast-t29 c = omega (arith, accepted _ ((c .before .before .before .before .before .before .before .before .before .before .before .before .before .before .before .before .before .before .before .before .before .before .before .pre) .ready .accepted) .limits .textures)
+cast-t29 c =
+    let on20 = c .before .before .before .before .before .before .before .before .before .before .before .before .before .before .before .before .before .before .before .before in
+    let start = on20 .before .before .before in
+    omega (arith, accepted _ ((start .pre) .ready .accepted) .limits .textures)
 
 cast-t32 : tie.Need-cast-t32
-cast-t32 c = omega (arith, accepted _ ((c .before .before .before .before .before .before .before .before .before .before .before .before .before .before .before .before .before .before .before .before .before .before .before .pre) .ready .accepted) .limits .normals)
+cast-t32 c =
+    let on20 = c .before .before .before .before .before .before .before .before .before .before .before .before .before .before .before .before .before .before .before .before in
+    let start = on20 .before .before .before in
+    omega (arith, accepted _ ((start .pre) .ready .accepted) .limits .normals)
 
 cast-t34 : tie.Need-cast-t34
-cast-t34 c = omega (arith, accepted _ ((c .before .before .before .before .before .before .before .before .before .before .before .before .before .before .before .before .before .before .before .before .before .before .before .pre) .ready .accepted) .limits .sizes)
+cast-t34 c =
+    let on20 = c .before .before .before .before .before .before .before .before .before .before .before .before .before .before .before .before .before .before .before .before in
+    let start = on20 .before .before .before in
+    omega (arith, accepted _ ((start .pre) .ready .accepted) .limits .sizes)
 
 cast-t35 : tie.Need-cast-t35
-cast-t35 c = omega (arith, parts-few (c .before .before .before .before .before .before .before .before .before .before .before .before .before .before .before .before .before .before .before .before .before .before .before .pre) ((c .before .before .before .before .before .before .before .before .before .before .before .components) .ensures) ((c .before .before .before .before .house-wires) .ensures))
+cast-t35 c =
+    let at-house-wires = c .before .before .before .before in
+    let at-components = at-house-wires .before .before .before .before .before .before .before in
+    let start = at-components .before .before .before .before .before .before .before .before .before .before .before .before in
+    omega (arith, parts-few (start .pre) ((at-components .components) .ensures) ((at-house-wires .house-wires) .ensures))
 
 slice-reshare-prefix-put-sheet : tie.Need-slice-reshare-prefix-put-sheet
-slice-reshare-prefix-put-sheet c = flat-fits (c .before .before .before .before .before .before .before .before .before .before .before .before .before .before .before .before .before .before .before .before .before .before .before .pre) ((c .before .before .before .before .before .before .before .before .before .before .before .components) .ensures) ((c .before .before .before .before .house-wires) .ensures)
+slice-reshare-prefix-put-sheet c =
+    let at-house-wires = c .before .before .before .before in
+    let at-components = at-house-wires .before .before .before .before .before .before .before in
+    let start = at-components .before .before .before .before .before .before .before .before .before .before .before .before in
+    flat-fits (start .pre) ((at-components .components) .ensures) ((at-house-wires .house-wires) .ensures)
 
 slice-aggregate-put-sheet : tie.Need-slice-aggregate-put-sheet
-slice-aggregate-put-sheet c = flat-counted (c .before .before .before .before .before .before .before .before .before .before .before .before .before .before .before .before .before .before .before .before .before .before .before .before .pre) ((c .before .before .before .before .before .before .before .before .before .before .before .before .components) .ensures) ((c .before .before .before .before .before .house-wires) .ensures)
+slice-aggregate-put-sheet c =
+    let at-house-wires = c .before .before .before .before .before in
+    let at-components = at-house-wires .before .before .before .before .before .before .before in
+    let start = at-components .before .before .before .before .before .before .before .before .before .before .before .before in
+    flat-counted (start .pre) ((at-components .components) .ensures) ((at-house-wires .house-wires) .ensures)
 
 slice-reshare-prefix-put-sheet-2 : tie.Need-slice-reshare-prefix-put-sheet-2
-slice-reshare-prefix-put-sheet-2 c = lengths-fit (c .before .before .before .before .before .before .before .before .before .before .before .before .before .before .before .before .before .before .before .before .before .before .before .before .pre) ((c .before .before .before .before .before .before .before .before .before .before .before .before .components) .ensures) ((c .before .before .before .before .before .house-wires) .ensures)
+slice-reshare-prefix-put-sheet-2 c =
+    let at-house-wires = c .before .before .before .before .before in
+    let at-components = at-house-wires .before .before .before .before .before .before .before in
+    let start = at-components .before .before .before .before .before .before .before .before .before .before .before .before in
+    lengths-fit (start .pre) ((at-components .components) .ensures) ((at-house-wires .house-wires) .ensures)
 
 slice-aggregate-put-sheet-2 : tie.Need-slice-aggregate-put-sheet-2
-slice-aggregate-put-sheet-2 c = lengths-counted (c .before .before .before .before .before .before .before .before .before .before .before .before .before .before .before .before .before .before .before .before .before .before .before .before .before .pre) ((c .before .before .before .before .before .before .before .before .before .before .before .before .before .components) .ensures) ((c .before .before .before .before .before .before .house-wires) .ensures)
+slice-aggregate-put-sheet-2 c =
+    let at-house-wires = c .before .before .before .before .before .before in
+    let at-components = at-house-wires .before .before .before .before .before .before .before in
+    let start = at-components .before .before .before .before .before .before .before .before .before .before .before .before in
+    lengths-counted (start .pre) ((at-components .components) .ensures) ((at-house-wires .house-wires) .ensures)
 
 put-sheet-requires : tie.Need-put-sheet-requires
-put-sheet-requires c κs = lines-ready (c .before .before .before .before .before .before .before .before .before .before .before .before .before .before .before .before .before .before .before .before .before .before .before .before .before .before .pre) ((c .before .before .before .before .before .before .before .before .before .before .before .before .before .before .components) .ensures) ((c .before .before .before .before .before .before .before .house-wires) .ensures)
+put-sheet-requires c κs =
+    let at-house-wires = c .before .before .before .before .before .before .before in
+    let at-components = at-house-wires .before .before .before .before .before .before .before in
+    let start = at-components .before .before .before .before .before .before .before .before .before .before .before .before in
+    lines-ready (start .pre) ((at-components .components) .ensures) ((at-house-wires .house-wires) .ensures)
 
 same-length : tie.Need-same-length
 same-length c = search needs
@@ -65,7 +101,13 @@ same-length-3 c = search needs
 
 returns : tie.Need-returns
 unfolding faces
-returns c = sheeted-as (found-are (c .before .before .before .before .before .before .before .before .before .before .before .before .before .before .before .before .before .before .before .before .before .before .before .before .before .before .before .before .before .pre) ((c .before .before .before .before .before .before .before .before .before .before .before .before .before .before .before .before .before .components) .ensures) ((c .before .before .before .before .before .before .before .before .before .before .house-wires) .ensures) _ ((c .before .before .before .before .before .before .before .before .before .before .before .before .before .before .before .before .before .before .before .before .verdict-of) .ensures)) ((c .before .before .put-sheet) .ensures)
+returns c =
+    let at-put-sheet = c .before .before in
+    let at-house-wires = at-put-sheet .before .before .before .before .before .before .before .before in
+    let at-components = at-house-wires .before .before .before .before .before .before .before in
+    let at-verdict-of = at-components .before .before .before in
+    let start = at-verdict-of .before .before .before .before .before .before .before .before .before in
+    sheeted-as (found-are (start .pre) ((at-components .components) .ensures) ((at-house-wires .house-wires) .ensures) _ ((at-verdict-of .verdict-of) .ensures)) ((at-put-sheet .put-sheet) .ensures)
 
 pub found-in-spec : {M : Type 1} → statement M
 found-in-spec =

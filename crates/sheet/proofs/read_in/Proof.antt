@@ -35,52 +35,117 @@ same-length-6 : tie.Need-same-length-6
 same-length-6 c = search needs
 
 returns : tie.Need-returns
-returns c = sheeted-as (refused-text (c .before .before .before .before .before .before .before .before .before .before .before .before .before .before .before .before .before .before .before .before .before .before .before .before .before .before .before .before .pre) ((c .before .before .before .before .before .before .before .before .before .before .before .before .before .before .before .read-panel) .ensures) ((c .before .before .before .before .if1) .taken)) ((c .before .before .put-refusal) .ensures)
+returns c =
+    let at-put-refusal = c .before .before in
+    let at-if1 = at-put-refusal .before .before in
+    let at-read-panel = at-if1 .before .before .before .before .before .before .before .before .before .before .before in
+    let start = at-read-panel .before .before .before .before .before .before .before .before .before .before .before .before .before in
+    sheeted-as (refused-text (start .pre) ((at-read-panel .read-panel) .ensures) ((at-if1 .if1) .taken)) ((at-put-refusal .put-refusal) .ensures)
 
 mul-p : tie.Need-mul-p
-mul-p c = omega (arith, read-few (c .before .before .before .before .before .before .before .before .before .before .before .before .before .before .before .before .before .before .before .before .before .before .before .before .before .pre) ((c .before .before .before .before .before .before .before .before .before .before .before .before .read-panel) .ensures) ((c .before .if1) .left) .positions)
+mul-p c =
+    let at-if1 = c .before in
+    let at-read-panel = at-if1 .before .before .before .before .before .before .before .before .before .before .before in
+    let start = at-read-panel .before .before .before .before .before .before .before .before .before .before .before .before .before in
+    omega (arith, read-few (start .pre) ((at-read-panel .read-panel) .ensures) ((at-if1 .if1) .left) .positions)
 
 mul-t : tie.Need-mul-t
-mul-t c = omega (arith, read-few (c .before .before .before .before .before .before .before .before .before .before .before .before .before .before .before .before .before .before .before .before .before .before .before .before .before .before .pre) ((c .before .before .before .before .before .before .before .before .before .before .before .before .before .read-panel) .ensures) ((c .before .before .if1) .left) .textures)
+mul-t c =
+    let at-if1 = c .before .before in
+    let at-read-panel = at-if1 .before .before .before .before .before .before .before .before .before .before .before in
+    let start = at-read-panel .before .before .before .before .before .before .before .before .before .before .before .before .before in
+    omega (arith, read-few (start .pre) ((at-read-panel .read-panel) .ensures) ((at-if1 .if1) .left) .textures)
 
 mul-n : tie.Need-mul-n
-mul-n c = omega (arith, read-few (c .before .before .before .before .before .before .before .before .before .before .before .before .before .before .before .before .before .before .before .before .before .before .before .before .before .before .before .pre) ((c .before .before .before .before .before .before .before .before .before .before .before .before .before .before .read-panel) .ensures) ((c .before .before .before .if1) .left) .normals)
+mul-n c =
+    let at-if1 = c .before .before .before in
+    let at-read-panel = at-if1 .before .before .before .before .before .before .before .before .before .before .before in
+    let start = at-read-panel .before .before .before .before .before .before .before .before .before .before .before .before .before in
+    omega (arith, read-few (start .pre) ((at-read-panel .read-panel) .ensures) ((at-if1 .if1) .left) .normals)
 
 mul-c : tie.Need-mul-c
-mul-c c = omega (arith, read-few (c .before .before .before .before .before .before .before .before .before .before .before .before .before .before .before .before .before .before .before .before .before .before .before .before .before .before .before .before .pre) ((c .before .before .before .before .before .before .before .before .before .before .before .before .before .before .before .read-panel) .ensures) ((c .before .before .before .before .if1) .left) .corners)
+mul-c c =
+    let at-if1 = c .before .before .before .before in
+    let at-read-panel = at-if1 .before .before .before .before .before .before .before .before .before .before .before in
+    let start = at-read-panel .before .before .before .before .before .before .before .before .before .before .before .before .before in
+    omega (arith, read-few (start .pre) ((at-read-panel .read-panel) .ensures) ((at-if1 .if1) .left) .corners)
 
 slice-reshare-prefix-from-mesh : tie.Need-slice-reshare-prefix-from-mesh
-slice-reshare-prefix-from-mesh c = read-fronts (c .before .before .before .before .before .before .before .before .before .before .before .before .before .before .before .before .before .before .before .before .before .before .before .before .before .before .before .before .pre) ((c .before .before .before .before .before .before .before .before .before .before .before .before .before .before .before .read-panel) .ensures) ((c .before .before .before .before .if1) .left) .positions .within
+slice-reshare-prefix-from-mesh c =
+    let at-if1 = c .before .before .before .before in
+    let at-read-panel = at-if1 .before .before .before .before .before .before .before .before .before .before .before in
+    let start = at-read-panel .before .before .before .before .before .before .before .before .before .before .before .before .before in
+    read-fronts (start .pre) ((at-read-panel .read-panel) .ensures) ((at-if1 .if1) .left) .positions .within
 
 slice-aggregate-from-mesh : tie.Need-slice-aggregate-from-mesh
-slice-aggregate-from-mesh c = read-fronts (c .before .before .before .before .before .before .before .before .before .before .before .before .before .before .before .before .before .before .before .before .before .before .before .before .before .before .before .before .before .pre) ((c .before .before .before .before .before .before .before .before .before .before .before .before .before .before .before .before .read-panel) .ensures) ((c .before .before .before .before .before .if1) .left) .positions .long
+slice-aggregate-from-mesh c =
+    let at-if1 = c .before .before .before .before .before in
+    let at-read-panel = at-if1 .before .before .before .before .before .before .before .before .before .before .before in
+    let start = at-read-panel .before .before .before .before .before .before .before .before .before .before .before .before .before in
+    read-fronts (start .pre) ((at-read-panel .read-panel) .ensures) ((at-if1 .if1) .left) .positions .long
 
 slice-reshare-prefix-from-mesh-2 : tie.Need-slice-reshare-prefix-from-mesh-2
-slice-reshare-prefix-from-mesh-2 c = read-fronts (c .before .before .before .before .before .before .before .before .before .before .before .before .before .before .before .before .before .before .before .before .before .before .before .before .before .before .before .before .before .pre) ((c .before .before .before .before .before .before .before .before .before .before .before .before .before .before .before .before .read-panel) .ensures) ((c .before .before .before .before .before .if1) .left) .textures .within
+slice-reshare-prefix-from-mesh-2 c =
+    let at-if1 = c .before .before .before .before .before in
+    let at-read-panel = at-if1 .before .before .before .before .before .before .before .before .before .before .before in
+    let start = at-read-panel .before .before .before .before .before .before .before .before .before .before .before .before .before in
+    read-fronts (start .pre) ((at-read-panel .read-panel) .ensures) ((at-if1 .if1) .left) .textures .within
 
 slice-aggregate-from-mesh-2 : tie.Need-slice-aggregate-from-mesh-2
-slice-aggregate-from-mesh-2 c = read-fronts (c .before .before .before .before .before .before .before .before .before .before .before .before .before .before .before .before .before .before .before .before .before .before .before .before .before .before .before .before .before .before .pre) ((c .before .before .before .before .before .before .before .before .before .before .before .before .before .before .before .before .before .read-panel) .ensures) ((c .before .before .before .before .before .before .if1) .left) .textures .long
+slice-aggregate-from-mesh-2 c =
+    let at-if1 = c .before .before .before .before .before .before in
+    let at-read-panel = at-if1 .before .before .before .before .before .before .before .before .before .before .before in
+    let start = at-read-panel .before .before .before .before .before .before .before .before .before .before .before .before .before in
+    read-fronts (start .pre) ((at-read-panel .read-panel) .ensures) ((at-if1 .if1) .left) .textures .long
 
 slice-reshare-prefix-from-mesh-3 : tie.Need-slice-reshare-prefix-from-mesh-3
-slice-reshare-prefix-from-mesh-3 c = read-fronts (c .before .before .before .before .before .before .before .before .before .before .before .before .before .before .before .before .before .before .before .before .before .before .before .before .before .before .before .before .before .before .pre) ((c .before .before .before .before .before .before .before .before .before .before .before .before .before .before .before .before .before .read-panel) .ensures) ((c .before .before .before .before .before .before .if1) .left) .normals .within
+slice-reshare-prefix-from-mesh-3 c =
+    let at-if1 = c .before .before .before .before .before .before in
+    let at-read-panel = at-if1 .before .before .before .before .before .before .before .before .before .before .before in
+    let start = at-read-panel .before .before .before .before .before .before .before .before .before .before .before .before .before in
+    read-fronts (start .pre) ((at-read-panel .read-panel) .ensures) ((at-if1 .if1) .left) .normals .within
 
 slice-aggregate-from-mesh-3 : tie.Need-slice-aggregate-from-mesh-3
-slice-aggregate-from-mesh-3 c = read-fronts (c .before .before .before .before .before .before .before .before .before .before .before .before .before .before .before .before .before .before .before .before .before .before .before .before .before .before .before .before .before .before .before .pre) ((c .before .before .before .before .before .before .before .before .before .before .before .before .before .before .before .before .before .before .read-panel) .ensures) ((c .before .before .before .before .before .before .before .if1) .left) .normals .long
+slice-aggregate-from-mesh-3 c =
+    let at-if1 = c .before .before .before .before .before .before .before in
+    let at-read-panel = at-if1 .before .before .before .before .before .before .before .before .before .before .before in
+    let start = at-read-panel .before .before .before .before .before .before .before .before .before .before .before .before .before in
+    read-fronts (start .pre) ((at-read-panel .read-panel) .ensures) ((at-if1 .if1) .left) .normals .long
 
 slice-reshare-prefix-from-mesh-4 : tie.Need-slice-reshare-prefix-from-mesh-4
-slice-reshare-prefix-from-mesh-4 c = read-fronts (c .before .before .before .before .before .before .before .before .before .before .before .before .before .before .before .before .before .before .before .before .before .before .before .before .before .before .before .before .before .before .before .pre) ((c .before .before .before .before .before .before .before .before .before .before .before .before .before .before .before .before .before .before .read-panel) .ensures) ((c .before .before .before .before .before .before .before .if1) .left) .corners .within
+slice-reshare-prefix-from-mesh-4 c =
+    let at-if1 = c .before .before .before .before .before .before .before in
+    let at-read-panel = at-if1 .before .before .before .before .before .before .before .before .before .before .before in
+    let start = at-read-panel .before .before .before .before .before .before .before .before .before .before .before .before .before in
+    read-fronts (start .pre) ((at-read-panel .read-panel) .ensures) ((at-if1 .if1) .left) .corners .within
 
 slice-aggregate-from-mesh-4 : tie.Need-slice-aggregate-from-mesh-4
-slice-aggregate-from-mesh-4 c = read-fronts (c .before .before .before .before .before .before .before .before .before .before .before .before .before .before .before .before .before .before .before .before .before .before .before .before .before .before .before .before .before .before .before .before .pre) ((c .before .before .before .before .before .before .before .before .before .before .before .before .before .before .before .before .before .before .before .read-panel) .ensures) ((c .before .before .before .before .before .before .before .before .if1) .left) .corners .long
+slice-aggregate-from-mesh-4 c =
+    let at-if1 = c .before .before .before .before .before .before .before .before in
+    let at-read-panel = at-if1 .before .before .before .before .before .before .before .before .before .before .before in
+    let start = at-read-panel .before .before .before .before .before .before .before .before .before .before .before .before .before in
+    read-fronts (start .pre) ((at-read-panel .read-panel) .ensures) ((at-if1 .if1) .left) .corners .long
 
 slice-reshare-prefix-from-mesh-5 : tie.Need-slice-reshare-prefix-from-mesh-5
-slice-reshare-prefix-from-mesh-5 c = read-fronts (c .before .before .before .before .before .before .before .before .before .before .before .before .before .before .before .before .before .before .before .before .before .before .before .before .before .before .before .before .before .before .before .before .pre) ((c .before .before .before .before .before .before .before .before .before .before .before .before .before .before .before .before .before .before .before .read-panel) .ensures) ((c .before .before .before .before .before .before .before .before .if1) .left) .sizes .within
+slice-reshare-prefix-from-mesh-5 c =
+    let at-if1 = c .before .before .before .before .before .before .before .before in
+    let at-read-panel = at-if1 .before .before .before .before .before .before .before .before .before .before .before in
+    let start = at-read-panel .before .before .before .before .before .before .before .before .before .before .before .before .before in
+    read-fronts (start .pre) ((at-read-panel .read-panel) .ensures) ((at-if1 .if1) .left) .sizes .within
 
 slice-aggregate-from-mesh-5 : tie.Need-slice-aggregate-from-mesh-5
-slice-aggregate-from-mesh-5 c = read-fronts (c .before .before .before .before .before .before .before .before .before .before .before .before .before .before .before .before .before .before .before .before .before .before .before .before .before .before .before .before .before .before .before .before .before .pre) ((c .before .before .before .before .before .before .before .before .before .before .before .before .before .before .before .before .before .before .before .before .read-panel) .ensures) ((c .before .before .before .before .before .before .before .before .before .if1) .left) .sizes .long
+slice-aggregate-from-mesh-5 c =
+    let at-if1 = c .before .before .before .before .before .before .before .before .before in
+    let at-read-panel = at-if1 .before .before .before .before .before .before .before .before .before .before .before in
+    let start = at-read-panel .before .before .before .before .before .before .before .before .before .before .before .before .before in
+    read-fronts (start .pre) ((at-read-panel .read-panel) .ensures) ((at-if1 .if1) .left) .sizes .long
 
 from-mesh-requires : tie.Need-from-mesh-requires
-from-mesh-requires c κs = read-ready (c .before .before .before .before .before .before .before .before .before .before .before .before .before .before .before .before .before .before .before .before .before .before .before .before .before .before .before .before .before .before .before .before .before .before .pre) ((c .before .before .before .before .before .before .before .before .before .before .before .before .before .before .before .before .before .before .before .before .before .read-panel) .ensures) ((c .before .before .before .before .before .before .before .before .before .before .if1) .left)
+from-mesh-requires c κs =
+    let at-if1 = c .before .before .before .before .before .before .before .before .before .before in
+    let at-read-panel = at-if1 .before .before .before .before .before .before .before .before .before .before .before in
+    let start = at-read-panel .before .before .before .before .before .before .before .before .before .before .before .before .before in
+    read-ready (start .pre) ((at-read-panel .read-panel) .ensures) ((at-if1 .if1) .left)
 
 same-length-7 : tie.Need-same-length-7
 same-length-7 c = search needs
@@ -101,7 +166,12 @@ same-length-12 : tie.Need-same-length-12
 same-length-12 c = search needs
 
 returns-2 : tie.Need-returns-2
-returns-2 c = sheeted-as (read-text (c .before .before .before .before .before .before .before .before .before .before .before .before .before .before .before .before .before .before .before .before .before .before .before .before .before .before .before .before .before .before .before .before .before .before .before .before .before .pre) ((c .before .before .before .before .before .before .before .before .before .before .before .before .before .before .before .before .before .before .before .before .before .before .before .before .read-panel) .ensures) ((c .before .before .before .before .before .before .before .before .before .before .before .before .before .if1) .left)) ((c .before .before .from-mesh) .ensures)
+returns-2 c =
+    let at-from-mesh = c .before .before in
+    let at-if1 = at-from-mesh .before .before .before .before .before .before .before .before .before .before .before in
+    let at-read-panel = at-if1 .before .before .before .before .before .before .before .before .before .before .before in
+    let start = at-read-panel .before .before .before .before .before .before .before .before .before .before .before .before .before in
+    sheeted-as (read-text (start .pre) ((at-read-panel .read-panel) .ensures) ((at-if1 .if1) .left)) ((at-from-mesh .from-mesh) .ensures)
 
 pub read-in-spec : {M : Type 1} → statement M
 read-in-spec =

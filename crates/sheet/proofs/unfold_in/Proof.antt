@@ -1,35 +1,53 @@
 -- `unfold_in` meets its contract: what removal gives stands at the front of the lists, and the sheet is that of the mesh there (`Cleaning`). Assumes nothing.
 use Rattle.sheet.proofs.Reading.{sheeted-as}
-use Rattle.sheet.proofs.Cleaning.{unfolded-corners, unfolded-sizes, unfolded-ready, unfolded-text}
+use Rattle.sheet.proofs.Cleaning.{unfolded-given, unfolded-corners, unfolded-sizes, unfolded-ready, unfolded-text}
 use native.Mathlib.Omega.{arith}
 use borrow.Author.Needs.{needs}
 use Rattle.sheet.proofs.unfold_in.Statement.{statement}
 use Rattle.sheet.proofs.unfold_in.Tie as tie
 use Rattle.sheet.proofs.unfold_in.Reads as reads
 use Rattle.sheet.proofs.unfold_in.Lts as lts
-use Rattle.folded.proofs.remove_degenerate_faces.Reads as remove-degenerate-faces-reads
+use Rattle.folded.proofs.remove.Reads as remove-reads
 use Rattle.sheet.proofs.from_unfolded.Reads as from-unfolded-reads
 
-remove-degenerate-faces-requires : tie.Need-remove-degenerate-faces-requires
-remove-degenerate-faces-requires c κs = search needs
+remove-requires : tie.Need-remove-requires
+remove-requires c κs = unfolded-given (c .before .before .before .before .before .before .before .before .before .before .pre)
 
 mul-c : tie.Need-mul-c
-mul-c c = omega (arith, unfolded-corners (c .before .before .before .before .before .before .before .before .before .before .before .before .before .before .before .before .pre) ((c .before .before .before .before .before .remove-degenerate-faces) .ensures) .within)
+mul-c c =
+    let at-remove = c .before .before .before .before .before in
+    let start = at-remove .before .before .before .before .before .before .before .before .before .before .before in
+    omega (arith, unfolded-corners (start .pre) ((at-remove .remove) .ensures) .within)
 
 slice-reshare-prefix-from-unfolded : tie.Need-slice-reshare-prefix-from-unfolded
-slice-reshare-prefix-from-unfolded c = unfolded-corners (c .before .before .before .before .before .before .before .before .before .before .before .before .before .before .before .before .pre) ((c .before .before .before .before .before .remove-degenerate-faces) .ensures) .within
+slice-reshare-prefix-from-unfolded c =
+    let at-remove = c .before .before .before .before .before in
+    let start = at-remove .before .before .before .before .before .before .before .before .before .before .before in
+    unfolded-corners (start .pre) ((at-remove .remove) .ensures) .within
 
 slice-aggregate-from-unfolded : tie.Need-slice-aggregate-from-unfolded
-slice-aggregate-from-unfolded c = unfolded-corners (c .before .before .before .before .before .before .before .before .before .before .before .before .before .before .before .before .before .pre) ((c .before .before .before .before .before .before .remove-degenerate-faces) .ensures) .long
+slice-aggregate-from-unfolded c =
+    let at-remove = c .before .before .before .before .before .before in
+    let start = at-remove .before .before .before .before .before .before .before .before .before .before .before in
+    unfolded-corners (start .pre) ((at-remove .remove) .ensures) .long
 
 slice-reshare-prefix-from-unfolded-2 : tie.Need-slice-reshare-prefix-from-unfolded-2
-slice-reshare-prefix-from-unfolded-2 c = unfolded-sizes (c .before .before .before .before .before .before .before .before .before .before .before .before .before .before .before .before .before .pre) ((c .before .before .before .before .before .before .remove-degenerate-faces) .ensures) .within
+slice-reshare-prefix-from-unfolded-2 c =
+    let at-remove = c .before .before .before .before .before .before in
+    let start = at-remove .before .before .before .before .before .before .before .before .before .before .before in
+    unfolded-sizes (start .pre) ((at-remove .remove) .ensures) .within
 
 slice-aggregate-from-unfolded-2 : tie.Need-slice-aggregate-from-unfolded-2
-slice-aggregate-from-unfolded-2 c = unfolded-sizes (c .before .before .before .before .before .before .before .before .before .before .before .before .before .before .before .before .before .before .pre) ((c .before .before .before .before .before .before .before .remove-degenerate-faces) .ensures) .long
+slice-aggregate-from-unfolded-2 c =
+    let at-remove = c .before .before .before .before .before .before .before in
+    let start = at-remove .before .before .before .before .before .before .before .before .before .before .before in
+    unfolded-sizes (start .pre) ((at-remove .remove) .ensures) .long
 
 from-unfolded-requires : tie.Need-from-unfolded-requires
-from-unfolded-requires c κs = unfolded-ready (c .before .before .before .before .before .before .before .before .before .before .before .before .before .before .before .before .before .before .before .pre) ((c .before .before .before .before .before .before .before .before .remove-degenerate-faces) .ensures)
+from-unfolded-requires c κs =
+    let at-remove = c .before .before .before .before .before .before .before .before in
+    let start = at-remove .before .before .before .before .before .before .before .before .before .before .before in
+    unfolded-ready (start .pre) ((at-remove .remove) .ensures)
 
 same-length : tie.Need-same-length
 same-length c = search needs
@@ -41,13 +59,17 @@ same-length-3 : tie.Need-same-length-3
 same-length-3 c = search needs
 
 returns : tie.Need-returns
-returns c = sheeted-as (unfolded-text (c .before .before .before .before .before .before .before .before .before .before .before .before .before .before .before .before .before .before .before .before .before .before .pre) ((c .before .before .before .before .before .before .before .before .before .before .before .remove-degenerate-faces) .ensures)) ((c .before .before .from-unfolded) .ensures)
+returns c =
+    let at-from-unfolded = c .before .before in
+    let at-remove = at-from-unfolded .before .before .before .before .before .before .before .before .before in
+    let start = at-remove .before .before .before .before .before .before .before .before .before .before .before in
+    sheeted-as (unfolded-text (start .pre) ((at-remove .remove) .ensures)) ((at-from-unfolded .from-unfolded) .ensures)
 
 pub unfold-in-spec : {M : Type 1} → statement M
 unfold-in-spec =
     tie.close
     (tie.spec
-    remove-degenerate-faces-requires
+    remove-requires
     mul-c
     slice-reshare-prefix-from-unfolded
     slice-aggregate-from-unfolded
