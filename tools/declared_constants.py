@@ -1,7 +1,7 @@
 """The constants of the library's C interface: what the rules and the code say each one is, and what the Rust wrapper says.
 
 Read by check_declarations. A limit is read from mesh's constants and from the rules beside them, a number of the table from the row of the
-rules that gives it, a verdict's number from the rules of the C interface, and a stated room from the rule of number 9 of its call.
+rules that gives it, a verdict's number from the rules of what a call answers in C, and a stated room from the rule of number 9 of its call.
 """
 import re
 
@@ -16,12 +16,12 @@ HOUSE = "crates/house/specs/Answers.antt"
 RECORDS = "crates/records/specs/Records.antt"
 READING = "crates/panelfile/specs/Reading.antt"
 SHEET = "crates/sheet/specs/Sheet.antt"
-CALLS = "crates/barleyhinge/specs/Calls.antt"
+ANSWERS = "crates/answers/specs/Answers.antt"
 FACES = "crates/faces/specs/Faces.antt"
 FOLDED = "crates/folded/specs/Folded.antt"
 EDGES = "crates/edges/specs/Answers.antt"
 PANELS = "crates/panels/specs/Contract.antt"
-SOURCES = (LIMITS, CONSTS, MESH, TABLE, COMPACTION, MERGING, PORTED, HOUSE, RECORDS, READING, SHEET, CALLS, FACES, FOLDED, EDGES, PANELS)
+SOURCES = (LIMITS, CONSTS, MESH, TABLE, COMPACTION, MERGING, PORTED, HOUSE, RECORDS, READING, SHEET, ANSWERS, FACES, FOLDED, EDGES, PANELS)
 
 
 class Unreadable(Exception):
@@ -98,7 +98,7 @@ def numbers_of(texts):
 
 
 def verdicts_of(texts):
-    return {name: only_one(texts, CALLS, rf"^verdictNumber Verdict\.{name} = (\d+)$") for name in VERDICTS}
+    return {name: only_one(texts, ANSWERS, rf"^verdictNumber Verdict\.{name} = (\d+)$") for name in VERDICTS}
 
 
 # ---- rooms: an expression of the rules and one of the wrapper are the same where they are so on these meshes

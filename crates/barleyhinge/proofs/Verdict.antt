@@ -9,7 +9,8 @@ use Rattle.edges.specs.Answers.{Answer, verdictOf, answerOf, judged, meshEdgesO
 use Rattle.edges.specs.declared.ShellCondition.{ShellCondition}
 use Rattle.edges.specs.declared.Judged.{Judged}
 use Rattle.edges.specs.declared.Judged.the-variants.{Found, Refused}
-use Rattle.barleyhinge.specs.Calls.{verdictNumber, VerdictAnswer}
+use Rattle.answers.specs.Answers.{verdictNumber}
+use Rattle.barleyhinge.specs.Calls.{VerdictAnswer}
 
 -- the verdict was answered, and the number is 0
 pub found :

@@ -1,7 +1,7 @@
 // Barleyhinge for other programs: the public calls under plain names, for C and for whatever links C.
 //
 // Each function passes on to the call of the same name and does nothing else. A list passes as a pointer and a length; what a call
-// answers beside its number is written to places that the caller lends. Every number but 0 leaves each lent list as it was, and
+// answers beside its number is written to places that the caller lends (crate answers). Every number but 0 leaves each lent list as it was, and
 // each count 0; a verdict is written only with 0. No function asks anything of the lists' contents.
 // include/barleyhinge.h has the same for a C program.
 ghost use mathlib.Core.Path.{_≡_};
@@ -10,17 +10,16 @@ ghost use Rattle.mesh.specs.Table.{meshNumber};
 ghost use Rattle.faces.specs.Faces.{Grouped};
 ghost use Rattle.compaction.specs.Compaction as compacting;
 ghost use Rattle.folded.specs.Folded as folding;
-ghost use Rattle.edges.specs.Edges.{Verdict};
-ghost use Rattle.edges.specs.Answers.{verdictOf, HemAnswer};
+ghost use Rattle.edges.specs.Answers.{HemAnswer};
 ghost use Rattle.merging.specs.Merging.{PutTogether};
 ghost use Rattle.ported.specs.Answers.{PortedAnswer};
 ghost use Rattle.house.specs.Answers.{HouseAnswer};
 ghost use Rattle.panels.specs.Contract as paneling;
 ghost use Rattle.panelfile.specs.Answer.{PanelRead};
 ghost use Rattle.sheet.specs.Sheet.{Printed};
+ghost use Rattle.answers.specs.Answers as answer;
 ghost use Rattle.barleyhinge.specs.Calls as call;
 use edges::Judged;
-use edges::ShellCondition;
 
 // The number that a mesh earns, 0 to 5.
 #[no_mangle]
@@ -48,15 +47,9 @@ pub extern "C" fn bh_face(
     start: &mut usize,
     len: &mut usize,
 )
-    ensures { λ _. ⌜ call.PartAnswer (meshOf (now (positions .entry)) (now (textures .entry)) (now (normals .entry)) (now (corners .entry)) (now (sizes .entry))) k (now (start .exit)) (now (len .exit)) ⌝ }
+    ensures { λ _. ⌜ answer.PartAnswer (meshOf (now (positions .entry)) (now (textures .entry)) (now (normals .entry)) (now (corners .entry)) (now (sizes .entry))) k (now (start .exit)) (now (len .exit)) ⌝ }
 {
-    let part = mesh::face(positions, textures, normals, corners, sizes, k);
-    let n = part.len();
-    *start = 0;
-    *len = n;
-    if n != 0 {
-        *start = mesh::WIDTH * mesh::offset(sizes, k);
-    }
+    answers::part(positions, textures, normals, corners, sizes, k, start, len)
 }
 
 // Faces in any order, grouped: how many corners and faces are written.
@@ -69,12 +62,10 @@ pub extern "C" fn bh_push(
     cornercount: &mut usize,
     facecount: &mut usize,
 ) -> u32
-    ensures { λ r. ⌜ Grouped (now (corners .entry)) (now (sizes .entry)) (now (newcorners .entry)) (now (newsizes .entry)) (now (newcorners .exit)) (now (newsizes .exit)) (call.pushedBy r (now (cornercount .exit)) (now (facecount .exit))) ⌝ }
+    ensures { λ r. ⌜ Grouped (now (corners .entry)) (now (sizes .entry)) (now (newcorners .entry)) (now (newsizes .entry)) (now (newcorners .exit)) (now (newsizes .exit)) (answer.pushedBy r (now (cornercount .exit)) (now (facecount .exit))) ⌝ }
 {
     let pushed = faces::push(corners, sizes, newcorners, newsizes);
-    *cornercount = pushed.corners;
-    *facecount = pushed.faces;
-    pushed.number
+    answers::pushed(pushed, cornercount, facecount)
 }
 
 // Compaction.
@@ -93,7 +84,7 @@ pub extern "C" fn bh_remove_unused_attrs(
     texturecount: &mut usize,
     normalcount: &mut usize,
 ) -> u32
-    ensures { λ r. ⌜ compacting.Compaction (meshOf (now (positions .entry)) (now (textures .entry)) (now (normals .entry)) (now (corners .entry)) (now (sizes .entry))) (compacting.resultOf (now (newcorners .entry)) (now (newpositions .entry)) (now (newtextures .entry)) (now (newnormals .entry))) (compacting.resultOf (now (newcorners .exit)) (now (newpositions .exit)) (now (newtextures .exit)) (now (newnormals .exit))) (call.compactedBy r (now (positioncount .exit)) (now (texturecount .exit)) (now (normalcount .exit))) ⌝ }
+    ensures { λ r. ⌜ compacting.Compaction (meshOf (now (positions .entry)) (now (textures .entry)) (now (normals .entry)) (now (corners .entry)) (now (sizes .entry))) (compacting.resultOf (now (newcorners .entry)) (now (newpositions .entry)) (now (newtextures .entry)) (now (newnormals .entry))) (compacting.resultOf (now (newcorners .exit)) (now (newpositions .exit)) (now (newtextures .exit)) (now (newnormals .exit))) (answer.compactedBy r (now (positioncount .exit)) (now (texturecount .exit)) (now (normalcount .exit))) ⌝ }
 {
     let made = compaction::remove_unused_attrs(
         positions,
@@ -106,10 +97,7 @@ pub extern "C" fn bh_remove_unused_attrs(
         newtextures,
         newnormals,
     );
-    *positioncount = made.positions;
-    *texturecount = made.textures;
-    *normalcount = made.normals;
-    made.number
+    answers::compacted(made, positioncount, texturecount, normalcount)
 }
 
 // Removal of folded faces.
@@ -125,7 +113,7 @@ pub extern "C" fn bh_remove_degenerate_faces(
     cornercount: &mut usize,
     facecount: &mut usize,
 ) -> u32
-    ensures { λ r. ⌜ folding.Removal (meshOf (now (positions .entry)) (now (textures .entry)) (now (normals .entry)) (now (corners .entry)) (now (sizes .entry))) (folding.resultOf (now (newcorners .entry)) (now (newsizes .entry))) (folding.resultOf (now (newcorners .exit)) (now (newsizes .exit))) (call.removedBy r (now (cornercount .exit)) (now (facecount .exit))) ⌝ }
+    ensures { λ r. ⌜ folding.Removal (meshOf (now (positions .entry)) (now (textures .entry)) (now (normals .entry)) (now (corners .entry)) (now (sizes .entry))) (folding.resultOf (now (newcorners .entry)) (now (newsizes .entry))) (folding.resultOf (now (newcorners .exit)) (now (newsizes .exit))) (answer.removedBy r (now (cornercount .exit)) (now (facecount .exit))) ⌝ }
 {
     let left = folded::remove_degenerate_faces(
         positions,
@@ -136,9 +124,7 @@ pub extern "C" fn bh_remove_degenerate_faces(
         newcorners,
         newsizes,
     );
-    *cornercount = left.corners;
-    *facecount = left.faces;
-    left.number
+    answers::removed(left, cornercount, facecount)
 }
 
 // Merging: the new corners, and how many pairs were compared among positions, texture points and normals.
@@ -155,7 +141,7 @@ pub extern "C" fn bh_put_together_same_attrs(
     texturepairs: &mut usize,
     normalpairs: &mut usize,
 ) -> u32
-    ensures { λ r. ⌜ PutTogether (meshOf (now (positions .entry)) (now (textures .entry)) (now (normals .entry)) (now (corners .entry)) (now (sizes .entry))) tolerance (now (newcorners .entry)) (call.mergedBy r (now (positionpairs .exit)) (now (texturepairs .exit)) (now (normalpairs .exit))) (now (newcorners .exit)) ⌝ }
+    ensures { λ r. ⌜ PutTogether (meshOf (now (positions .entry)) (now (textures .entry)) (now (normals .entry)) (now (corners .entry)) (now (sizes .entry))) tolerance (now (newcorners .entry)) (answer.mergedBy r (now (positionpairs .exit)) (now (texturepairs .exit)) (now (normalpairs .exit))) (now (newcorners .exit)) ⌝ }
 {
     let merged = merging::put_together_same_attrs(
         positions,
@@ -166,10 +152,7 @@ pub extern "C" fn bh_put_together_same_attrs(
         tolerance,
         newcorners,
     );
-    *positionpairs = merged.positions;
-    *texturepairs = merged.textures;
-    *normalpairs = merged.normals;
-    merged.number
+    answers::merged(merged, positionpairs, texturepairs, normalpairs)
 }
 
 // The verdict, by number: 0 Irregular, 1 Regular, 2 Oriented, 3 Closed. It is written only with 0.
@@ -187,22 +170,10 @@ pub extern "C" fn bh_shell_condition(
     let judged = edges::shell_condition(positions, textures, normals, corners, sizes);
     match judged {
         Judged::Found(condition) => {
-            *verdict = verdict_number(condition);
+            *verdict = answers::verdict_number(condition);
             0
         }
         Judged::Refused(number) => number,
-    }
-}
-
-// The number of a verdict.
-fn verdict_number(condition: ShellCondition) -> u32
-    ensures { λ r. ⌜ r ≡ call.verdictNumber (verdictOf condition) ⌝ }
-{
-    match condition {
-        ShellCondition::Irregular => 0,
-        ShellCondition::Regular => 1,
-        ShellCondition::Oriented => 2,
-        ShellCondition::Closed => 3,
     }
 }
 
@@ -218,11 +189,10 @@ pub extern "C" fn bh_hem_edges(
     ends: &mut [u32],
     count: &mut usize,
 ) -> u32
-    ensures { λ r. ⌜ HemAnswer (meshOf (now (positions .entry)) (now (textures .entry)) (now (normals .entry)) (now (corners .entry)) (now (sizes .entry))) (now (starts .entry)) (now (ends .entry)) (now (starts .exit)) (now (ends .exit)) (call.hemmedBy r (now (count .exit))) ⌝ }
+    ensures { λ r. ⌜ HemAnswer (meshOf (now (positions .entry)) (now (textures .entry)) (now (normals .entry)) (now (corners .entry)) (now (sizes .entry))) (now (starts .entry)) (now (ends .entry)) (now (starts .exit)) (now (ends .exit)) (answer.hemmedBy r (now (count .exit))) ⌝ }
 {
     let hems = edges::hem_edges(positions, textures, normals, corners, sizes, starts, ends);
-    *count = hems.count;
-    hems.number
+    answers::hemmed(hems, count)
 }
 
 // Ported wires: their positions one after the other, and how many each wire has.
@@ -249,9 +219,7 @@ pub extern "C" fn bh_extract_boundaries(
         flat,
         lengths,
     );
-    *flatcount = ported.flat;
-    *wirecount = ported.wires;
-    ported.number
+    answers::wired(ported, flatcount, wirecount)
 }
 
 // House wires, in the same form.
@@ -270,9 +238,7 @@ pub extern "C" fn bh_house_wires(
     ensures { λ r. ⌜ HouseAnswer (meshOf (now (positions .entry)) (now (textures .entry)) (now (normals .entry)) (now (corners .entry)) (now (sizes .entry))) (now (flat .entry)) (now (lengths .entry)) (now (flat .exit)) (now (lengths .exit)) r (now (flatcount .exit)) (now (wirecount .exit)) ⌝ }
 {
     let house = house::house_wires(positions, textures, normals, corners, sizes, flat, lengths);
-    *flatcount = house.flat;
-    *wirecount = house.wires;
-    house.number
+    answers::wired(house, flatcount, wirecount)
 }
 
 // Panels: the faces of all panels one after the other, and how many each panel has.
@@ -301,9 +267,7 @@ pub extern "C" fn bh_components(
         flat,
         lengths,
     );
-    *flatcount = found.faces;
-    *panelcount = found.panels;
-    found.number
+    answers::panelled(found, flatcount, panelcount)
 }
 
 // The reader of a panel file.
@@ -324,23 +288,24 @@ pub extern "C" fn bh_read_panel(
     ensures { λ r. ⌜ PanelRead (now (file .entry))
         (meshOf (now (positions .entry)) (now (textures .entry)) (now (normals .entry)) (now (corners .entry)) (now (sizes .entry)))
         (meshOf (now (positions .exit)) (now (textures .exit)) (now (normals .exit)) (now (corners .exit)) (now (sizes .exit)))
-        (call.readBy r (now (positioncount .exit)) (now (texturecount .exit)) (now (normalcount .exit)) (now (cornercount .exit)) (now (facecount .exit))) ⌝ }
+        (answer.readBy r (now (positioncount .exit)) (now (texturecount .exit)) (now (normalcount .exit)) (now (cornercount .exit)) (now (facecount .exit))) ⌝ }
 {
     let panel = panelfile::read_panel(file, positions, textures, normals, corners, sizes);
-    *positioncount = panel.positions;
-    *texturecount = panel.textures;
-    *normalcount = panel.normals;
-    *cornercount = panel.corners;
-    *facecount = panel.faces;
-    panel.number
+    answers::read(
+        panel,
+        positioncount,
+        texturecount,
+        normalcount,
+        cornercount,
+        facecount,
+    )
 }
 
 // The sheet of a panel file: its bytes, and how many they are.
 #[no_mangle]
 pub extern "C" fn bh_sheet(file: &[u8], text: &mut [u8], length: &mut usize) -> u32
-    ensures { λ r. ⌜ Printed (now (file .entry)) (now (text .entry)) (now (text .exit)) (call.printedBy r (now (length .exit))) ⌝ }
+    ensures { λ r. ⌜ Printed (now (file .entry)) (now (text .entry)) (now (text .exit)) (answer.printedBy r (now (length .exit))) ⌝ }
 {
     let printed = sheet::sheet(file, text);
-    *length = printed.length;
-    printed.number
+    answers::printed(printed, length)
 }

@@ -20,7 +20,7 @@ pub enum Call {
 }
 
 impl Call {
-    /// In the order of the C interface, but that `push` stands last: the kinds of the list for crate replay go by the others' places.
+    /// In the order of the C interface, but that `push` stands last: the kinds of the list for crate try_replay go by the others' places.
     pub const ALL: [Call; 13] = [
         Call::MeshNumber,
         Call::Face,

@@ -29,14 +29,14 @@ fn meshsheet_prints_the_sheet() {
 
 #[test]
 fn sheets_prints_each_sheet() {
-    let sheets: String = files("sheets").iter().map(|(name, file)| format!("== {name}\n{}", sheet::sheet(file))).collect();
-    assert_eq!(sheets, stored("sheets"));
+    let sheets: String = files("try_sheets").iter().map(|(name, file)| format!("== {name}\n{}", sheet::sheet(file))).collect();
+    assert_eq!(sheets, stored("try_sheets"));
 }
 
 #[test]
 fn damaged_counts_each_number() {
-    let counted: String = files("damaged").iter().map(|(name, file)| format!("== {name}\n{}{}", cuts(file), headers(file))).collect();
-    assert_eq!(counted, stored("damaged"));
+    let counted: String = files("try_damaged").iter().map(|(name, file)| format!("== {name}\n{}{}", cuts(file), headers(file))).collect();
+    assert_eq!(counted, stored("try_damaged"));
 }
 
 #[test]

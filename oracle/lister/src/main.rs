@@ -1,4 +1,4 @@
-//! Writes the list of answers that crate `replay` replays: cases of every call that takes a mesh or a panel file, with every number
+//! Writes the list of answers that crate `try_replay` replays: cases of every call that takes a mesh or a panel file, with every number
 //! that it can answer. Each answer is document 01's reading; where the Rust has one too, untouched and ascending, it must be the same.
 //!
 //!     lister FILE     writes the list there, and prints how many cases each call has, and how many the Rust answered

@@ -1,4 +1,4 @@
-//! The list's format: words of 32 bits, the lowest byte first. crates/replay/README.md has it in full.
+//! The list's format: words of 32 bits, the lowest byte first. crates/try_replay/README.md has it in full.
 
 use judge::{Answer, Call, Count, Mesh, Numbers, Question};
 
