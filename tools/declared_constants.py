@@ -67,7 +67,7 @@ ROOM_RULES = {
     "bh_hem_edges": (EDGES, "hemNumber"),
     "bh_extract_boundaries": (WIRES, "portedShort"),
     "bh_house_wires": (WIRES, "houseShort"),
-    "bh_components": (PANELS, "panelsNumber"),
+    "bh_components": (PANELS, "componentsNumber"),
     "bh_read_panel": (READING, "fullRoom"),
     "bh_sheet": (SHEET, "sheetNumber"),
 }
