@@ -16,7 +16,7 @@ use Rattle.lists.proofs.Writing.{sets-append, Copying, copy-turns, copy-ends}
 use Rattle.lists.proofs.Copies.{sets-whole}
 use Rattle.lists.proofs.Buckets.{lt-or-ge, table-at, table-ext}
 use Rattle.mesh.specs.Limits.{width, entryLimit, cornerNumbers}
-use Rattle.mesh.specs.Mesh.{Corner, Ring, threes, rings, cornerAt}
+use Rattle.mesh.specs.Mesh.{Corner, Ring, missing, threes, rings, cornerAt}
 use Rattle.mesh.specs.Face.{offsetOf, faceOf, Sound}
 use Rattle.mesh.proofs.Corners.{length-threes, getD-threes}
 use Rattle.mesh.proofs.Faces.{face-length, face-fits, offset-step, length-rings, getD-rings}
@@ -158,7 +158,11 @@ module _ (normals : Bool) (which : ℕ) (cs s out₀ : List ℕ) where
       → Filling normals which cs s out₀ out′ (at + length part / width) (k + 1)
   fill-turns out out′ part at k sound h e w r = record {
     within = omega arith;
-    passed = let p : at ≡ offsetOf s k = r .passed in let q : offsetOf s (k + 1) ≡ offsetOf s k + getD s k 0 = offset-step s k h in let z : length part / width ≡ getD s k 0 = size in omega arith;
+    passed =
+        let p : at ≡ offsetOf s k = r .passed in
+        let q : offsetOf s (k + 1) ≡ offsetOf s k + getD s k 0 = offset-step s k h in
+        let z : length part / width ≡ getD s k 0 = size in
+        omega arith;
     filled =
         w
         ∙ ap (λ (l : List ℕ). sets l at (map (entryOf which) (faceUses normals k (threes part)))) (r .filled)
@@ -193,7 +197,9 @@ module _ (normals : Bool) (which : ℕ) (cs s out₀ : List ℕ) where
       r .filled ∙ sets-whole out₀ (upto k) (omega arith) ∙ all
 
   -- the face's part fits behind what is written
-  pub fill-room : (out part : List ℕ) (at k : ℕ) → Sound cs s → k < length s → part ≡ faceOf cs s k → length out₀ ≡ length cs / width → Filling normals which cs s out₀ out at k → FaceRoom part out at
+  pub fill-room :
+      (out part : List ℕ) (at k : ℕ) → Sound cs s → k < length s → part ≡ faceOf cs s k → length out₀ ≡ length cs / width
+      → Filling normals which cs s out₀ out at k → FaceRoom part out at
   fill-room out part at k sound h e room r =
       let l : length part ≡ width * getD s k 0 = ap length e ∙ face-length cs s sound k h in
       let f : width * offsetOf s k + width * getD s k 0 ≤ length cs = face-fits cs s sound k h in
@@ -236,13 +242,13 @@ pub digit-off : (normals : Bool) (n : ℕ) → normals ≡ false → 0 ≡ norma
 unfolding normalDigit
 digit-off normals n e = rw e
 
-pub digit-missing : (normals : Bool) (n : ℕ) → normals ≡ true → n ≡ 4294967295 → entryLimit ≡ normalDigit (cond normals n 0)
+pub digit-missing : (normals : Bool) (n : ℕ) → normals ≡ true → n ≡ missing → entryLimit ≡ normalDigit (cond normals n 0)
 unfolding normalDigit
-digit-missing normals n e h = rw (e, eq-eqb n 4294967295 h)
+digit-missing normals n e h = rw (e, eq-eqb n missing h)
 
-pub digit-there : (normals : Bool) (n : ℕ) → normals ≡ true → (n ≡ 4294967295 → ⊥) → n ≡ normalDigit (cond normals n 0)
+pub digit-there : (normals : Bool) (n : ℕ) → normals ≡ true → (n ≡ missing → ⊥) → n ≡ normalDigit (cond normals n 0)
 unfolding normalDigit
-digit-there normals n e h = rw (e, ne-eqb n 4294967295 h)
+digit-there normals n e h = rw (e, ne-eqb n missing h)
 
 -- the edge from corner j to the one behind it, b: by which position is lower
 module _ (normals : Bool) (which k : ℕ) (part : List ℕ) (j b n m r : ℕ) (e : b ≡ nextOf (length part / width) j) where

@@ -42,7 +42,8 @@ normal-of false n h = refl
 pair-good : (normals : Bool) (a b : Corner) → goodCorner a ≡ true → goodCorner b ≡ true → goodKey (pairKey normals a b) ≡ true
 pair-good normals a b p q =
     and-both (ltb (position a) entryLimit && ltb (position b) entryLimit) (isNormal (cond normals (normal a) 0) && isNormal (cond normals (normal b) 0))
-    (and-both (ltb (position a) entryLimit) (ltb (position b) entryLimit) (and-left (ltb (position a) entryLimit) (isNormal (normal a)) p) (and-left (ltb (position b) entryLimit) (isNormal (normal b)) q))
+    (and-both (ltb (position a) entryLimit) (ltb (position b) entryLimit)
+    (and-left (ltb (position a) entryLimit) (isNormal (normal a)) p) (and-left (ltb (position b) entryLimit) (isNormal (normal b)) q))
     (and-both (isNormal (cond normals (normal a) 0)) (isNormal (cond normals (normal b) 0))
     (normal-of normals (normal a) (and-right (ltb (position a) entryLimit) (isNormal (normal a)) p))
     (normal-of normals (normal b) (and-right (ltb (position b) entryLimit) (isNormal (normal b)) q)))
@@ -85,7 +86,9 @@ rings-every q (n ∷ s) cs l h =
     sym (every-append q (threes (take (width * n) cs)) (threes (drop (width * n) cs))) ∙ ap (every q) (sym (threes-split n cs (omega arith))) ∙ h in
     and-both (every q (threes (take (width * n) cs))) (every (every q) (rings s (drop (width * n) cs)))
     (and-left (every q (threes (take (width * n) cs))) (every q (threes (drop (width * n) cs))) e)
-    (rings-every q s (drop (width * n) cs) (let z : length (drop (width * n) cs) ≡ length cs - width * n = length-drop (width * n) cs in omega arith) (and-right (every q (threes (take (width * n) cs))) (every q (threes (drop (width * n) cs))) e))
+    (rings-every q s (drop (width * n) cs)
+    (let z : length (drop (width * n) cs) ≡ length cs - width * n = length-drop (width * n) cs in omega arith)
+    (and-right (every q (threes (take (width * n) cs))) (every q (threes (drop (width * n) cs))) e))
 
 pub faces-good : (cs s : List ℕ) → Keyable cs s → every (every goodCorner) (rings s cs) ≡ true
 faces-good cs s a =
@@ -119,8 +122,8 @@ keyable m a = record {
 
 -- ---- digits tell normals apart
 
-below-2048 : (n : ℕ) → isNormal n ≡ true → eqb n missing ≡ false → n < entryLimit
-below-2048 n h t = ltb-true n entryLimit (rw t at h)
+normal-below : (n : ℕ) → isNormal n ≡ true → eqb n missing ≡ false → n < entryLimit
+normal-below n h t = ltb-true n entryLimit (rw t at h)
 
 digit-missing : (n : ℕ) → eqb n missing ≡ true → normalDigit n ≡ entryLimit
 unfolding normalDigit
@@ -138,13 +141,13 @@ digit-injective a b p q e =
     (λ t. eqb-true a missing s ∙ sym (eqb-true b missing t))
     (λ t.
     let x : entryLimit ≡ b = sym (digit-missing a s) ∙ e ∙ digit-there b t in
-    let y : b < entryLimit = below-2048 b q t in
+    let y : b < entryLimit = normal-below b q t in
     absurd (omega arith)))
     (λ s.
     by-cases (eqb b missing)
     (λ t.
     let x : a ≡ entryLimit = sym (digit-there a s) ∙ e ∙ digit-missing b t in
-    let y : a < entryLimit = below-2048 a p s in
+    let y : a < entryLimit = normal-below a p s in
     absurd (omega arith))
     (λ t. sym (digit-there a s) ∙ e ∙ digit-there b t))
 
@@ -158,7 +161,7 @@ digit-below : (n : ℕ) → isNormal n ≡ true → normalDigit n < normalDigits
 digit-below n h =
     by-cases (eqb n missing)
     (λ t. rw (digit-missing n t) (omega arith))
-    (λ t. rw (digit-there n t) (let l : n < entryLimit = below-2048 n h t in omega arith))
+    (λ t. rw (digit-there n t) (let l : n < entryLimit = normal-below n h t in omega arith))
 
 -- ---- the columns at a use
 
@@ -186,11 +189,15 @@ module _ (us : List Use) where
 
     lower-good : (x : ℕ) → x < length us → getD us x noUse .1 .0 < entryLimit
     lower-good x h = let k : Key = getD us x noUse .1 in
-        ltb-true (k .0) entryLimit (and-left (ltb (k .0) entryLimit) (ltb (k .1) entryLimit) (and-left (ltb (k .0) entryLimit && ltb (k .1) entryLimit) (isNormal (k .2) && isNormal (k .3)) (key-at x h)))
+        ltb-true (k .0) entryLimit
+        (and-left (ltb (k .0) entryLimit) (ltb (k .1) entryLimit)
+        (and-left (ltb (k .0) entryLimit && ltb (k .1) entryLimit) (isNormal (k .2) && isNormal (k .3)) (key-at x h)))
 
     higher-good : (x : ℕ) → x < length us → getD us x noUse .1 .1 < entryLimit
     higher-good x h = let k : Key = getD us x noUse .1 in
-        ltb-true (k .1) entryLimit (and-right (ltb (k .0) entryLimit) (ltb (k .1) entryLimit) (and-left (ltb (k .0) entryLimit && ltb (k .1) entryLimit) (isNormal (k .2) && isNormal (k .3)) (key-at x h)))
+        ltb-true (k .1) entryLimit
+        (and-right (ltb (k .0) entryLimit) (ltb (k .1) entryLimit)
+        (and-left (ltb (k .0) entryLimit && ltb (k .1) entryLimit) (isNormal (k .2) && isNormal (k .3)) (key-at x h)))
 
     n-good : (x : ℕ) → x < length us → isNormal (getD us x noUse .1 .2) ≡ true
     n-good x h = let k : Key = getD us x noUse .1 in

@@ -69,7 +69,9 @@ joins-below b seen [] p q = refl
 joins-below b seen (u ∷ us) p q =
     go (firstFace (u .1) seen) refl
     (joins-below b (seen ++ (u ∷ [])) us
-    (every-append (λ (v : Use). ltb (v .0) b) seen (u ∷ []) ∙ and-both (every (λ (v : Use). ltb (v .0) b) seen) (ltb (u .0) b && true) p (and-both (ltb (u .0) b) true (and-left (ltb (u .0) b) (every (λ (v : Use). ltb (v .0) b) us) q) refl))
+    (every-append (λ (v : Use). ltb (v .0) b) seen (u ∷ [])
+    ∙ and-both (every (λ (v : Use). ltb (v .0) b) seen) (ltb (u .0) b && true) p
+    (and-both (ltb (u .0) b) true (and-left (ltb (u .0) b) (every (λ (v : Use). ltb (v .0) b) us) q) refl))
     (and-right (ltb (u .0) b) (every (λ (v : Use). ltb (v .0) b) us) q))
   where
     go :
@@ -87,11 +89,13 @@ uses-below normals i (f ∷ fs) =
     every-append (λ (u : Use). ltb (u .0) (i + suc (length fs))) (faceUses normals i f) (usesFrom normals (suc i) fs)
     ∙ and-both (every (λ (u : Use). ltb (u .0) (i + suc (length fs))) (faceUses normals i f)) (every (λ (u : Use). ltb (u .0) (i + suc (length fs))) (usesFrom normals (suc i) fs))
     (here (faceKeys normals f))
-    (subst (λ (b : ℕ). every (λ (u : Use). ltb (u .0) b) (usesFrom normals (suc i) fs) ≡ true) (let z : suc i + length fs ≡ i + suc (length fs) = omega arith in z) (uses-below normals (suc i) fs))
+    (subst (λ (b : ℕ). every (λ (u : Use). ltb (u .0) b) (usesFrom normals (suc i) fs) ≡ true)
+    (let z : suc i + length fs ≡ i + suc (length fs) = omega arith in z) (uses-below normals (suc i) fs))
   where
     here : (ks : List Key) → every (λ (u : Use). ltb (u .0) (i + suc (length fs))) (map (λ key. (i, key)) ks) ≡ true
     here [] = refl
-    here (q ∷ ks) = and-both (ltb i (i + suc (length fs))) (every (λ (u : Use). ltb (u .0) (i + suc (length fs))) (map (λ key. (i, key)) ks)) (lt-ltb i (i + suc (length fs)) (omega arith)) (here ks)
+    here (q ∷ ks) =
+        and-both (ltb i (i + suc (length fs))) (every (λ (u : Use). ltb (u .0) (i + suc (length fs))) (map (λ key. (i, key)) ks)) (lt-ltb i (i + suc (length fs)) (omega arith)) (here ks)
 
 pub joins-few : (seen us : List Use) → length (flatJoins (joinsFrom seen us)) ≤ 2 * length us
 unfolding flatJoins

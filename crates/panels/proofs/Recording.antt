@@ -81,7 +81,8 @@ module _ (faces firsts : List ℕ) where
         within = omega arith;
         wrote = record {
           behind =
-              let l : length (joinsBy faces firsts u ++ joinAt faces firsts u) ≡ length (joinsBy faces firsts u) + length (joinAt faces firsts u) = length-append (joinsBy faces firsts u) (joinAt faces firsts u) in
+              let l : length (joinsBy faces firsts u ++ joinAt faces firsts u) ≡ length (joinsBy faces firsts u) + length (joinAt faces firsts u) =
+              length-append (joinsBy faces firsts u) (joinAt faces firsts u) in
               let l′ : length (joinsBy faces firsts (u + 1)) ≡ length (joinsBy faces firsts u ++ joinAt faces firsts u) = ap length e in
               omega arith;
           written =

@@ -40,7 +40,9 @@ pub fn components(
     flat: &mut [u32],
     lengths: &mut [u32],
 ) -> Answer
-    ensures { λ r. ⌜ Answered (meshOf (now (positions .entry)) (now (textures .entry)) (now (normals .entry)) (now (corners .entry)) (now (sizes .entry))) «use_normal» (now (flat .entry)) (now (lengths .entry)) (r .number) (r .faces) (r .panels) (now (flat .exit)) (now (lengths .exit)) ⌝ }
+    ensures { λ r. ⌜ Answered
+        (meshOf (now (positions .entry)) (now (textures .entry)) (now (normals .entry)) (now (corners .entry)) (now (sizes .entry))) «use_normal»
+        (now (flat .entry)) (now (lengths .entry)) (r .number) (r .faces) (r .panels) (now (flat .exit)) (now (lengths .exit)) ⌝ }
 {
     let number = mesh::number(positions, textures, normals, corners, sizes);
     if number != 0 {
@@ -80,7 +82,9 @@ pub fn components_of(
     lengths: &mut [u32],
 ) -> searching::Counts
     requires { ⌜ PanelRoom (now corners) (now sizes) (now flat) (now lengths) ⌝ }
-    ensures { λ r. ⌜ Parted (panels «use_normal» (rings (now (sizes .entry)) (now (corners .entry)))) (now (flat .entry)) (now (lengths .entry)) (now (flat .exit)) (now (lengths .exit)) (r .faces) (r .panels) ⌝ }
+    ensures { λ r. ⌜ Parted
+        (panels «use_normal» (rings (now (sizes .entry)) (now (corners .entry)))) (now (flat .entry)) (now (lengths .entry)) (now (flat .exit))
+        (now (lengths .exit)) (r .faces) (r .panels) ⌝ }
 {
     let mut row = [0u32; searching::JOIN_NUMBERS];
     let n = find_joins(corners, sizes, use_normal, &mut row[..]);

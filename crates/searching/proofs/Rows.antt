@@ -19,7 +19,9 @@ use Rattle.searching.specs.Rows.{Divisible}
 
 module _ (joins : List ℕ) (f : ℕ) (flat lengths : List ℕ) (p : Divisible joins f flat lengths) where
   -- entries 0, 1, .. of the joins, which are faces, can be sorted by face
-  pub entries-ready : (entries entries′ order : List ℕ) → length entries ≡ length joins → entries′ ≡ span 0 (length entries) → length order ≡ length joins → Sortable f joins entries′ order
+  pub entries-ready :
+      (entries entries′ order : List ℕ) → length entries ≡ length joins → entries′ ≡ span 0 (length entries) → length order ≡ length joins
+      → Sortable f joins entries′ order
   entries-ready entries entries′ order l e o =
       let q : entries′ ≡ span 0 (length joins) = e ∙ ap (span 0) l in
       subst (λ (t : List ℕ). Sortable f joins t order) (sym q)
@@ -67,7 +69,9 @@ module _ (joins : List ℕ) (f : ℕ) (flat lengths : List ℕ) (p : Divisible j
         panels-room = let b : f ≤ length lengths = p .panels-room in omega arith;
       }
 
-pub parted-at : (joins flat lengths flat′ lengths′ : List ℕ) (f g n k : ℕ) → g ≡ f → Parted (panelsBelow g g joins) flat lengths flat′ lengths′ n k → Parted (panelsBelow f f joins) flat lengths flat′ lengths′ n k
+pub parted-at :
+    (joins flat lengths flat′ lengths′ : List ℕ) (f g n k : ℕ) → g ≡ f → Parted (panelsBelow g g joins) flat lengths flat′ lengths′ n k
+    → Parted (panelsBelow f f joins) flat lengths flat′ lengths′ n k
 parted-at joins flat lengths flat′ lengths′ f g n k e r = subst (λ (h : ℕ). Parted (panelsBelow h h joins) flat lengths flat′ lengths′ n k) e r
 
 -- the front of a row that is one number all along is such a row

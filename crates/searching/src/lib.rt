@@ -21,7 +21,9 @@ pub struct Counts {
 // The panels of `faces` faces that the joins connect.
 pub fn part(joins: &[u32], faces: usize, flat: &mut [u32], lengths: &mut [u32]) -> Counts
     requires { ⌜ Divisible (now joins) faces (now flat) (now lengths) ⌝ }
-    ensures { λ r. ⌜ Parted (panelsBelow faces faces (now (joins .entry))) (now (flat .entry)) (now (lengths .entry)) (now (flat .exit)) (now (lengths .exit)) (r .faces) (r .panels) ⌝ }
+    ensures { λ r. ⌜ Parted
+        (panelsBelow faces faces (now (joins .entry))) (now (flat .entry)) (now (lengths .entry)) (now (flat .exit)) (now (lengths .exit)) (r .faces)
+        (r .panels) ⌝ }
 {
     let mut entries = [0u32; JOIN_NUMBERS];
     let mut order = [0u32; JOIN_NUMBERS];
@@ -53,7 +55,9 @@ fn part_in(
     lengths: &mut [u32],
 ) -> Counts
     requires { ⌜ PartRows (now joins) (now entries) (now order) (now ends) (now seen) (now stack) (now flat) (now lengths) ⌝ }
-    ensures { λ r. ⌜ Parted (panelsBelow (length (now (ends .entry))) (length (now (ends .entry))) (now (joins .entry))) (now (flat .entry)) (now (lengths .entry)) (now (flat .exit)) (now (lengths .exit)) (r .faces) (r .panels) ⌝ }
+    ensures { λ r. ⌜ Parted
+        (panelsBelow (length (now (ends .entry))) (length (now (ends .entry))) (now (joins .entry))) (now (flat .entry)) (now (lengths .entry))
+        (now (flat .exit)) (now (lengths .exit)) (r .faces) (r .panels) ⌝ }
 {
     keys::count_up(entries);
     sorting::sort_ends(joins, entries, ends, order);

@@ -20,7 +20,9 @@ pub fn list_panels(
     lengths: &mut [u32],
 ) -> crate::Counts
     requires { ⌜ walk.Partable (now joins) (now order) (now ends) (now seen) (now stack) (now flat) (now lengths) ⌝ }
-    ensures { λ r. ⌜ walk.Parted (walk.panelsBelow (length (now (ends .entry))) (length (now (ends .entry))) (now (joins .entry))) (now (flat .entry)) (now (lengths .entry)) (now (flat .exit)) (now (lengths .exit)) (r .faces) (r .panels) ⌝ }
+    ensures { λ r. ⌜ walk.Parted
+        (walk.panelsBelow (length (now (ends .entry))) (length (now (ends .entry))) (now (joins .entry))) (now (flat .entry)) (now (lengths .entry))
+        (now (flat .exit)) (now (lengths .exit)) (r .faces) (r .panels) ⌝ }
 {
     let mut n: usize = 0;
     let mut k: usize = 0;
@@ -51,7 +53,9 @@ fn list_panel(
     k: usize,
 ) -> crate::Counts
     requires { ⌜ walk.PanelAt i (now joins) (now order) (now ends) (now seen) (now stack) (now flat) (now lengths) n k ⌝ }
-    ensures { λ r. ⌜ walk.PanelledMore (i + 1) (now (joins .entry)) (now (ends .entry)) (now (flat .entry)) (now (lengths .entry)) n k (now (seen .exit)) (now (stack .exit)) (now (flat .exit)) (now (lengths .exit)) (r .faces) (r .panels) ⌝ }
+    ensures { λ r. ⌜ walk.PanelledMore
+        (i + 1) (now (joins .entry)) (now (ends .entry)) (now (flat .entry)) (now (lengths .entry)) n k (now (seen .exit)) (now (stack .exit))
+        (now (flat .exit)) (now (lengths .exit)) (r .faces) (r .panels) ⌝ }
 {
     if seen[i] != 0 {
         return crate::Counts {
@@ -85,7 +89,10 @@ fn search(
     n: usize,
 ) -> usize
     requires { ⌜ walk.Searchable (now joins) (now order) (now ends) face (now seen) (now stack) (now flat) n ⌝ }
-    ensures { λ r. ⌜ walk.Searched (length (now (ends .entry))) (searchFrom (length (now (ends .entry))) (joinsOf (now (joins .entry))) (take n (now (flat .entry))) (face ∷ []) (face ∷ [])) (now (flat .entry)) n (now (seen .exit)) (now (stack .exit)) (now (flat .exit)) r ⌝ }
+    ensures { λ r. ⌜ walk.Searched
+        (length (now (ends .entry)))
+        (searchFrom (length (now (ends .entry))) (joinsOf (now (joins .entry))) (take n (now (flat .entry))) (face ∷ []) (face ∷ []))
+        (now (flat .entry)) n (now (seen .exit)) (now (stack .exit)) (now (flat .exit)) r ⌝ }
 {
     let first = visit(face, seen, stack, flat, 0, n);
     let mut top = first.top;
@@ -110,7 +117,10 @@ fn pop(
     n: usize,
 ) -> Marks
     requires { ⌜ walk.Poppable (now joins) (now order) (now ends) (now seen) (now stack) (now flat) top n ⌝ }
-    ensures { λ r. ⌜ walk.Stepped (length (now (ends .entry))) (look [] (neighbours (getD (now (stack .entry)) (top - 1) 0) (joinsOf (now (joins .entry)))) (walk.stateOf (now (stack .entry)) (top - 1) (now (flat .entry)) n)) (now (flat .entry)) n (now (seen .exit)) (now (stack .exit)) (now (flat .exit)) (r .top) (r .n) ⌝ }
+    ensures { λ r. ⌜ walk.Stepped
+        (length (now (ends .entry)))
+        (look [] (neighbours (getD (now (stack .entry)) (top - 1) 0) (joinsOf (now (joins .entry)))) (walk.stateOf (now (stack .entry)) (top - 1) (now (flat .entry)) n))
+        (now (flat .entry)) n (now (seen .exit)) (now (stack .exit)) (now (flat .exit)) (r .top) (r .n) ⌝ }
 {
     let left = top - 1;
     let x = keys::wide(stack[left]);
@@ -132,7 +142,10 @@ fn look(
     n: usize,
 ) -> Marks
     requires { ⌜ walk.Lookable (length (now seen)) (now joins) (now order) to (now seen) (now stack) (now flat) top n ⌝ }
-    ensures { λ r. ⌜ walk.Stepped (length (now (seen .entry))) (look [] (walk.nearBetween (now (joins .entry)) (now (order .entry)) from to) (walk.stateOf (now (stack .entry)) top (now (flat .entry)) n)) (now (flat .entry)) n (now (seen .exit)) (now (stack .exit)) (now (flat .exit)) (r .top) (r .n) ⌝ }
+    ensures { λ r. ⌜ walk.Stepped
+        (length (now (seen .entry)))
+        (look [] (walk.nearBetween (now (joins .entry)) (now (order .entry)) from to) (walk.stateOf (now (stack .entry)) top (now (flat .entry)) n))
+        (now (flat .entry)) n (now (seen .exit)) (now (stack .exit)) (now (flat .exit)) (r .top) (r .n) ⌝ }
 {
     let mut height = top;
     let mut listed = n;
@@ -160,7 +173,9 @@ fn visit(
     n: usize,
 ) -> Marks
     requires { ⌜ walk.Visitable (length (now seen)) x (now seen) (now stack) (now flat) top n ⌝ }
-    ensures { λ r. ⌜ walk.Stepped (length (now (seen .entry))) (look [] (x ∷ []) (walk.stateOf (now (stack .entry)) top (now (flat .entry)) n)) (now (flat .entry)) n (now (seen .exit)) (now (stack .exit)) (now (flat .exit)) (r .top) (r .n) ⌝ }
+    ensures { λ r. ⌜ walk.Stepped
+        (length (now (seen .entry))) (look [] (x ∷ []) (walk.stateOf (now (stack .entry)) top (now (flat .entry)) n)) (now (flat .entry)) n
+        (now (seen .exit)) (now (stack .exit)) (now (flat .exit)) (r .top) (r .n) ⌝ }
 {
     let i = keys::wide(x);
     if seen[i] != 0 {

@@ -67,8 +67,8 @@ returns-4 c =
     let zero = c .before .before .before .before .before .before .before .before .before .if1 .left in
     let given = c .before .before .before .before .before .before .before .before .before .before .before .before .before .before .before .before .before .before .args in
     let mesh = meshOf (given .positions .now) (given .textures .now) (given .normals .now) (given .corners .now) (given .sizes .now) in
-    answered mesh (accepted mesh (sym (number .ensures) ∙ zero)) _ _ (c .before .before .before .before .before .before .before .before .if2 .left) (c .before .before .before .before .before .before .before .if3 .left) (given .use-normal) _ _ _ _ _
-    (number .ensures) zero (parted .ensures)
+    answered mesh (accepted mesh (sym (number .ensures) ∙ zero)) _ _ (c .before .before .before .before .before .before .before .before .if2 .left)
+    (c .before .before .before .before .before .before .before .if3 .left) (given .use-normal) _ _ _ _ _ (number .ensures) zero (parted .ensures)
 
 pub components-spec : {M : Type 1} → statement M
 components-spec =

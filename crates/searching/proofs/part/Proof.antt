@@ -36,13 +36,15 @@ slice-aggregate-part-in-5 : tie.Need-slice-aggregate-part-in-5
 slice-aggregate-part-in-5 c = sym (face-row _ _ _ _ (c .before .before .before .before .before .before .before .before .pre))
 
 part-in-requires : tie.Need-part-in-requires
-part-in-requires c κs = record {
-  divisible = divisible-at _ _ _ _ _ (face-row _ _ _ _ (c .before .before .before .before .before .before .before .before .before .before .pre)) (c .before .before .before .before .before .before .before .before .before .before .pre);
-  entries-long = entry-row _ _ _ _ (c .before .before .before .before .before .before .before .before .before .before .pre);
-  order-long = entry-row _ _ _ _ (c .before .before .before .before .before .before .before .before .before .before .pre);
-  unseen = clear-row _ _ _ _ (c .before .before .before .before .before .before .before .before .before .before .pre);
-  stack-long = refl;
-}
+part-in-requires c κs =
+    let pre = c .before .before .before .before .before .before .before .before .before .before .pre in
+    record {
+      divisible = divisible-at _ _ _ _ _ (face-row _ _ _ _ pre) pre;
+      entries-long = entry-row _ _ _ _ pre;
+      order-long = entry-row _ _ _ _ pre;
+      unseen = clear-row _ _ _ _ pre;
+      stack-long = refl;
+    }
 
 same-length : tie.Need-same-length
 same-length c = search needs
@@ -51,7 +53,10 @@ same-length-2 : tie.Need-same-length-2
 same-length-2 c = search needs
 
 returns : tie.Need-returns
-returns c = parted-at _ _ _ _ _ _ _ _ _ (face-row _ _ _ _ (c .before .before .before .before .before .before .before .before .before .before .before .before .before .before .before .before .before .before .before .before .pre)) (c .before .before .before .before .before .before .before .before .before .part-in .ensures)
+returns c =
+    let pre = c .before .before .before .before .before .before .before .before .before .before .before .before .before .before .before .before .before .before .before .before .pre in
+    let part-in = c .before .before .before .before .before .before .before .before .before .part-in in
+    parted-at _ _ _ _ _ _ _ _ _ (face-row _ _ _ _ pre) (part-in .ensures)
 
 pub part-spec : {M : Type 1} → statement M
 part-spec =

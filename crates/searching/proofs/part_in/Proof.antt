@@ -6,13 +6,26 @@ use Rattle.searching.proofs.part_in.Statement.{statement}
 use Rattle.searching.proofs.part_in.Tie as tie
 
 count-up-requires : tie.Need-count-up-requires
-count-up-requires c κs = omega (arith, c .before .before .before .before .before .before .before .before .before .pre .entries-long, c .before .before .before .before .before .before .before .before .before .pre .divisible .fits)
+count-up-requires c κs =
+    let pre = c .before .before .before .before .before .before .before .before .before .pre in
+    omega (arith, pre .entries-long, pre .divisible .fits)
 
 sort-ends-requires : tie.Need-sort-ends-requires
-sort-ends-requires c κs = entries-ready _ _ _ _ (c .before .before .before .before .before .before .before .before .before .before .before .before .before .before .before .pre .divisible) (c .before .before .before .before .before .before .before .before .before .before .before .before .before .before .before .args .entries .now) _ _ (c .before .before .before .before .before .before .before .before .before .before .before .before .before .before .before .pre .entries-long) (c .before .before .before .before .before .count-up .ensures) (c .before .before .before .before .before .before .before .before .before .before .before .before .before .before .before .pre .order-long)
+sort-ends-requires c κs =
+    let pre = c .before .before .before .before .before .before .before .before .before .before .before .before .before .before .before .pre in
+    let given = c .before .before .before .before .before .before .before .before .before .before .before .before .before .before .before .args in
+    let count-up = c .before .before .before .before .before .count-up in
+    entries-ready _ _ _ _ (pre .divisible) (given .entries .now) _ _ (pre .entries-long) (count-up .ensures) (pre .order-long)
 
 list-panels-requires : tie.Need-list-panels-requires
-list-panels-requires c κs = panels-ready _ _ _ _ (c .before .before .before .before .before .before .before .before .before .before .before .before .before .before .before .before .before .before .before .before .before .before .before .before .before .before .pre .divisible) (c .before .before .before .before .before .before .before .before .before .before .before .before .before .before .before .before .before .before .before .before .before .before .before .before .before .before .args .entries .now) _ _ _ _ _ _ (c .before .before .before .before .before .before .before .before .before .before .before .before .before .before .before .before .before .before .before .before .before .before .before .before .before .before .pre .entries-long) (c .before .before .before .before .before .before .before .before .before .before .before .before .before .before .before .before .count-up .ensures) (c .before .before .before .before .before .before .before .before .before .before .before .before .before .before .before .before .before .before .before .before .before .before .before .before .before .before .pre .order-long) (c .before .before .before .before .before .before .before .before .before .before .sort-ends .ensures) (c .before .before .before .before .before .before .before .before .before .before .sort-ends .kept .1 .1 .0) (c .before .before .before .before .before .before .before .before .before .before .before .before .before .before .before .before .before .before .before .before .before .before .before .before .before .before .pre .unseen) (c .before .before .before .before .before .before .before .before .before .before .before .before .before .before .before .before .before .before .before .before .before .before .before .before .before .before .pre .stack-long)
+list-panels-requires c κs =
+    let far = c .before .before .before .before .before .before .before .before .before .before .before .before .before .before .before .before .before .before in
+    let pre = far .before .before .before .before .before .before .before .before .pre in
+    let given = far .before .before .before .before .before .before .before .before .args in
+    let count-up = c .before .before .before .before .before .before .before .before .before .before .before .before .before .before .before .before .count-up in
+    let sort-ends = c .before .before .before .before .before .before .before .before .before .before .sort-ends in
+    panels-ready _ _ _ _ (pre .divisible) (given .entries .now) _ _ _ _ _ _ (pre .entries-long) (count-up .ensures) (pre .order-long)
+    (sort-ends .ensures) (sort-ends .kept .1 .1 .0) (pre .unseen) (pre .stack-long)
 
 same-length : tie.Need-same-length
 same-length c = search needs
@@ -36,7 +49,10 @@ same-length-7 : tie.Need-same-length-7
 same-length-7 c = search needs
 
 returns : tie.Need-returns
-returns c = parted-at _ _ _ _ _ _ _ _ _ (c .before .before .before .before .before .before .before .before .before .before .before .before .before .before .before .before .before .before .before .sort-ends .kept .1 .1 .0) (c .before .before .before .before .before .before .before .before .list-panels .ensures)
+returns c =
+    let sort-ends = c .before .before .before .before .before .before .before .before .before .before .before .before .before .before .before .before .before .before .before .sort-ends in
+    let list-panels = c .before .before .before .before .before .before .before .before .list-panels in
+    parted-at _ _ _ _ _ _ _ _ _ (sort-ends .kept .1 .1 .0) (list-panels .ensures)
 
 pub part-in-spec : {M : Type 1} → statement M
 part-in-spec =

@@ -57,10 +57,18 @@ choose-requires-2 : tie.Need-choose-requires-2
 choose-requires-2 c κs = search needs
 
 returns : tie.Need-returns
-returns c = entry-up _ _ _ _ _ _ _ _ _ (c .before .before .before .before .before .before .before .before .behind .ensures .0) (c .before .if1 .taken) (c .before .before .before .before .normal-digit .ensures) (c .before .before .normal-digit2 .ensures) (c .choose .ensures)
+returns c =
+    let behind = c .before .before .before .before .before .before .before .before .behind in
+    let normal-digit = c .before .before .before .before .normal-digit in
+    let normal-digit2 = c .before .before .normal-digit2 in
+    entry-up _ _ _ _ _ _ _ _ _ (behind .ensures .0) (c .before .if1 .taken) (normal-digit .ensures) (normal-digit2 .ensures) (c .choose .ensures)
 
 returns-2 : tie.Need-returns-2
-returns-2 c = entry-down _ _ _ _ _ _ _ _ _ (c .before .before .before .before .before .before .before .before .behind .ensures .0) (c .before .if1 .left) (c .before .before .before .before .normal-digit .ensures) (c .before .before .normal-digit2 .ensures) (c .choose2 .ensures)
+returns-2 c =
+    let behind = c .before .before .before .before .before .before .before .before .behind in
+    let normal-digit = c .before .before .before .before .normal-digit in
+    let normal-digit2 = c .before .before .normal-digit2 in
+    entry-down _ _ _ _ _ _ _ _ _ (behind .ensures .0) (c .before .if1 .left) (normal-digit .ensures) (normal-digit2 .ensures) (c .choose2 .ensures)
 
 pub edge-entry-spec : {M : Type 1} → statement M
 edge-entry-spec =

@@ -24,10 +24,20 @@ cast-put-face : tie.Need-cast-put-face Inv-loop μ-loop
 cast-put-face c = search needs
 
 put-face-requires : tie.Need-put-face-requires Inv-loop μ-loop
-put-face-requires c κs = fill-room _ _ _ _ _ _ _ _ _ (c .before .before .before .before .before .before .before .pre .sound) (c .before .before .loop-test .taken) (c .before .face-at .ensures) (c .before .before .before .before .before .before .before .pre .room) (c .before .before .before .loop .inv)
+put-face-requires c κs =
+    let pre = c .before .before .before .before .before .before .before .pre in
+    let loop = c .before .before .before .loop in
+    let loop-test = c .before .before .loop-test in
+    fill-room _ _ _ _ _ _ _ _ _ (pre .sound) (loop-test .taken) (c .before .face-at .ensures) (pre .room) (loop .inv)
 
 add-at : tie.Need-add-at Inv-loop μ-loop
-add-at c = omega (arith, fill-room _ _ _ _ _ _ _ _ _ (c .before .before .before .before .before .before .before .before .before .before .pre .sound) (c .before .before .before .before .before .loop-test .taken) (c .before .before .before .before .face-at .ensures) (c .before .before .before .before .before .before .before .before .before .before .pre .room) (c .before .before .before .before .before .before .loop .inv), c .before .before .before .before .before .before .loop .inv .long, c .before .before .before .before .before .before .before .before .before .before .pre .room, c .before .before .before .before .before .before .before .before .before .before .pre .sound .fits)
+add-at c =
+    let pre = c .before .before .before .before .before .before .before .before .before .before .pre in
+    let loop = c .before .before .before .before .before .before .loop in
+    let loop-test = c .before .before .before .before .before .loop-test in
+    let face-at = c .before .before .before .before .face-at in
+    omega
+    (arith, fill-room _ _ _ _ _ _ _ _ _ (pre .sound) (loop-test .taken) (face-at .ensures) (pre .room) (loop .inv), loop .inv .long, pre .room, pre .sound .fits)
 
 add-k : tie.Need-add-k Inv-loop μ-loop
 add-k c = search needs
@@ -36,7 +46,13 @@ loop-less : tie.Need-loop-less Inv-loop μ-loop
 loop-less c = search needs
 
 loop-again : tie.Need-loop-again Inv-loop μ-loop
-loop-again c = fill-turns _ _ _ _ _ _ _ _ _ _ (c .before .before .before .before .before .before .before .before .before .before .pre .sound) (c .before .before .before .before .before .loop-test .taken) (c .before .before .before .before .face-at .ensures) (c .before .before .put-face .ensures) (c .before .before .before .before .before .before .loop .inv)
+loop-again c =
+    let pre = c .before .before .before .before .before .before .before .before .before .before .pre in
+    let loop = c .before .before .before .before .before .before .loop in
+    let loop-test = c .before .before .before .before .before .loop-test in
+    let face-at = c .before .before .before .before .face-at in
+    let put-face = c .before .before .put-face in
+    fill-turns _ _ _ _ _ _ _ _ _ _ (pre .sound) (loop-test .taken) (face-at .ensures) (put-face .ensures) (loop .inv)
 
 same-length : tie.Need-same-length Inv-loop μ-loop
 same-length c = search needs

@@ -37,13 +37,19 @@ loop-less : tie.Need-loop-less Inv-loop μ-loop
 loop-less c = search needs
 
 loop-again : tie.Need-loop-again Inv-loop μ-loop
-loop-again c = face-turns (c .before .before .before .before .before .args .normals) (c .before .before .before .before .before .args .which) (c .before .before .before .before .before .args .face) (c .before .before .before .before .before .args .part .now) _ _ _ _ _ (c .before .loop-test .taken) (c .edge-entry .ensures) (c .before .before .loop .inv)
+loop-again c =
+    let given = c .before .before .before .before .before .args in
+    let loop = c .before .before .loop in
+    face-turns (given .normals) (given .which) (given .face) (given .part .now) _ _ _ _ _ (c .before .loop-test .taken) (c .edge-entry .ensures)
+    (loop .inv)
 
 same-length : tie.Need-same-length Inv-loop μ-loop
 same-length c = search needs
 
 returns : tie.Need-returns Inv-loop μ-loop
-returns c = face-ends (c .before .before .before .before .args .normals) (c .before .before .before .before .args .which) (c .before .before .before .before .args .face) (c .before .before .before .before .args .part .now) _ _ _ _ (c .loop-test .left) (c .before .loop .inv)
+returns c =
+    let given = c .before .before .before .before .args in
+    face-ends (given .normals) (given .which) (given .face) (given .part .now) _ _ _ _ (c .loop-test .left) (c .before .loop .inv)
 
 pub put-face-spec : {M : Type 1} → statement M
 put-face-spec =

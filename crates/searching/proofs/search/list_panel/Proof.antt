@@ -11,18 +11,22 @@ slice-read-if1 : tie.Need-slice-read-if1
 slice-read-if1 c = search needs
 
 returns : tie.Need-returns
-returns c = panel-stays _ _ _ _ _ _ _ _ _ (c .before .before .before .before .before .before .before .before .before .pre .panelling) (c .before .before .before .before .before .before .before .before .before .pre .is-face) (c .if1 .taken)
+returns c =
+    let pre = c .before .before .before .before .before .before .before .before .before .pre in
+    panel-stays _ _ _ _ _ _ _ _ _ (pre .panelling) (pre .is-face) (c .if1 .taken)
 
 cast-search : tie.Need-cast-search
 cast-search c = search needs
 
 search-requires : tie.Need-search-requires
-search-requires c κs = record {
-  adjacent = c .before .before .before .before .before .before .before .before .before .before .before .before .pre .adjacent;
-  listing = c .before .before .before .before .before .before .before .before .before .before .before .before .pre .panelling .listing;
-  is-face = c .before .before .before .before .before .before .before .before .before .before .before .before .pre .is-face;
-  new = panel-new _ _ _ _ _ _ _ _ _ (c .before .before .before .before .before .before .before .before .before .before .before .before .pre .panelling) (c .before .before .before .before .before .before .before .before .before .before .before .before .pre .is-face) (c .before .before .before .if1 .left);
-}
+search-requires c κs =
+    let pre = c .before .before .before .before .before .before .before .before .before .before .before .before .pre in
+    record {
+      adjacent = pre .adjacent;
+      listing = pre .panelling .listing;
+      is-face = pre .is-face;
+      new = panel-new _ _ _ _ _ _ _ _ _ (pre .panelling) (pre .is-face) (c .before .before .before .if1 .left);
+    }
 
 sub-lengths : tie.Need-sub-lengths
 sub-lengths c = search needs
@@ -52,7 +56,11 @@ same-length-4 : tie.Need-same-length-4
 same-length-4 c = search needs
 
 returns-2 : tie.Need-returns-2
-returns-2 c = panel-grows _ _ _ _ _ _ _ _ _ (c .before .before .before .before .before .before .before .before .before .before .before .before .before .before .before .before .before .before .before .pre .panelling) (c .before .before .before .before .before .before .before .before .before .before .before .before .before .before .before .before .before .before .before .pre .is-face) _ _ _ _ (c .before .before .before .before .before .before .before .before .before .before .if1 .left) (c .before .before .before .before .before .before .search .ensures)
+returns-2 c =
+    let pre = c .before .before .before .before .before .before .before .before .before .before .before .before .before .before .before .before .before .before .before .pre in
+    let if1 = c .before .before .before .before .before .before .before .before .before .before .if1 in
+    let searched = c .before .before .before .before .before .before .search in
+    panel-grows _ _ _ _ _ _ _ _ _ (pre .panelling) (pre .is-face) _ _ _ _ (if1 .left) (searched .ensures)
 
 pub list-panel-spec : {M : Type 1} → statement M
 list-panel-spec =

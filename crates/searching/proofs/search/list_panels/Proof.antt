@@ -26,10 +26,18 @@ loop-less : tie.Need-loop-less Inv-loop μ-loop
 loop-less c = search needs
 
 loop-again : tie.Need-loop-again Inv-loop μ-loop
-loop-again c = list-turns _ _ _ _ _ _ _ _ _ _ _ _ _ _ _ _ _ (c .before .before .before .before .before .before .before .before .before .before .before .before .before .loop-test .taken) (c .before .before .before .before .before .before .before .before .list-panel .kept .1 .1 .1 .1 .1 .1 .0) (c .before .before .before .before .before .before .before .before .list-panel .kept .1 .1 .1 .1 .1 .1 .1 .0) (c .before .before .before .before .before .before .before .before .list-panel .ensures) (c .before .before .before .before .before .before .before .before .before .before .before .before .before .before .loop .inv)
+loop-again c =
+    let loop = c .before .before .before .before .before .before .before .before .before .before .before .before .before .before .loop in
+    let loop-test = c .before .before .before .before .before .before .before .before .before .before .before .before .before .loop-test in
+    let list-panel = c .before .before .before .before .before .before .before .before .list-panel in
+    list-turns _ _ _ _ _ _ _ _ _ _ _ _ _ _ _ _ _ (loop-test .taken) (list-panel .kept .1 .1 .1 .1 .1 .1 .0) (list-panel .kept .1 .1 .1 .1 .1 .1 .1 .0)
+    (list-panel .ensures) (loop .inv)
 
 same-length : tie.Need-same-length Inv-loop μ-loop
-same-length c = c .before .loop .inv .on .panelling .listing .seen-long ∙ sym (ap length (c .before .before .before .before .before .before .before .before .before .pre .unseen) ∙ length-replicate (length (c .before .before .before .before .before .before .before .before .before .args .ends .now)) 0)
+same-length c =
+    let pre = c .before .before .before .before .before .before .before .before .before .pre in
+    let given = c .before .before .before .before .before .before .before .before .before .args in
+    c .before .loop .inv .on .panelling .listing .seen-long ∙ sym (ap length (pre .unseen) ∙ length-replicate (length (given .ends .now)) 0)
 
 same-length-2 : tie.Need-same-length-2 Inv-loop μ-loop
 same-length-2 c = search needs

@@ -10,7 +10,8 @@ use Rattle.searching.proofs.search.look.Statement.{statement}
 use Rattle.searching.proofs.search.look.Tie as tie
 
 abbrev Inv-loop : tie.InvT-loop
-Inv-loop joins order from to seen₀ stack₀ flat₀ top n height₀ listed₀ p₀ seen stack flat height listed p = LookingOn (length seen₀) joins order from to (stateOf stack₀ top flat₀ n) flat₀ n seen stack flat height listed p
+Inv-loop joins order from to seen₀ stack₀ flat₀ top n height₀ listed₀ p₀ seen stack flat height listed p =
+    LookingOn (length seen₀) joins order from to (stateOf stack₀ top flat₀ n) flat₀ n seen stack flat height listed p
 
 abbrev μ-loop : tie.MeasureT-loop
 μ-loop joins order from to seen₀ stack₀ flat₀ top n height₀ listed₀ p₀ seen stack flat height listed p = to - p
@@ -28,13 +29,24 @@ wide-requires : tie.Need-wide-requires Inv-loop μ-loop
 wide-requires c κs = search needs
 
 other-end-requires : tie.Need-other-end-requires Inv-loop μ-loop
-other-end-requires c κs = record { whole = c .before .before .before .before .before .before .before .before .before .pre .whole; fits = c .before .before .before .before .before .before .before .before .before .pre .fits; inside = omega (arith, c .wide .ensures, c .before .before .before .before .before .before .before .before .before .pre .entries (c .before .before .before .loop .p) (omega (arith, c .before .before .before .before .before .before .before .before .before .pre .within))) }
+other-end-requires c κs =
+    let pre = c .before .before .before .before .before .before .before .before .before .pre in
+    let loop = c .before .before .before .loop in
+    record { whole = pre .whole; fits = pre .fits; inside = omega (arith, c .wide .ensures, pre .entries (loop .p) (omega (arith, pre .within))) }
 
 visit-requires : tie.Need-visit-requires Inv-loop μ-loop
-visit-requires c κs = record {
-  listing = relisted _ _ _ _ _ _ (c .before .before .before .before .before .before .before .loop .inv .listing);
-  face = omega (arith, c .before .before .before .other-end .ensures, other-below _ (c .before .before .before .before .before .before .before .before .before .before .before .before .before .args .joins .now) (c .before .before .before .before .wide .result) (c .before .before .before .before .before .before .before .before .before .before .before .before .before .pre .whole) (c .before .before .before .before .before .before .before .before .before .before .before .before .before .pre .below) (omega (arith, c .before .before .before .before .wide .ensures, c .before .before .before .before .before .before .before .before .before .before .before .before .before .pre .entries (c .before .before .before .before .before .before .before .loop .p) (omega (arith, c .before .before .before .before .before .before .before .before .before .before .before .before .before .pre .within)))), c .before .before .before .before .before .before .before .loop .inv .listing .seen-long);
-}
+visit-requires c κs =
+    let entry = c .before .before .before .before .before .before .before .before .before .before .before .before .before in
+    let pre = entry .pre in
+    let loop = c .before .before .before .before .before .before .before .loop in
+    let wide = c .before .before .before .before .wide in
+    let inside = pre .entries (loop .p) (omega (arith, pre .within)) in
+    record {
+      listing = relisted _ _ _ _ _ _ (loop .inv .listing);
+      face =
+          let below = other-below _ (entry .args .joins .now) (wide .result) (pre .whole) (pre .below) (omega (arith, wide .ensures, inside)) in
+          omega (arith, c .before .before .before .other-end .ensures, below, loop .inv .listing .seen-long);
+    }
 
 add-p : tie.Need-add-p Inv-loop μ-loop
 add-p c = search needs
@@ -43,7 +55,16 @@ loop-less : tie.Need-loop-less Inv-loop μ-loop
 loop-less c = search needs
 
 loop-again : tie.Need-loop-again Inv-loop μ-loop
-loop-again c = look-turns _ _ _ _ _ _ _ _ _ _ _ _ _ _ (c .before .before .before .before .before .before .before .before .before .before .before .before .before .before .loop .inv) _ _ _ _ _ _ (c .before .before .before .before .before .before .before .before .before .before .before .before .before .loop-test .taken) (c .before .before .before .before .before .before .before .before .before .before .before .before .before .before .before .before .before .before .before .before .pre .within) (c .before .before .before .before .before .before .before .before .before .before .other-end .ensures ∙ ap (otherEnd (c .before .before .before .before .before .before .before .before .before .before .before .before .before .before .before .before .before .before .before .before .args .joins .now)) (c .before .before .before .before .before .before .before .before .before .before .before .wide .ensures)) (c .before .before .before .before .before .before .visit .ensures) (c .before .before .before .before .before .before .visit .kept .1 .1 .1 .0)
+loop-again c =
+    let pre = c .before .before .before .before .before .before .before .before .before .before .before .before .before .before .before .before .before .before .before .before .pre in
+    let given = c .before .before .before .before .before .before .before .before .before .before .before .before .before .before .before .before .before .before .before .before .args in
+    let loop = c .before .before .before .before .before .before .before .before .before .before .before .before .before .before .loop in
+    let loop-test = c .before .before .before .before .before .before .before .before .before .before .before .before .before .loop-test in
+    let wide = c .before .before .before .before .before .before .before .before .before .before .before .wide in
+    let other-end = c .before .before .before .before .before .before .before .before .before .before .other-end in
+    let visited = c .before .before .before .before .before .before .visit in
+    look-turns _ _ _ _ _ _ _ _ _ _ _ _ _ _ (loop .inv) _ _ _ _ _ _ (loop-test .taken) (pre .within)
+    (other-end .ensures ∙ ap (otherEnd (given .joins .now)) (wide .ensures)) (visited .ensures) (visited .kept .1 .1 .1 .0)
 
 same-length : tie.Need-same-length Inv-loop μ-loop
 same-length c = search needs

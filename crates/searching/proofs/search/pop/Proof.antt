@@ -18,19 +18,30 @@ wide-requires : tie.Need-wide-requires
 wide-requires c κs = search needs
 
 begin-of-requires : tie.Need-begin-of-requires
-begin-of-requires c κs = omega (arith, c .wide .ensures, top-below _ _ _ (c .before .before .before .before .before .before .before .before .pre .adjacent) _ _ _ _ _ (c .before .before .before .before .before .before .before .before .pre .listing) (c .before .before .before .before .before .before .before .before .pre .some))
+begin-of-requires c κs =
+    let pre = c .before .before .before .before .before .before .before .before .pre in
+    omega (arith, c .wide .ensures, top-below _ _ _ (pre .adjacent) _ _ _ _ _ (pre .listing) (pre .some))
 
 mul-wide-2 : tie.Need-mul-wide-2
-mul-wide-2 c = omega (arith, c .before .wide .ensures, top-below _ _ _ (c .before .before .before .before .before .before .before .before .before .pre .adjacent) _ _ _ _ _ (c .before .before .before .before .before .before .before .before .before .pre .listing) (c .before .before .before .before .before .before .before .before .before .pre .some), c .before .before .before .before .before .before .before .before .before .pre .listing .small)
+mul-wide-2 c =
+    let pre = c .before .before .before .before .before .before .before .before .before .pre in
+    omega (arith, c .before .wide .ensures, top-below _ _ _ (pre .adjacent) _ _ _ _ _ (pre .listing) (pre .some), pre .listing .small)
 
 shared-slice-read-wide : tie.Need-shared-slice-read-wide
-shared-slice-read-wide c = omega (arith, c .before .before .wide .ensures, top-below _ _ _ (c .before .before .before .before .before .before .before .before .before .before .pre .adjacent) _ _ _ _ _ (c .before .before .before .before .before .before .before .before .before .before .pre .listing) (c .before .before .before .before .before .before .before .before .before .before .pre .some))
+shared-slice-read-wide c =
+    let pre = c .before .before .before .before .before .before .before .before .before .before .pre in
+    let wide = c .before .before .wide in
+    omega (arith, wide .ensures, top-below _ _ _ (pre .adjacent) _ _ _ _ _ (pre .listing) (pre .some))
 
 wide-requires-2 : tie.Need-wide-requires-2
 wide-requires-2 c κs = search needs
 
 look-requires : tie.Need-look-requires
-look-requires c κs = pop-looks _ _ _ (c .before .before .before .before .before .before .before .before .before .before .before .before .before .before .pre .adjacent) _ _ _ _ _ (c .before .before .before .before .before .before .before .before .before .before .before .before .before .before .pre .listing) (c .before .before .before .before .before .before .before .before .before .before .before .before .before .before .pre .some) _ _ (c .before .before .before .before .before .before .wide .ensures) (c .before .before .before .wide2 .ensures)
+look-requires c κs =
+    let pre = c .before .before .before .before .before .before .before .before .before .before .before .before .before .before .pre in
+    let wide = c .before .before .before .before .before .before .wide in
+    let wide2 = c .before .before .before .wide2 in
+    pop-looks _ _ _ (pre .adjacent) _ _ _ _ _ (pre .listing) (pre .some) _ _ (wide .ensures) (wide2 .ensures)
 
 same-length : tie.Need-same-length
 same-length c = search needs
@@ -42,7 +53,15 @@ same-length-3 : tie.Need-same-length-3
 same-length-3 c = search needs
 
 returns : tie.Need-returns
-returns c = pop-steps _ _ _ (c .before .before .before .before .before .before .before .before .before .before .before .before .before .before .before .before .before .before .before .before .before .pre .adjacent) _ _ _ _ _ (c .before .before .before .before .before .before .before .before .before .before .before .before .before .before .before .before .before .before .before .before .before .pre .listing) (c .before .before .before .before .before .before .before .before .before .before .before .before .before .before .before .before .before .before .before .before .before .pre .some) _ _ _ _ _ _ _ _ (c .before .before .before .before .before .before .before .before .before .before .before .before .before .wide .ensures) (c .before .before .before .before .before .before .before .before .before .before .before .before .begin-of .ensures) (c .before .before .before .before .before .before .before .before .before .before .wide2 .ensures) (c .before .before .before .before .before .before .look .ensures)
+returns c =
+    let far = c .before .before .before .before .before .before .before .before .before .before .before .before .before .before .before .before .before .before in
+    let pre = far .before .before .before .pre in
+    let wide = c .before .before .before .before .before .before .before .before .before .before .before .before .before .wide in
+    let begin-of = c .before .before .before .before .before .before .before .before .before .before .before .before .begin-of in
+    let wide2 = c .before .before .before .before .before .before .before .before .before .before .wide2 in
+    let looked = c .before .before .before .before .before .before .look in
+    pop-steps _ _ _ (pre .adjacent) _ _ _ _ _ (pre .listing) (pre .some) _ _ _ _ _ _ _ _ (wide .ensures) (begin-of .ensures) (wide2 .ensures)
+    (looked .ensures)
 
 pub pop-spec : {M : Type 1} → statement M
 pop-spec =

@@ -14,25 +14,43 @@ use Rattle.searching.proofs.search.search.Statement.{statement}
 use Rattle.searching.proofs.search.search.Tie as tie
 
 abbrev Inv-loop : tie.InvT-loop
-Inv-loop joins order ends face seen₀ stack₀ flat₀ n top₀ listed₀ seen stack flat top listed = SeekingOn (length ends) (joinsOf joins) (searchFrom (length ends) (joinsOf joins) [] (stackOf stack₀ top₀) (take listed₀ flat₀)) flat₀ listed₀ seen stack flat top listed
+Inv-loop joins order ends face seen₀ stack₀ flat₀ n top₀ listed₀ seen stack flat top listed =
+    SeekingOn (length ends) (joinsOf joins) (searchFrom (length ends) (joinsOf joins) [] (stackOf stack₀ top₀) (take listed₀ flat₀)) flat₀ listed₀ seen stack flat top listed
 
 abbrev μ-loop : tie.MeasureT-loop
 μ-loop joins order ends face seen₀ stack₀ flat₀ n top₀ listed₀ seen stack flat top listed = top + (length ends - listed)
 
 visit-requires : tie.Need-visit-requires Inv-loop μ-loop
-visit-requires c κs = record { listing = relisted _ _ _ _ _ _ (c .before .before .before .before .before .before .before .before .before .pre .listing); face = omega (arith, c .before .before .before .before .before .before .before .before .before .pre .is-face, c .before .before .before .before .before .before .before .before .before .pre .listing .seen-long) }
+visit-requires c κs =
+    let pre = c .before .before .before .before .before .before .before .before .before .pre in
+    record { listing = relisted _ _ _ _ _ _ (pre .listing); face = omega (arith, pre .is-face, pre .listing .seen-long) }
 
 loop-holds : tie.Need-loop-holds Inv-loop μ-loop
-loop-holds c = seek-begins _ _ _ _ _ _ _ (restepped _ _ _ _ _ _ _ _ _ _ (c .before .before .before .before .before .before .before .before .before .before .before .before .before .before .before .before .pre .listing .seen-long) (c .before .before .before .before .before .before .visit .ensures) .listing)
+loop-holds c =
+    let pre = c .before .before .before .before .before .before .before .before .before .before .before .before .before .before .before .before .pre in
+    let visited = c .before .before .before .before .before .before .visit in
+    seek-begins _ _ _ _ _ _ _ (restepped _ _ _ _ _ _ _ _ _ _ (pre .listing .seen-long) (visited .ensures) .listing)
 
 pop-requires : tie.Need-pop-requires Inv-loop μ-loop
 pop-requires c κs = search needs
 
 loop-less : tie.Need-loop-less Inv-loop μ-loop
-loop-less c = seek-falls _ _ _ (c .before .before .before .before .before .before .before .before .before .before .before .before .before .before .before .before .before .before .before .before .before .before .before .before .before .before .before .before .pre .adjacent) _ _ _ _ _ _ _ _ (c .before .before .before .before .before .before .before .before .before .before .before .loop .inv) (c .before .before .before .before .before .before .before .before .before .before .loop-test .taken) _ _ _ _ _ (c .before .before .before .before .before .before .pop .ensures)
+loop-less c =
+    let far = c .before .before .before .before .before .before .before .before .before .before .before .before .before .before .before .before .before .before in
+    let pre = far .before .before .before .before .before .before .before .before .before .before .pre in
+    let loop = c .before .before .before .before .before .before .before .before .before .before .before .loop in
+    let loop-test = c .before .before .before .before .before .before .before .before .before .before .loop-test in
+    let popped = c .before .before .before .before .before .before .pop in
+    seek-falls _ _ _ (pre .adjacent) _ _ _ _ _ _ _ _ (loop .inv) (loop-test .taken) _ _ _ _ _ (popped .ensures)
 
 loop-again : tie.Need-loop-again Inv-loop μ-loop
-loop-again c = seek-turns _ _ _ (c .before .before .before .before .before .before .before .before .before .before .before .before .before .before .before .before .before .before .before .before .before .before .before .before .before .before .before .before .pre .adjacent) _ _ _ _ _ _ _ _ (c .before .before .before .before .before .before .before .before .before .before .before .loop .inv) (c .before .before .before .before .before .before .before .before .before .before .loop-test .taken) _ _ _ _ _ (c .before .before .before .before .before .before .pop .ensures) (c .before .before .before .before .before .before .pop .kept .1 .1 .1 .1 .1 .0)
+loop-again c =
+    let far = c .before .before .before .before .before .before .before .before .before .before .before .before .before .before .before .before .before .before in
+    let pre = far .before .before .before .before .before .before .before .before .before .before .pre in
+    let loop = c .before .before .before .before .before .before .before .before .before .before .before .loop in
+    let loop-test = c .before .before .before .before .before .before .before .before .before .before .loop-test in
+    let popped = c .before .before .before .before .before .before .pop in
+    seek-turns _ _ _ (pre .adjacent) _ _ _ _ _ _ _ _ (loop .inv) (loop-test .taken) _ _ _ _ _ (popped .ensures) (popped .kept .1 .1 .1 .1 .1 .0)
 
 same-length : tie.Need-same-length Inv-loop μ-loop
 same-length c = search needs
@@ -44,7 +62,12 @@ same-length-3 : tie.Need-same-length-3 Inv-loop μ-loop
 same-length-3 c = search needs
 
 returns : tie.Need-returns Inv-loop μ-loop
-returns c = search-finds _ _ _ _ _ (c .before .before .before .before .before .before .before .before .before .before .before .before .before .before .before .before .before .before .args .stack .now) _ _ _ _ _ _ _ _ _ _ (c .before .before .before .before .before .before .before .before .before .before .before .before .before .before .before .before .before .before .pre .new) (restepped _ _ _ _ _ _ _ _ _ _ (c .before .before .before .before .before .before .before .before .before .before .before .before .before .before .before .before .before .before .pre .listing .seen-long) (c .before .before .before .before .before .before .before .before .visit .ensures)) (c .before .loop .inv) (c .loop-test .left)
+returns c =
+    let given = c .before .before .before .before .before .before .before .before .before .before .before .before .before .before .before .before .before .before .args in
+    let pre = c .before .before .before .before .before .before .before .before .before .before .before .before .before .before .before .before .before .before .pre in
+    let visited = c .before .before .before .before .before .before .before .before .visit in
+    search-finds _ _ _ _ _ (given .stack .now) _ _ _ _ _ _ _ _ _ _ (pre .new)
+    (restepped _ _ _ _ _ _ _ _ _ _ (pre .listing .seen-long) (visited .ensures)) (c .before .loop .inv) (c .loop-test .left)
 
 pub search-spec : {M : Type 1} → statement M
 search-spec =

@@ -14,7 +14,10 @@ slice-read-if1 : tie.Need-slice-read-if1
 slice-read-if1 c = search needs
 
 returns : tie.Need-returns
-returns c = skips-at _ _ _ _ _ _ _ (c .before .before .before .before .before .before .pre .listing) (c .before .before .before .before .before .before .pre .face) _ (c .before .before .wide .ensures) (c .if1 .taken)
+returns c =
+    let pre = c .before .before .before .before .before .before .pre in
+    let wide = c .before .before .wide in
+    skips-at _ _ _ _ _ _ _ (pre .listing) (pre .face) _ (wide .ensures) (c .if1 .taken)
 
 mul-seen : tie.Need-mul-seen
 mul-seen c = search needs
@@ -26,13 +29,19 @@ mul-stack : tie.Need-mul-stack
 mul-stack c = search needs
 
 slice-write-stack : tie.Need-slice-write-stack
-slice-write-stack c = fits-at _ _ _ _ _ _ _ (c .before .before .before .before .before .before .pre .listing) (c .before .before .before .before .before .before .pre .face) _ (c .before .before .wide .ensures) (c .if1 .left) .1
+slice-write-stack c =
+    let pre = c .before .before .before .before .before .before .pre in
+    let wide = c .before .before .wide in
+    fits-at _ _ _ _ _ _ _ (pre .listing) (pre .face) _ (wide .ensures) (c .if1 .left) .1
 
 mul-flat : tie.Need-mul-flat
 mul-flat c = search needs
 
 slice-write-flat : tie.Need-slice-write-flat
-slice-write-flat c = fits-at _ _ _ _ _ _ _ (c .before .before .before .before .before .before .pre .listing) (c .before .before .before .before .before .before .pre .face) _ (c .before .before .wide .ensures) (c .if1 .left) .0
+slice-write-flat c =
+    let pre = c .before .before .before .before .before .before .pre in
+    let wide = c .before .before .wide in
+    fits-at _ _ _ _ _ _ _ (pre .listing) (pre .face) _ (wide .ensures) (c .if1 .left) .0
 
 add-t8 : tie.Need-add-t8
 add-t8 c = search needs
@@ -50,7 +59,10 @@ same-length-3 : tie.Need-same-length-3
 same-length-3 c = search needs
 
 returns-2 : tie.Need-returns-2
-returns-2 c = pushes-at _ _ _ _ _ _ _ (c .before .before .before .before .before .before .pre .listing) (c .before .before .before .before .before .before .pre .face) _ (c .before .before .wide .ensures) (c .if1 .left)
+returns-2 c =
+    let pre = c .before .before .before .before .before .before .pre in
+    let wide = c .before .before .wide in
+    pushes-at _ _ _ _ _ _ _ (pre .listing) (pre .face) _ (wide .ensures) (c .if1 .left)
 
 pub visit-spec : {M : Type 1} → statement M
 visit-spec =
