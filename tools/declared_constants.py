@@ -68,7 +68,7 @@ ROOM_RULES = {
     "bh_hem_edges": (EDGES, "hemNumber"),
     "bh_extract_boundaries": (PORTED, "portedShort"),
     "bh_house_wires": (HOUSE, "houseShort"),
-    "bh_components": (PANELS, "panelsNumber"),
+    "bh_components": (PANELS, "componentsNumber"),
     "bh_read_panel": (READING, "fullRoom"),
     "bh_sheet": (SHEET, "sheetNumber"),
 }

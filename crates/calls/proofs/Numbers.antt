@@ -12,7 +12,7 @@ use Rattle.mesh.proofs.Numbers.{first-on, row-passed}
 use Rattle.edges.specs.Answers.{hemNumber}
 use Rattle.house.specs.Answers.{unwired, houseNumber}
 use Rattle.ported.specs.Answers.{portedNumber}
-use Rattle.panels.specs.Contract.{panelsNumber}
+use Rattle.panels.specs.Contract.{componentsNumber}
 use Rattle.calls.specs.Order.{SameNumbers}
 
 -- two lists are lent, and each has its room
@@ -25,7 +25,7 @@ roomy-zero k a b c d z g h =
 -- the rows go by the mesh's own number, by how many corners there are, and by the verdict
 pub numbers-agree :
     (m n : Mesh) → meshNumber m ≡ meshNumber n → length (m .corners) ≡ length (n .corners) → unwired m ≡ unwired n → SameNumbers m n
-unfolding hemNumber portedNumber houseNumber panelsNumber
+unfolding hemNumber portedNumber houseNumber componentsNumber
 numbers-agree m n k c u = record {
   hem-number = λ x y i. firstOf (k i ∷ when (short (lent x (c i / width) ∷ lent y (c i / width) ∷ [])) 9 ∷ []);
   ported-number = λ x y i. firstOf (k i ∷ when (short (lent x (2 * (c i / width)) ∷ lent y (c i / width) ∷ [])) 9 ∷ []);

@@ -9,7 +9,7 @@ use Rattle.lists.specs.Lists.{joined}
 use Rattle.mesh.specs.Mesh.{Mesh, faces}
 use Rattle.mesh.specs.Table.{meshNumber}
 use Rattle.panels.specs.Panels.{panels, together}
-use Rattle.panels.specs.Contract.{panelsNumber, panelsOf}
+use Rattle.panels.specs.Contract.{componentsNumber, panelsOf}
 use Rattle.lines.specs.Working.{parts}
 use Rattle.lines.proofs.Wiring.{parts-back}
 use Rattle.panels.proofs.Panelled.{panels-length, panels-count}
@@ -25,7 +25,7 @@ use Rattle.calls.proofs.Seats.{as-many-panels}
 -- one call
 module _ (normals : Bool) (m : Mesh) (z : meshNumber m ≡ 0) (r : PanelCall normals m) where
   done-is : r .answer .number ≡ 0
-  unfolding panelsNumber
+  unfolding componentsNumber
   done-is =
       r .contract .number
       ∙ roomy-zero (meshNumber m) (length (r .flat)) (cornersOf m) (length (r .lengths)) (cornersOf m) z (r .flat-room) (r .lengths-room)

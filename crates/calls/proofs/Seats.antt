@@ -15,7 +15,8 @@ use Rattle.lists.proofs.Cases.{and-parts}
 use Rattle.lists.proofs.Counting.{clash, or-either, count-none, some-counted}
 use Rattle.lists.proofs.Members.{In, in-cases, in-head, in-tail, in-left, in-right, in-append, Once, once-apart, once-rear, once-cons, free, once-free}
 use Rattle.mesh.specs.Mesh.{Ring}
-use Rattle.panels.specs.Panels.{Join, joins, Search, neighbours, look, search′, panelsFrom, panels, together}
+use Rattle.searching.specs.Search.{Join, Search, neighbours, look, searchFrom, panelsFrom}
+use Rattle.panels.specs.Panels.{joins, panels, together}
 use Rattle.panels.proofs.Panelled.{panels-once, panels-inside}
 use Rattle.order.specs.Same.{Matching}
 use Rattle.order.specs.Demand.{SameTogether}
@@ -147,8 +148,8 @@ look-longer old (x ∷ l) s = go (has x old || has x (s .1)) (look-longer old l 
     go true h k = h
     go false h k = omega (arith, length-append (s .1) (x ∷ []))
 
-search-longer : (n : ℕ) (js : List Join) (old stack seen : List ℕ) → length seen ≤ length (search′ n js old stack seen)
-unfolding search′
+search-longer : (n : ℕ) (js : List Join) (old stack seen : List ℕ) → length seen ≤ length (searchFrom n js old stack seen)
+unfolding searchFrom
 search-longer zero js old stack seen = omega arith
 search-longer (suc n) js old [] seen = omega arith
 search-longer (suc n) js old (x ∷ stack) seen =
@@ -170,7 +171,7 @@ filled-from (suc d) i n js ps f =
     (filled-from d (suc i) n js (ps ++ (p ∷ [])) (filled-snoc ps p f (let k : 1 ≤ length p = search-longer n js (joined ps) (i ∷ []) (i ∷ []) in omega arith)))
   where
     p : List ℕ
-    p = search′ n js (joined ps) (i ∷ []) (i ∷ [])
+    p = searchFrom n js (joined ps) (i ∷ []) (i ∷ [])
 
     go :
         (b : Bool) → Filled (panelsFrom d (suc i) n js ps) → Filled (panelsFrom d (suc i) n js (ps ++ (p ∷ [])))

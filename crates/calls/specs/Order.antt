@@ -15,7 +15,7 @@ use Rattle.edges.specs.declared.ShellCondition.{ShellCondition}
 use Rattle.ported.specs.Answers.{portedNumber}
 use Rattle.house.specs.Answers.{houseNumber}
 use Rattle.panels.specs.Panels.{together}
-use Rattle.panels.specs.Contract.{panelsNumber}
+use Rattle.panels.specs.Contract.{componentsNumber}
 use Rattle.order.specs.Same.{Turned, Same, Matching}
 use Rattle.order.specs.Demand.{byPosition}
 use Rattle.calls.specs.Calls.{VerdictCall, says, HemCall, startsWritten, endsWritten, edgesWritten, WiresLeft, HouseCall, PortedCall, PanelCall, panelsWritten}
@@ -31,7 +31,7 @@ pub record SameNumbers (m n : Mesh) : Type 0 where
   pub hem-number : (starts ends : ℕ) → hemNumber m starts ends ≡ hemNumber n starts ends
   pub ported-number : (flat lengths : ℕ) → portedNumber m flat lengths ≡ portedNumber n flat lengths
   pub house-number : (flat lengths : ℕ) → houseNumber m flat lengths ≡ houseNumber n flat lengths
-  pub panels-number : (flat lengths : ℕ) → panelsNumber m flat lengths ≡ panelsNumber n flat lengths
+  pub panels-number : (flat lengths : ℕ) → componentsNumber m flat lengths ≡ componentsNumber n flat lengths
 
 -- two numbers are this one
 abbrev pub Both : ℕ → ℕ → ℕ → Type 0

@@ -7,7 +7,8 @@ use Prim.Native.Nat.{ℕ}
 use Rattle.lists.specs.Lists.{every}
 use Rattle.lists.proofs.Bools.{and-left, and-right, and-both}
 use Rattle.lists.proofs.Parts.{every-append}
-use Rattle.panels.specs.Panels.{Key, sameKey, Use, firstFace, joinOf, joinsFrom}
+use Rattle.keys.specs.Keys.{Key, sameKey, Use}
+use Rattle.panels.specs.Panels.{firstFace, joinOf, joinsFrom}
 
 -- an edge of a face, by the face's number, with a key for it
 abbrev pub keyed : {E : Type 0} → (E → Key) → ℕ × E → Use

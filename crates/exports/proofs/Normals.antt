@@ -20,7 +20,9 @@ use Rattle.mesh.specs.Mesh.{Mesh, Corner, Ring, position, normal, threes, faces
 use Rattle.mesh.specs.Table.{meshNumber}
 use Rattle.edges.specs.Edges.{ringEdges, same}
 use Rattle.edges.proofs.SameEdge.{same-true, same-of}
-use Rattle.panels.specs.Panels.{Key, keyOf, sameKey, Use, usesFrom, joinsFrom, joins, panelsFrom, panels}
+use Rattle.keys.specs.Keys.{Key, keyOf, sameKey, Use, usesFrom}
+use Rattle.searching.specs.Search.{panelsFrom}
+use Rattle.panels.specs.Panels.{joinsFrom, joins, panels}
 use Rattle.panels.proofs.Sharing.{sameKey-true, sameKey-refl}
 use Rattle.compaction.specs.Compaction.{renumbered, compacted}
 use Rattle.compaction.proofs.Laws.{face-order, faces-compacted, position-same, normal-same}

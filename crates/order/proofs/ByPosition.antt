@@ -8,7 +8,9 @@ use native.Mathlib.Omega.{arith}
 use lib.ListN.{length, getD, length-map, List·getD-map}
 use Rattle.mesh.specs.Mesh.{Corner, Ring, position}
 use Rattle.edges.specs.Edges.{runEdges}
-use Rattle.panels.specs.Panels.{Key, keyOf, Use, faceKeys, usesFrom, joinsFrom, panelsFrom, panels, together}
+use Rattle.keys.specs.Keys.{Key, keyOf, Use, faceKeys, usesFrom}
+use Rattle.searching.specs.Search.{panelsFrom}
+use Rattle.panels.specs.Panels.{joinsFrom, panels, together}
 use Rattle.order.specs.Same.{Turned, Matching}
 use Rattle.order.specs.Demand.{byPosition}
 use Rattle.order.specs.Pairs.{bare}

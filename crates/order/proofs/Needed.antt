@@ -14,7 +14,9 @@ use Rattle.mesh.specs.Mesh.{Mesh, faces}
 use Rattle.mesh.specs.Table.{overLimits, uneven, misfit, ungrouped, astray, shapeNumber, meshNumber}
 use Rattle.edges.specs.Edges.{edgesOf, same, key, Irregular, verdict, hems}
 use Rattle.house.specs.House.{walk, wiresIn, houseWires}
-use Rattle.panels.specs.Panels.{keyOf, search′, panelsFrom, panels, together}
+use Rattle.keys.specs.Keys.{keyOf}
+use Rattle.searching.specs.Search.{searchFrom, panelsFrom}
+use Rattle.panels.specs.Panels.{panels, together}
 use Rattle.order.specs.Same.{Turned, Same, face, swap}
 use Rattle.order.specs.Demand.{byPosition}
 use Rattle.order.specs.Pairs.{thriceUsed, exchanged, empties, smooth, creased}
@@ -80,7 +82,7 @@ empties-refused = refl
 -- each of the two faces is alone in its panel, and together with itself
 pub empties-apart :
     (together 0 1 (panels false (faces empties)) ≡ false) × (together 0 0 (panels false (faces empties)) ≡ true)
-unfolding faces panels panelsFrom search′ keyOf
+unfolding faces panels panelsFrom searchFrom keyOf
 empties-apart = (refl, refl)
 
 -- so it is not true of meshes that are refused that any of equal faces may be taken for each other
@@ -108,7 +110,7 @@ unfolding faces
 same-by-position = same-refl (byPosition (faces smooth))
 
 pub panels-by-normals : (length (panels true (faces smooth)) ≡ 1) × (length (panels true (faces creased)) ≡ 2)
-unfolding faces panels panelsFrom search′ keyOf
+unfolding faces panels panelsFrom searchFrom keyOf
 panels-by-normals = (refl, refl)
 
 -- so it is not true that the positions decide the panels under the normals setting

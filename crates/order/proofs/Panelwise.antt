@@ -12,7 +12,8 @@ use Rattle.lists.proofs.Cases.{iff}
 use Rattle.lists.proofs.Alike.{some-alike, some-map}
 use Rattle.mesh.specs.Mesh.{Ring}
 use Rattle.edges.specs.Edges.{ringEdges}
-use Rattle.panels.specs.Panels.{Key, sameKey, keyOf, faceKeys, panels, together}
+use Rattle.keys.specs.Keys.{Key, sameKey, keyOf, faceKeys}
+use Rattle.panels.specs.Panels.{panels, together}
 use Rattle.lists.proofs.Chains.{Reach, here, step, reach-one}
 use Rattle.panels.specs.Promises.{keyIn, Share}
 use Rattle.panels.proofs.Sharing.{sameKey-refl, key-below}

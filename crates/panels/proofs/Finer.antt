@@ -12,7 +12,7 @@ use Rattle.lists.proofs.Counting.{clash, or-either}
 use Rattle.lists.proofs.Chains.{reach-one, reach-bind}
 use Rattle.mesh.specs.Mesh.{Corner, position}
 use Rattle.edges.specs.Edges.{ringEdges}
-use Rattle.panels.specs.Panels.{Key, pairKey, keyOf, sameKey}
+use Rattle.keys.specs.Keys.{Key, pairKey, keyOf, sameKey}
 use Rattle.panels.specs.Promises.{NormalsFiner}
 use Rattle.panels.proofs.Sharing.{sameKey-true, sameKey-refl}
 use Rattle.panels.proofs.Panelled.{together-share, share-together}

@@ -14,9 +14,10 @@ use Rattle.lists.proofs.Counting.{clash, count-some}
 use Rattle.lists.proofs.Classes.{Ended, Parted, parted-none, parted-same, parted-more}
 use Rattle.lists.proofs.Members.{In, in-tail, Once}
 use Rattle.mesh.specs.Mesh.{Ring}
-use Rattle.panels.specs.Panels.{Join, Search, joins, neighbours, look, search′, panelsFrom, panels}
+use Rattle.searching.specs.Search.{Join, Search, neighbours, look, searchFrom, panelsFrom}
+use Rattle.panels.specs.Panels.{joins, panels}
 use Rattle.panels.specs.Promises.{Ascend, ended, begins, LowestFirst}
-use Rattle.panels.proofs.Looking.{Beside, beside-sym, searched}
+use Rattle.searching.proofs.Looking.{Beside, beside-sym, searched}
 use Rattle.panels.proofs.Sharing.{beside-below}
 
 -- ---- what is listed first stays first
@@ -34,8 +35,8 @@ look-first old (x ∷ l) s a h =
     go true = h
     go false = (h .0 ++ (x ∷ []), ap (λ (m : List ℕ). m ++ (x ∷ [])) (h .1))
 
-search-first : (n : ℕ) (js : List Join) (old stack seen : List ℕ) (a : ℕ) → Heads a seen → Heads a (search′ n js old stack seen)
-unfolding search′
+search-first : (n : ℕ) (js : List Join) (old stack seen : List ℕ) (a : ℕ) → Heads a seen → Heads a (searchFrom n js old stack seen)
+unfolding searchFrom
 search-first zero js old stack seen a h = h
 search-first (suc n) js old [] seen a h = h
 search-first (suc n) js old (x ∷ stack) seen a h =
@@ -81,7 +82,7 @@ module _ (js : List Join) (m : ℕ) (bound : (x y : ℕ) → Beside js x y → y
       (ascend-from d (suc i) (ps ++ (p ∷ [])) (omega arith))
     where
       p : List ℕ
-      p = search′ m js (joined ps) (i ∷ []) (i ∷ [])
+      p = searchFrom m js (joined ps) (i ∷ []) (i ∷ [])
 
       new : has i (joined ps) ≡ false → Ended (Beside js) (joined ps) i p
       new h = searched js m bound (joined ps) i h (omega arith)

@@ -14,8 +14,8 @@ use Rattle.lists.proofs.Members.{In, once-in, once-length}
 use Rattle.mesh.specs.Mesh.{Ring}
 use Rattle.panels.specs.Panels.{joins, panels, together}
 use Rattle.panels.specs.Promises.{EachFaceOnce, OnlyByChains, WhereverChains}
-use Rattle.panels.proofs.Parting.{parted, panels-few}
-use Rattle.panels.proofs.Looking.{Beside}
+use Rattle.searching.proofs.Parting.{parted, panels-few}
+use Rattle.searching.proofs.Looking.{Beside}
 use Rattle.panels.proofs.Sharing.{beside-share, share-beside, beside-below}
 
 -- to stand in one panel, as the rule says it and as it is said of any lists

@@ -9,19 +9,19 @@ use native.Mathlib.Nat.{not-suc-le-zero, le-of-suc-le-suc, eq-or-lt-of-le}
 use native.Mathlib.Numerals.{add-one}
 use native.Mathlib.Omega.{arith}
 use lib.Dec.{eqb}
-use lib.ListN.{length, getD, take, set, length-append}
+use lib.ListN.{length, getD, take, set, length-append, List·getD-map}
 use lib.Seq.{sets, length-sets, take-suc, take-length, getD-take, length-take-le}
 use borrow.Author.Tests.{eq-eqb, ne-eqb, eqb-true, eqb-false}
-use Rattle.lists.specs.Lists.{every, each}
+use Rattle.lists.specs.Lists.{each}
 use Rattle.lists.proofs.Bools.{by-cases}
 use Rattle.lists.proofs.Parts.{each-append}
 use Rattle.lists.proofs.Writing.{sets-append}
 use Rattle.lists.proofs.Buckets.{each-span-snoc, each-span-suc}
-use Rattle.panels.specs.Panels.{Key, sameKey, Use, firstFace, Join, joinOf, joinsFrom}
-use Rattle.panels.specs.Columns.{entryOf}
-use Rattle.panels.specs.Firsts.{Marked}
-use Rattle.panels.specs.Joins.{flatJoin, flatJoins, joinAt, joinsBy, Wrote}
-use Rattle.panels.proofs.Valid.{goodKey, noUse, face-at, same-key}
+use Rattle.keys.specs.Keys.{Key, sameKey, Use, noUse, FirstUses}
+use Rattle.searching.specs.Search.{Join}
+use Rattle.panels.specs.Panels.{firstFace, joinOf, joinsFrom}
+use Rattle.searching.specs.Joins.{flatJoin, flatJoins}
+use Rattle.panels.specs.Joins.{joinAt, joinsBy, Wrote}
 
 -- ---- one use more
 
@@ -81,7 +81,8 @@ module _ (faces firsts : List ℕ) where
         within = omega arith;
         wrote = record {
           behind =
-              let l : length (joinsBy faces firsts u ++ joinAt faces firsts u) ≡ length (joinsBy faces firsts u) + length (joinAt faces firsts u) = length-append (joinsBy faces firsts u) (joinAt faces firsts u) in
+              let l : length (joinsBy faces firsts u ++ joinAt faces firsts u) ≡ length (joinsBy faces firsts u) + length (joinAt faces firsts u) =
+              length-append (joinsBy faces firsts u) (joinAt faces firsts u) in
               let l′ : length (joinsBy faces firsts (u + 1)) ≡ length (joinsBy faces firsts u ++ joinAt faces firsts u) = ap length e in
               omega arith;
           written =
@@ -125,15 +126,15 @@ first-some k [] j l s f = absurd (not-suc-le-zero l)
 first-some k (u ∷ us) zero l s f = rw s
 first-some k (u ∷ us) (suc j) l s f = rw (f 0 (omega arith)) (first-some k us j (le-of-suc-le-suc l) s (λ y h. f (suc y) (omega arith)))
 
-module _ (us : List Use) (good : every (λ (u : Use). goodKey (u .1)) us ≡ true) (firsts : List ℕ)
-    (mk : Marked (map (entryOf 0) us) (map (entryOf 1) us) (map (entryOf 2) us) (map (entryOf 3) us) (length us) firsts) where
+module _ (us : List Use) (firsts : List ℕ) (mk : FirstUses us firsts) where
   abbrev faces : List ℕ
-  faces = map (entryOf 4) us
+  faces = map (λ (u : Use). u .0) us
+
+  face-at : (x : ℕ) → getD (map (λ (u : Use). u .0) us) x 0 ≡ getD us x noUse .0
+  face-at x = List·getD-map (λ (u : Use). u .0) us x noUse
 
   none-before : (u y : ℕ) → u < length us → y < getD firsts u 0 → sameKey (getD us u noUse .1) (getD us y noUse .1) ≡ false
-  none-before u y h l =
-      let f : getD firsts u 0 ≤ u = mk .first u h .upto in
-      sym (same-key us good u y h (omega arith)) ∙ mk .first u h .none y l
+  none-before u y h l = mk .first u h .none y l
 
   front-at : (u y : ℕ) → y < u → getD (take u us) y noUse ≡ getD us y noUse
   front-at u y h = getD-take u us y noUse h
@@ -152,11 +153,11 @@ module _ (us : List Use) (good : every (λ (u : Use). goodKey (u .1)) us ≡ tru
       (λ y i. ap (λ (v : Use). sameKey (getD us u noUse .1) (v .1)) (front-at u y (omega arith)) ∙ none-before u y h (omega arith)))))
       (λ i.
       join-one faces firsts u (omega arith)
-      ∙ ap₂ (λ (a b : ℕ). a ∷ b ∷ []) (face-at us u) (face-at us (getD firsts u 0))
+      ∙ ap₂ (λ (a b : ℕ). a ∷ b ∷ []) (face-at u) (face-at (getD firsts u 0))
       ∙ ap (λ (v : Use). getD us u noUse .0 ∷ v .0 ∷ []) (sym (front-at u (getD firsts u 0) i))
       ∙ sym (ap (λ (o : Option ℕ). each flatJoin (joinOf (getD us u noUse .0) o []))
       (first-some (getD us u noUse .1) (take u us) (getD firsts u 0) (omega arith)
-      (ap (λ (v : Use). sameKey (getD us u noUse .1) (v .1)) (front-at u (getD firsts u 0) i) ∙ sym (same-key us good u (getD firsts u 0) h (omega arith)) ∙ mk .first u h .same)
+      (ap (λ (v : Use). sameKey (getD us u noUse .1) (v .1)) (front-at u (getD firsts u 0) i) ∙ mk .first u h .same)
       (λ y k. ap (λ (v : Use). sameKey (getD us u noUse .1) (v .1)) (front-at u y (omega arith)) ∙ none-before u y h k))))
       (eq-or-lt-of-le f)
 

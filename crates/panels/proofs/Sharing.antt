@@ -17,10 +17,12 @@ use Rattle.lists.proofs.Cases.{and-parts}
 use Rattle.lists.proofs.Counting.{clash, or-either}
 use Rattle.lists.proofs.Parts.{some-append}
 use Rattle.mesh.specs.Mesh.{Ring}
-use Rattle.panels.specs.Panels.{Key, sameKey, faceKeys, Use, usesFrom, firstFace, Join, joinOf, joinsFrom, joins}
+use Rattle.keys.specs.Keys.{Key, sameKey, faceKeys, Use, usesFrom}
+use Rattle.searching.specs.Search.{Join}
+use Rattle.panels.specs.Panels.{firstFace, joinOf, joinsFrom, joins}
 use Rattle.panels.specs.Promises.{keyIn, Share}
 use Rattle.lists.proofs.Chains.{Reach, here, reach-trans, reach-one, reach-sym}
-use Rattle.panels.proofs.Looking.{Beside, has-neighbours, beside-sym}
+use Rattle.searching.proofs.Looking.{Beside, has-neighbours, beside-sym}
 
 -- ---- keys compared
 

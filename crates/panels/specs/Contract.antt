@@ -12,8 +12,8 @@ use Rattle.mesh.specs.Table.{firstOf, when, lent, short, meshNumber, after}
 use Rattle.panels.specs.Panels.{panels}
 
 -- numbers 0 to 5, and 9: there is room in each list for one number per corner
-unfoldable pub panelsNumber : Mesh → ℕ → ℕ → ℕ
-panelsNumber m flat lengths =
+unfoldable pub componentsNumber : Mesh → ℕ → ℕ → ℕ
+componentsNumber m flat lengths =
     firstOf (meshNumber m ∷ when (short (lent flat (length (m .corners) / width) ∷ lent lengths (length (m .corners) / width) ∷ [])) 9 ∷ [])
 
 -- the panels of a mesh
@@ -23,7 +23,7 @@ panelsOf normals m = panels normals (faces m)
 -- a flat list of faces and a list of lengths, one for each panel; beside a number that is not 0 the counts are 0 and nothing is
 -- written; past the result the room is unchanged
 pub record Answered (m : Mesh) (normals : Bool) (flat₀ lengths₀ : List ℕ) (n f p : ℕ) (flat₁ lengths₁ : List ℕ) : Type 0 where
-  pub number : n ≡ panelsNumber m (length flat₀) (length lengths₀)
+  pub number : n ≡ componentsNumber m (length flat₀) (length lengths₀)
   pub faces : f ≡ after n (length (joined (panelsOf normals m))) 0
   pub panels : p ≡ after n (length (panelsOf normals m)) 0
   pub flat : flat₁ ≡ after n (sets flat₀ 0 (joined (panelsOf normals m))) flat₀

@@ -1,5 +1,4 @@
--- The steps of the code, and no rules of document 01: the joins as a flat list, two faces each, in the order they are recorded.
--- Assumes nothing.
+-- The steps of the code, and no rules of document 01: how each use's join is written down. Assumes nothing.
 use mathlib.Core.Path.{_≡_}
 use mathlib.Core.Bool.{cond}
 use mathlib.Core.List.{List, [], _∷_}
@@ -9,19 +8,7 @@ use lib.ListN.{length, getD}
 use lib.Seq.{sets}
 use Rattle.lists.specs.Lists.{each, span}
 use Rattle.mesh.specs.Limits.{cornerLimit}
-use Rattle.panels.specs.Panels.{Join}
-
--- the joins, flat, and back
-abbrev pub flatJoin : Join → List ℕ
-flatJoin j = j .0 ∷ j .1 ∷ []
-
-unfoldable pub flatJoins : List Join → List ℕ
-flatJoins js = each flatJoin js
-
-unfoldable pub joinsOf : List ℕ → List Join
-joinsOf [] = []
-joinsOf (i ∷ []) = []
-joinsOf (i ∷ j ∷ l) = (i, j) ∷ joinsOf l
+use Rattle.searching.specs.Joins.{joinNumbers}
 
 -- use u joins its face to the face of the first use of its key, unless it is that use
 unfoldable pub joinAt : List ℕ → List ℕ → ℕ → List ℕ
@@ -39,7 +26,7 @@ pub record Joinable (faces firsts out : List ℕ) : Type 0 where
 
 -- use u, and room for two numbers from m on
 pub record JoinableAt (faces firsts : List ℕ) (u : ℕ) (out : List ℕ) (m : ℕ) : Type 0 where
-  pub few : m ≤ 8192
+  pub few : m ≤ joinNumbers
   pub inside : u < length firsts
   pub faces-long : length faces ≡ length firsts
   pub named : getD firsts u 0 < length firsts

@@ -8,7 +8,8 @@ use lib.ListN.{length, getD}
 use Rattle.lists.specs.Lists.{has, some, joined, count}
 use Rattle.lists.proofs.Chains.{Reach}
 use Rattle.mesh.specs.Mesh.{Ring}
-use Rattle.panels.specs.Panels.{Key, sameKey, faceKeys, panels, together}
+use Rattle.keys.specs.Keys.{Key, sameKey, faceKeys}
+use Rattle.panels.specs.Panels.{panels, together}
 
 -- each face stands in exactly one panel, once
 abbrev pub EachFaceOnce : Bool → List Ring → Type 0

@@ -28,7 +28,7 @@ use Rattle.house.specs.Answers.{wired, houseNumber, HouseAnswer}
 use Rattle.house.proofs.Given.{house-uses}
 use Rattle.house.proofs.Answering.{house-verdict}
 use Rattle.panels.specs.Panels.{joins, panels}
-use Rattle.panels.proofs.Parting.{panels-few}
+use Rattle.searching.proofs.Parting.{panels-few}
 use Rattle.lines.specs.Working.{wiresBy, foundBy, Ready as LinesReady}
 use Rattle.lines.specs.Lines.{sheetText}
 use Rattle.lines.proofs.Wiring.{parts-back}
@@ -52,7 +52,7 @@ module _ {m : Mesh} {flat flat₁ flat₂ lengths lengths₁ lengths₂ out : Li
   -- ---- panels
 
   parts-done : pn ≡ 0
-  unfolding panelling.panelsNumber short
+  unfolding panelling.componentsNumber short
   parts-done =
       rw (parted .number, room .ready .accepted, le-ltb (length flat) (length (m .corners) / width) (omega (arith, room .numbers, a .limits .corners)), le-ltb (length lengths) (length (m .corners) / width) (omega (arith, room .wires, a .limits .corners)))
 

@@ -1,9 +1,10 @@
--- `panels::components` meets its contract: a refusal writes nothing and counts nothing; an accepted mesh with room has joins that are few and
--- of its faces, and the panels of those joins are its panels. Assumes nothing.
+-- `panels::components` meets its contract: a refusal writes nothing and counts nothing; an accepted mesh with room has the panels that
+-- `components_of` lists. Assumes nothing.
 use mathlib.Core.Path.{sym, _∙_}
 use Rattle.mesh.specs.Mesh.{meshOf}
 use Rattle.mesh.proofs.Accepted.{accepted}
-use Rattle.panels.proofs.Whole.{refused-mesh, refused-flat, refused-lengths, joins-room, row-inside, row-counts, row-divides, answered, whole-row}
+use Rattle.panels.proofs.Refusing.{refused-mesh, refused-flat, refused-lengths}
+use Rattle.panels.proofs.Whole.{panels-room, answered}
 use borrow.Author.Needs.{needs}
 use Rattle.panels.proofs.components.Statement.{statement}
 use Rattle.panels.proofs.components.Tie as tie
@@ -15,34 +16,43 @@ refused-requires : tie.Need-refused-requires
 refused-requires c κs = search needs
 
 returns : tie.Need-returns
-returns c = refused-mesh (meshOf (c .before .before .before .before .before .before .before .before .before .before .args .positions .now) (c .before .before .before .before .before .before .before .before .before .before .args .textures .now) (c .before .before .before .before .before .before .before .before .before .before .args .normals .now) (c .before .before .before .before .before .before .before .before .before .before .args .corners .now) (c .before .before .before .before .before .before .before .before .before .before .args .sizes .now)) (c .before .before .before .before .before .before .before .before .before .before .args .use-normal) _ _ _ _ _ _ (c .before .before .number .ensures) (c .before .if1 .taken) (c .refused .ensures .0) (c .refused .ensures .1) (c .refused .ensures .2)
+returns c =
+    let no = c .refused .ensures in
+    let number = c .before .before .number in
+    let given = c .before .before .before .before .before .before .before .before .before .before .args in
+    let mesh = meshOf (given .positions .now) (given .textures .now) (given .normals .now) (given .corners .now) (given .sizes .now) in
+    refused-mesh mesh (given .use-normal) _ _ _ _ _ _ (number .ensures) (c .before .if1 .taken) (no .0) (no .1) (no .2)
 
 refused-requires-2 : tie.Need-refused-requires-2
 refused-requires-2 c κs = search needs
 
 returns-2 : tie.Need-returns-2
-returns-2 c = refused-flat (meshOf (c .before .before .before .before .before .before .before .before .before .before .before .args .positions .now) (c .before .before .before .before .before .before .before .before .before .before .before .args .textures .now) (c .before .before .before .before .before .before .before .before .before .before .before .args .normals .now) (c .before .before .before .before .before .before .before .before .before .before .before .args .corners .now) (c .before .before .before .before .before .before .before .before .before .before .before .args .sizes .now)) (c .before .before .before .before .before .before .before .before .before .before .before .args .use-normal) _ _ _ _ _ _ (c .before .before .before .number .ensures) (c .before .before .if1 .left) (c .before .if2 .taken) (c .refused2 .ensures .0) (c .refused2 .ensures .1) (c .refused2 .ensures .2)
+returns-2 c =
+    let no = c .refused2 .ensures in
+    let number = c .before .before .before .number in
+    let given = c .before .before .before .before .before .before .before .before .before .before .before .args in
+    let mesh = meshOf (given .positions .now) (given .textures .now) (given .normals .now) (given .corners .now) (given .sizes .now) in
+    refused-flat mesh (given .use-normal) _ _ _ _ _ _ (number .ensures) (c .before .before .if1 .left) (c .before .if2 .taken) (no .0) (no .1) (no .2)
 
 refused-requires-3 : tie.Need-refused-requires-3
 refused-requires-3 c κs = search needs
 
 returns-3 : tie.Need-returns-3
-returns-3 c = refused-lengths (meshOf (c .before .before .before .before .before .before .before .before .before .before .before .before .args .positions .now) (c .before .before .before .before .before .before .before .before .before .before .before .before .args .textures .now) (c .before .before .before .before .before .before .before .before .before .before .before .before .args .normals .now) (c .before .before .before .before .before .before .before .before .before .before .before .before .args .corners .now) (c .before .before .before .before .before .before .before .before .before .before .before .before .args .sizes .now)) (c .before .before .before .before .before .before .before .before .before .before .before .before .args .use-normal) _ _ _ _ _ _ (c .before .before .before .before .number .ensures) (c .before .before .before .if1 .left) (c .before .before .if2 .left) (c .before .if3 .taken) (c .refused3 .ensures .0) (c .refused3 .ensures .1) (c .refused3 .ensures .2)
+returns-3 c =
+    let no = c .refused3 .ensures in
+    let number = c .before .before .before .before .number in
+    let given = c .before .before .before .before .before .before .before .before .before .before .before .before .args in
+    let mesh = meshOf (given .positions .now) (given .textures .now) (given .normals .now) (given .corners .now) (given .sizes .now) in
+    refused-lengths mesh (given .use-normal) _ _ _ _ _ _ (number .ensures) (c .before .before .before .if1 .left) (c .before .before .if2 .left)
+    (c .before .if3 .taken) (no .0) (no .1) (no .2)
 
-slice-aggregate-find-joins : tie.Need-slice-aggregate-find-joins
-slice-aggregate-find-joins c = search needs
-
-find-joins-requires : tie.Need-find-joins-requires
-find-joins-requires c κs = joins-room (meshOf (c .before .before .before .before .before .before .before .before .before .before .before .before .args .positions .now) (c .before .before .before .before .before .before .before .before .before .before .before .before .args .textures .now) (c .before .before .before .before .before .before .before .before .before .before .before .before .args .normals .now) (c .before .before .before .before .before .before .before .before .before .before .before .before .args .corners .now) (c .before .before .before .before .before .before .before .before .before .before .before .before .args .sizes .now)) (c .before .before .before .before .before .before .before .before .before .before .before .before .args .use-normal) (accepted (meshOf (c .before .before .before .before .before .before .before .before .before .before .before .before .args .positions .now) (c .before .before .before .before .before .before .before .before .before .before .before .before .args .textures .now) (c .before .before .before .before .before .before .before .before .before .before .before .before .args .normals .now) (c .before .before .before .before .before .before .before .before .before .before .before .before .args .corners .now) (c .before .before .before .before .before .before .before .before .before .before .before .before .args .sizes .now)) (sym (c .before .before .before .before .number .ensures) ∙ c .before .before .before .if1 .left)) _ whole-row
-
-array-share-prefix-row : tie.Need-array-share-prefix-row
-array-share-prefix-row c = row-inside (meshOf (c .before .before .before .before .before .before .before .before .before .before .before .before .before .before .args .positions .now) (c .before .before .before .before .before .before .before .before .before .before .before .before .before .before .args .textures .now) (c .before .before .before .before .before .before .before .before .before .before .before .before .before .before .args .normals .now) (c .before .before .before .before .before .before .before .before .before .before .before .before .before .before .args .corners .now) (c .before .before .before .before .before .before .before .before .before .before .before .before .before .before .args .sizes .now)) (c .before .before .before .before .before .before .before .before .before .before .before .before .before .before .args .use-normal) (accepted (meshOf (c .before .before .before .before .before .before .before .before .before .before .before .before .before .before .args .positions .now) (c .before .before .before .before .before .before .before .before .before .before .before .before .before .before .args .textures .now) (c .before .before .before .before .before .before .before .before .before .before .before .before .before .before .args .normals .now) (c .before .before .before .before .before .before .before .before .before .before .before .before .before .before .args .corners .now) (c .before .before .before .before .before .before .before .before .before .before .before .before .before .before .args .sizes .now)) (sym (c .before .before .before .before .before .before .number .ensures) ∙ c .before .before .before .before .before .if1 .left)) _ _ _ (c .before .find-joins .ensures) whole-row (c .before .find-joins .kept .1 .1 .1 .0)
-
-slice-aggregate-part : tie.Need-slice-aggregate-part
-slice-aggregate-part c = row-counts (meshOf (c .before .before .before .before .before .before .before .before .before .before .before .before .before .before .before .args .positions .now) (c .before .before .before .before .before .before .before .before .before .before .before .before .before .before .before .args .textures .now) (c .before .before .before .before .before .before .before .before .before .before .before .before .before .before .before .args .normals .now) (c .before .before .before .before .before .before .before .before .before .before .before .before .before .before .before .args .corners .now) (c .before .before .before .before .before .before .before .before .before .before .before .before .before .before .before .args .sizes .now)) (c .before .before .before .before .before .before .before .before .before .before .before .before .before .before .before .args .use-normal) (accepted (meshOf (c .before .before .before .before .before .before .before .before .before .before .before .before .before .before .before .args .positions .now) (c .before .before .before .before .before .before .before .before .before .before .before .before .before .before .before .args .textures .now) (c .before .before .before .before .before .before .before .before .before .before .before .before .before .before .before .args .normals .now) (c .before .before .before .before .before .before .before .before .before .before .before .before .before .before .before .args .corners .now) (c .before .before .before .before .before .before .before .before .before .before .before .before .before .before .before .args .sizes .now)) (sym (c .before .before .before .before .before .before .before .number .ensures) ∙ c .before .before .before .before .before .before .if1 .left)) _ _ _ (c .before .before .find-joins .ensures) whole-row (c .before .before .find-joins .kept .1 .1 .1 .0)
-
-part-requires : tie.Need-part-requires
-part-requires c κs = row-divides (meshOf (c .before .before .before .before .before .before .before .before .before .before .before .before .before .before .before .before .before .args .positions .now) (c .before .before .before .before .before .before .before .before .before .before .before .before .before .before .before .before .before .args .textures .now) (c .before .before .before .before .before .before .before .before .before .before .before .before .before .before .before .before .before .args .normals .now) (c .before .before .before .before .before .before .before .before .before .before .before .before .before .before .before .before .before .args .corners .now) (c .before .before .before .before .before .before .before .before .before .before .before .before .before .before .before .before .before .args .sizes .now)) (c .before .before .before .before .before .before .before .before .before .before .before .before .before .before .before .before .before .args .use-normal) (accepted (meshOf (c .before .before .before .before .before .before .before .before .before .before .before .before .before .before .before .before .before .args .positions .now) (c .before .before .before .before .before .before .before .before .before .before .before .before .before .before .before .before .before .args .textures .now) (c .before .before .before .before .before .before .before .before .before .before .before .before .before .before .before .before .before .args .normals .now) (c .before .before .before .before .before .before .before .before .before .before .before .before .before .before .before .before .before .args .corners .now) (c .before .before .before .before .before .before .before .before .before .before .before .before .before .before .before .before .before .args .sizes .now)) (sym (c .before .before .before .before .before .before .before .before .before .number .ensures) ∙ c .before .before .before .before .before .before .before .before .if1 .left)) _ _ _ (c .before .before .before .before .find-joins .ensures) whole-row _ _ (c .before .before .before .before .before .before .before .if2 .left) (c .before .before .before .before .before .before .if3 .left)
+components-of-requires : tie.Need-components-of-requires
+components-of-requires c κs =
+    let number = c .before .before .before .before .before .number in
+    let zero = c .before .before .before .before .if1 .left in
+    let given = c .before .before .before .before .before .before .before .before .before .before .before .before .before .args in
+    let mesh = meshOf (given .positions .now) (given .textures .now) (given .normals .now) (given .corners .now) (given .sizes .now) in
+    panels-room mesh (accepted mesh (sym (number .ensures) ∙ zero)) _ _ (c .before .before .before .if2 .left) (c .before .before .if3 .left)
 
 same-length : tie.Need-same-length
 same-length c = search needs
@@ -51,7 +61,14 @@ same-length-2 : tie.Need-same-length-2
 same-length-2 c = search needs
 
 returns-4 : tie.Need-returns-4
-returns-4 c = answered (meshOf (c .before .before .before .before .before .before .before .before .before .before .before .before .before .before .before .before .before .before .before .before .before .before .args .positions .now) (c .before .before .before .before .before .before .before .before .before .before .before .before .before .before .before .before .before .before .before .before .before .before .args .textures .now) (c .before .before .before .before .before .before .before .before .before .before .before .before .before .before .before .before .before .before .before .before .before .before .args .normals .now) (c .before .before .before .before .before .before .before .before .before .before .before .before .before .before .before .before .before .before .before .before .before .before .args .corners .now) (c .before .before .before .before .before .before .before .before .before .before .before .before .before .before .before .before .before .before .before .before .before .before .args .sizes .now)) (c .before .before .before .before .before .before .before .before .before .before .before .before .before .before .before .before .before .before .before .before .before .before .args .use-normal) (accepted (meshOf (c .before .before .before .before .before .before .before .before .before .before .before .before .before .before .before .before .before .before .before .before .before .before .args .positions .now) (c .before .before .before .before .before .before .before .before .before .before .before .before .before .before .before .before .before .before .before .before .before .before .args .textures .now) (c .before .before .before .before .before .before .before .before .before .before .before .before .before .before .before .before .before .before .before .before .before .before .args .normals .now) (c .before .before .before .before .before .before .before .before .before .before .before .before .before .before .before .before .before .before .before .before .before .before .args .corners .now) (c .before .before .before .before .before .before .before .before .before .before .before .before .before .before .before .before .before .before .before .before .before .before .args .sizes .now)) (sym (c .before .before .before .before .before .before .before .before .before .before .before .before .before .before .number .ensures) ∙ c .before .before .before .before .before .before .before .before .before .before .before .before .before .if1 .left)) _ _ _ (c .before .before .before .before .before .before .before .before .before .find-joins .ensures) whole-row _ _ (c .before .before .before .before .before .before .before .before .before .before .before .before .if2 .left) (c .before .before .before .before .before .before .before .before .before .before .before .if3 .left) _ _ _ _ _ (c .before .before .before .before .before .before .before .before .before .before .before .before .before .before .number .ensures) (c .before .before .before .before .before .before .before .before .before .before .before .before .before .if1 .left) (c .before .before .before .before .part .ensures)
+returns-4 c =
+    let parted = c .before .before .before .before .components-of in
+    let number = c .before .before .before .before .before .before .before .before .before .before .number in
+    let zero = c .before .before .before .before .before .before .before .before .before .if1 .left in
+    let given = c .before .before .before .before .before .before .before .before .before .before .before .before .before .before .before .before .before .before .args in
+    let mesh = meshOf (given .positions .now) (given .textures .now) (given .normals .now) (given .corners .now) (given .sizes .now) in
+    answered mesh (accepted mesh (sym (number .ensures) ∙ zero)) _ _ (c .before .before .before .before .before .before .before .before .if2 .left)
+    (c .before .before .before .before .before .before .before .if3 .left) (given .use-normal) _ _ _ _ _ (number .ensures) zero (parted .ensures)
 
 pub components-spec : {M : Type 1} → statement M
 components-spec =
@@ -64,11 +81,7 @@ components-spec =
     returns-2
     refused-requires-3
     returns-3
-    slice-aggregate-find-joins
-    find-joins-requires
-    array-share-prefix-row
-    slice-aggregate-part
-    part-requires
+    components-of-requires
     same-length
     same-length-2
     returns-4)

@@ -1,0 +1,5 @@
+pub mod Using
+pub mod Sorted
+pub mod Marking
+pub mod Valid
+pub mod Rows

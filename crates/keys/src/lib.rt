@@ -1,0 +1,85 @@
+// Edge keys: for each use of an edge, in the order of the faces and of their edges, the first use of the same key, and its face.
+// A key has both positions of the edge, and with the normals setting also both normals.
+//
+// The uses are columns of numbers (columns.rt). A stable sort puts uses of one key together, the first one first (firsts.rt). All
+// of it is linear: no use is looked for.
+ghost use mathlib.Core.Path.{_≡_};
+ghost use Prim.Native.Nat.{_≤_};
+ghost use lib.ListN.{length};
+ghost use Rattle.lists.specs.Lists.{span};
+ghost use Rattle.mesh.specs.Limits.{cornerNumbers};
+ghost use Rattle.mesh.specs.Mesh.{rings};
+ghost use Rattle.keys.specs.Keys.{usesFrom, useFaces, FirstUses};
+ghost use Rattle.keys.specs.Columns.{ColumnRoom, FirstRoom, KeyRows};
+
+mod columns;
+mod firsts;
+
+// The first use of each use's key, for a mesh that is accepted.
+pub fn first_uses(corners: &[u32], sizes: &[u32], normals: bool, firsts: &mut [u32])
+    requires { ⌜ FirstRoom (now corners) (now sizes) (now firsts) ⌝ }
+    ensures { λ _. ⌜ FirstUses (usesFrom normals 0 (rings (now (sizes .entry)) (now (corners .entry)))) (now (firsts .exit)) ⌝ }
+{
+    let mut lower = [0u32; mesh::CORNERS];
+    let mut higher = [0u32; mesh::CORNERS];
+    let mut n = [0u32; mesh::CORNERS];
+    let mut m = [0u32; mesh::CORNERS];
+    let mut order = [0u32; mesh::CORNERS];
+    let u = corners.len() / mesh::WIDTH;
+    first_uses_in(
+        corners,
+        sizes,
+        normals,
+        &mut lower[..u],
+        &mut higher[..u],
+        &mut n[..u],
+        &mut m[..u],
+        &mut order[..u],
+        firsts,
+    );
+}
+
+// The same, in rows of one number for each use: four for the digits of the keys, n and m those of the normals.
+fn first_uses_in(
+    corners: &[u32],
+    sizes: &[u32],
+    normals: bool,
+    lower: &mut [u32],
+    higher: &mut [u32],
+    n: &mut [u32],
+    m: &mut [u32],
+    order: &mut [u32],
+    firsts: &mut [u32],
+)
+    requires { ⌜ KeyRows (now corners) (now sizes) (now lower) (now higher) (now n) (now m) (now order) (now firsts) ⌝ }
+    ensures { λ _. ⌜ FirstUses (usesFrom normals 0 (rings (now (sizes .entry)) (now (corners .entry)))) (now (firsts .exit)) ⌝ }
+{
+    columns::put_digits(corners, sizes, normals, lower, higher, n, m);
+    firsts::put_firsts(lower, higher, n, m, order, firsts);
+}
+
+// The face of each use.
+pub fn put_faces(corners: &[u32], sizes: &[u32], out: &mut [u32])
+    requires { ⌜ ColumnRoom (now corners) (now sizes) (now out) ⌝ }
+    ensures { λ _. ⌜ now (out .exit) ≡ useFaces (rings (now (sizes .entry)) (now (corners .entry))) ⌝ }
+{
+    columns::put_column(corners, sizes, false, columns::FACE, out);
+}
+
+// 0, 1, 2, ..
+pub fn count_up(out: &mut [u32])
+    requires { ⌜ length (now out) ≤ cornerNumbers ⌝ }
+    ensures { λ _. ⌜ now (out .exit) ≡ span 0 (length (now (out .entry))) ⌝ }
+{
+    let mut i: usize = 0;
+    while i < out.len() {
+        out[i] = i as u32;
+        i += 1;
+    }
+}
+
+pub fn wide(x: u32) -> usize
+    ensures { λ r. ⌜ r ≡ x ⌝ }
+{
+    x as usize
+}
