@@ -7,9 +7,10 @@ use mathlib.Core.List.{List, [], _∷_, _++_, map}
 use native.Mathlib.Omega.{arith}
 use lib.Dec.{eqb, T}
 use lib.ListN.{length, getD}
-use lib.Ieee.{binary64, toBits}
+use lib.IntN.{pos, negsuc}
+use lib.Ieee.{fin, binary64, ofBits, toBits}
 use borrow.Author.Tests.{eqb-true, eq-eqb}
-use Rattle.lists.specs.Lists.{some}
+use Rattle.lists.specs.Lists.{some, span}
 use Rattle.lists.specs.Same.{sameNumbers, Tells}
 use Rattle.lists.proofs.Bools.{by-cases, and-both, and-left, and-right, or-left, or-right}
 use Rattle.lists.proofs.Counting.{clash, or-either}
@@ -25,7 +26,7 @@ use Rattle.panels.specs.Panels.{panels}
 use Rattle.folded.proofs.Examples.{leaves-is}
 use Rattle.compaction.specs.Compaction.{compacted}
 use Rattle.merging.specs.Merging.{mergeNumber, texturePairs, mergedCorners}
-use Rattle.examples.specs.Twelve.{facesBy, tri, triangle, threeFaces, exchanged, touching, verdictNumber, hasVerdict, hasHem, hasPorted, hasHouse, hasPanels, compacts, merges, examples, allHold}
+use Rattle.examples.specs.Twelve.{facesBy, tri, triangle, threeFaces, exchanged, touching, sixPositions, threeTextures, verdictNumber, hasVerdict, hasHem, hasPorted, hasHouse, hasPanels, compacts, merges, examples, allHold}
 use Rattle.examples.specs.Meaning.{Compacts, Merges, TestsTell, TwelveHold}
 use Rattle.examples.proofs.Hold.{they-hold}
 
@@ -129,6 +130,18 @@ held : (k : ℕ) → k < 12 → getD examples k false ≡ true
 unfolding allHold
 held k l = every-at (λ (b : Bool). b) false examples k (passed allHold they-hold) l
 
+-- what the ninth, tenth and eleventh are asked of
+six-are : (sixPositions .positions ≡ map (ofBits binary64) (span 0 18)) × (map position (threes (sixPositions .corners)) ≡ 5 ∷ 2 ∷ 4 ∷ [])
+unfolding sixPositions
+six-are = (refl, refl)
+
+textures-are :
+    (threeTextures .textures
+    ≡ fin false 0 (pos 0) ∷ fin false 0 (pos 0) ∷ fin false 1 (negsuc 0) ∷ fin false 0 (pos 0) ∷ fin false 1 (pos 0) ∷ fin false 0 (pos 0) ∷ [])
+    × (map texture (threes (threeTextures .corners)) ≡ 0 ∷ 1 ∷ 2 ∷ [])
+unfolding threeTextures
+textures-are = (refl, refl)
+
 pub twelve-hold : TwelveHold
 twelve-hold =
     let say = tests-tell in
@@ -171,7 +184,9 @@ twelve-hold =
       across = say .leaves-told _ _ .0 (held 5 (omega arith));
       of-five = say .leaves-told _ _ .0 (held 6 (omega arith));
       of-six = say .leaves-told _ _ .0 (held 7 (omega arith));
+      six-positions = six-are;
       by-first-use = say .compacts-told _ _ _ .0 (held 8 (omega arith));
+      three-textures = textures-are;
       nothing-merges = say .merges-told _ _ _ _ .0 (held 9 (omega arith));
       all-merge = say .merges-told _ _ _ _ .0 (held 10 (omega arith));
       ported-wires = say .ported-told touching (tri 0 1 4 ∷ tri 2 3 1 ∷ []) .0 (held 11 (omega arith));

@@ -5,7 +5,9 @@ use mathlib.Core.Path.{_≡_}
 use mathlib.Core.Bool.{false}
 use mathlib.Core.List.{List, [], _∷_, _++_, map}
 use lib.ListN.{length}
-use lib.Ieee.{Float, binary64, toBits}
+use lib.IntN.{pos, negsuc}
+use lib.Ieee.{Float, fin, binary64, ofBits, toBits}
+use Rattle.lists.specs.Lists.{span}
 use Rattle.lists.specs.Same.{Tells}
 use Rattle.mesh.specs.Mesh.{Mesh, Ring, position, texture, threes}
 use Rattle.mesh.specs.Table.{meshNumber}
@@ -18,7 +20,7 @@ use Rattle.folded.specs.Examples.{LeavesIs, corner}
 use Rattle.compaction.specs.Compaction.{compacted}
 use Rattle.merging.specs.Merging.{mergeNumber, texturePairs, mergedCorners}
 use Rattle.examples.specs.Twelve as test
-use Rattle.examples.specs.Twelve.{facesBy, tri, triangle, threeFaces, exchanged, sixPositions, threeTextures, half, fiveEighths, touching}
+use Rattle.examples.specs.Twelve.{facesBy, tri, sixPositions, threeTextures}
 
 -- ---- of faces by positions
 
@@ -73,10 +75,16 @@ pub record TestsTell : Type 0 where
 
 pub record TwelveHold : Type 0 where
   pub no-faces : Verdicts [] Closed × Ported [] [] × House [] [] × Panels [] []
-  pub one-triangle : Verdicts triangle Oriented × Ported triangle (tri 0 1 2 ∷ []) × House triangle (tri 0 1 2 ∷ [])
+  pub one-triangle : Verdicts (tri 0 1 2 ∷ []) Oriented × Ported (tri 0 1 2 ∷ []) (tri 0 1 2 ∷ []) × House (tri 0 1 2 ∷ []) (tri 0 1 2 ∷ [])
   pub one-direction : Verdicts (tri 0 1 2 ∷ tri 0 1 3 ∷ []) Regular
-  pub three-uses : Verdicts threeFaces Irregular × Hem threeFaces (0, 1) × (Hem threeFaces (1, 0) → ⊥)
-  pub two-exchanged : Verdicts exchanged Irregular × Hem exchanged (1, 0) × (Hem exchanged (0, 1) → ⊥)
+  pub three-uses :
+      Verdicts (tri 0 1 2 ∷ tri 1 0 3 ∷ tri 0 1 4 ∷ []) Irregular
+      × Hem (tri 0 1 2 ∷ tri 1 0 3 ∷ tri 0 1 4 ∷ []) (0, 1)
+      × (Hem (tri 0 1 2 ∷ tri 1 0 3 ∷ tri 0 1 4 ∷ []) (1, 0) → ⊥)
+  pub two-exchanged :
+      Verdicts (tri 0 1 2 ∷ tri 0 1 4 ∷ tri 1 0 3 ∷ []) Irregular
+      × Hem (tri 0 1 2 ∷ tri 0 1 4 ∷ tri 1 0 3 ∷ []) (1, 0)
+      × (Hem (tri 0 1 2 ∷ tri 0 1 4 ∷ tri 1 0 3 ∷ []) (0, 1) → ⊥)
   pub beside : Leaves (corner 0 0 ∷ corner 1 1 ∷ corner 1 2 ∷ corner 2 3 ∷ []) ((corner 0 0 ∷ corner 1 2 ∷ corner 2 3 ∷ []) ∷ [])
   pub across : Leaves (corner 0 0 ∷ corner 1 1 ∷ corner 0 2 ∷ corner 2 3 ∷ []) []
   pub of-five :
@@ -87,7 +95,16 @@ pub record TwelveHold : Type 0 where
       Leaves
       (corner 0 0 ∷ corner 1 1 ∷ corner 2 2 ∷ corner 0 3 ∷ corner 3 4 ∷ corner 4 5 ∷ [])
       ((corner 0 0 ∷ corner 1 1 ∷ corner 2 2 ∷ []) ∷ (corner 0 3 ∷ corner 3 4 ∷ corner 4 5 ∷ []) ∷ [])
+  -- six positions, whose coordinates have the bits 0, 1, .., 17, and the face (5,2,4)
+  pub six-positions :
+      (sixPositions .positions ≡ map (ofBits binary64) (span 0 18))
+      × (map position (threes (sixPositions .corners)) ≡ 5 ∷ 2 ∷ 4 ∷ [])
   pub by-first-use : Compacts sixPositions (0 ∷ 1 ∷ 2 ∷ []) (15 ∷ 16 ∷ 17 ∷ 6 ∷ 7 ∷ 8 ∷ 12 ∷ 13 ∷ 14 ∷ [])
-  pub nothing-merges : Merges threeTextures half 3 (0 ∷ 1 ∷ 2 ∷ [])
-  pub all-merge : Merges threeTextures fiveEighths 3 (1 ∷ 1 ∷ 1 ∷ [])
-  pub ported-wires : Ported touching (tri 0 1 4 ∷ tri 2 3 1 ∷ [])
+  -- texture points (0,0),(0.5,0),(1,0), of corners in this order: a number is m·2^e, so 0.5 is 1·2^-1 and 0.625 is 5·2^-3
+  pub three-textures :
+      (threeTextures .textures
+      ≡ fin false 0 (pos 0) ∷ fin false 0 (pos 0) ∷ fin false 1 (negsuc 0) ∷ fin false 0 (pos 0) ∷ fin false 1 (pos 0) ∷ fin false 0 (pos 0) ∷ [])
+      × (map texture (threes (threeTextures .corners)) ≡ 0 ∷ 1 ∷ 2 ∷ [])
+  pub nothing-merges : Merges threeTextures (fin false 1 (negsuc 0)) 3 (0 ∷ 1 ∷ 2 ∷ [])
+  pub all-merge : Merges threeTextures (fin false 5 (negsuc 2)) 3 (1 ∷ 1 ∷ 1 ∷ [])
+  pub ported-wires : Ported (tri 0 1 4 ∷ tri 1 2 3 ∷ []) (tri 0 1 4 ∷ tri 2 3 1 ∷ [])
