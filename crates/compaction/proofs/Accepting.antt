@@ -9,7 +9,7 @@ use lib.Dec.{eqb}
 use lib.Ieee.{Float}
 use Rattle.lists.specs.Lists.{some}
 use Rattle.lists.proofs.Bools.{and-false-right, or-neither, or-false-left, or-false-right}
-use Rattle.mesh.specs.Mesh.{Mesh, position, texture, normal, missing, threes, positionCount, textureCount, normalCount}
+use Rattle.mesh.specs.Mesh.{Mesh, position, texture, normal, missing, cornersIn, positionCount, textureCount, normalCount}
 use Rattle.mesh.specs.Table.{beyond, beyondUnlessMissing, astray, astrayAt, meshNumber}
 use Rattle.mesh.proofs.Numbers.{clear}
 use Rattle.mesh.proofs.Accepted.{Accepted, accepted}
@@ -29,7 +29,7 @@ none-either p q f (x ∷ l) w h =
     (none-either p q f l w (or-false-right (p x) (some p l) h))
 
 module _ (m : Mesh) (h : meshNumber m ≡ 0) where
-  none-astray : some (astrayAt m) (threes (m .corners)) ≡ false
+  none-astray : some (astrayAt m) (cornersIn (m .corners)) ≡ false
   unfolding astray
   none-astray = clear m h .found
 
@@ -43,7 +43,7 @@ module _ (m : Mesh) (h : meshNumber m ≡ 0) where
         count = positionCount m;
         whole = omega (arith, a .whole .positions);
         few = omega (arith, a .limits .positions);
-        within = none-either (astrayAt m) (beyondUnlessMissing (positionCount m)) position (threes (m .corners))
+        within = none-either (astrayAt m) (beyondUnlessMissing (positionCount m)) position (cornersIn (m .corners))
             (λ c e.
             and-false-right (not (eqb (position c) missing)) (beyond (positionCount m) (position c))
             (or-false-left (beyond (positionCount m) (position c)) (beyondUnlessMissing (textureCount m) (texture c))
@@ -62,7 +62,7 @@ module _ (m : Mesh) (h : meshNumber m ≡ 0) where
         count = textureCount m;
         whole = omega (arith, a .whole .textures);
         few = omega (arith, a .limits .textures);
-        within = none-either (astrayAt m) (beyondUnlessMissing (textureCount m)) texture (threes (m .corners))
+        within = none-either (astrayAt m) (beyondUnlessMissing (textureCount m)) texture (cornersIn (m .corners))
             (λ c e.
             or-false-right (beyond (positionCount m) (position c)) (beyondUnlessMissing (textureCount m) (texture c))
             (or-false-left (beyond (positionCount m) (position c) || beyondUnlessMissing (textureCount m) (texture c))
@@ -80,7 +80,7 @@ module _ (m : Mesh) (h : meshNumber m ≡ 0) where
         count = normalCount m;
         whole = omega (arith, a .whole .normals);
         few = omega (arith, a .limits .normals);
-        within = none-either (astrayAt m) (beyondUnlessMissing (normalCount m)) normal (threes (m .corners))
+        within = none-either (astrayAt m) (beyondUnlessMissing (normalCount m)) normal (cornersIn (m .corners))
             (λ c e. or-false-right (beyond (positionCount m) (position c) || beyondUnlessMissing (textureCount m) (texture c))
             (beyondUnlessMissing (normalCount m) (normal c)) e)
             none-astray;

@@ -16,9 +16,9 @@ use Rattle.lists.proofs.Mapping.{map-same}
 use Rattle.lists.proofs.Parts.{some-none, each-joined, every-joined}
 use Rattle.lists.proofs.Members.{in-head, in-tail}
 use Rattle.mesh.specs.Limits.{width}
-use Rattle.mesh.specs.Mesh.{Mesh, meshOf, Corner, Ring, position, texture, normal, missing, threes, rings, faces, positionCount, textureCount, normalCount}
+use Rattle.mesh.specs.Mesh.{Mesh, meshOf, Corner, Ring, position, texture, normal, missing, cornersIn, rings, faces, positionCount, textureCount, normalCount}
 use Rattle.mesh.specs.Table.{astray, astrayAt, misfit, ungrouped, meshNumber}
-use Rattle.mesh.proofs.Corners.{length-threes, getD-threes, isCorner, threes-joined, length-corners}
+use Rattle.mesh.proofs.Corners.{length-cornersIn, getD-cornersIn, isCorner, cornersIn-joined, length-corners}
 use Rattle.mesh.proofs.Faces.{isRing, rings-are, rings-back, sizes-back, corners-back}
 use Rattle.mesh.proofs.Numbers.{clear, clear-0}
 use Rattle.mesh.proofs.Accepted.{Accepted, accepted, within-back, even-back}
@@ -71,34 +71,34 @@ module _ (m : Mesh) where
       and-both (isRing (map (renumbered m) f)) (every isRing (map (map (renumbered m)) fs)) (new-corners f) (new-rings fs)
 
   -- corner by corner they are those that were given, renumbered
-  pub corners-compacted : threes (compacted m .corners) ≡ map (renumbered m) (threes (m .corners))
+  pub corners-compacted : cornersIn (compacted m .corners) ≡ map (renumbered m) (cornersIn (m .corners))
   unfolding compacted
-  corners-compacted = threes-joined (map (renumbered m) (threes (m .corners))) (new-corners (threes (m .corners)))
+  corners-compacted = cornersIn-joined (map (renumbered m) (cornersIn (m .corners))) (new-corners (cornersIn (m .corners)))
 
   -- so each column is that column renumbered
   pub positions-renumbered :
-      map position (threes (compacted m .corners)) ≡ map (renumber (usedPositions m)) (map position (threes (m .corners)))
+      map position (cornersIn (compacted m .corners)) ≡ map (renumber (usedPositions m)) (map position (cornersIn (m .corners)))
   unfolding renumbered
   positions-renumbered =
       ap (map position) corners-compacted
-      ∙ map-map position (renumbered m) (threes (m .corners))
-      ∙ sym (map-map (renumber (usedPositions m)) position (threes (m .corners)))
+      ∙ map-map position (renumbered m) (cornersIn (m .corners))
+      ∙ sym (map-map (renumber (usedPositions m)) position (cornersIn (m .corners)))
 
   pub textures-renumbered :
-      map texture (threes (compacted m .corners)) ≡ map (renumber (usedTextures m)) (map texture (threes (m .corners)))
+      map texture (cornersIn (compacted m .corners)) ≡ map (renumber (usedTextures m)) (map texture (cornersIn (m .corners)))
   unfolding renumbered
   textures-renumbered =
       ap (map texture) corners-compacted
-      ∙ map-map texture (renumbered m) (threes (m .corners))
-      ∙ sym (map-map (renumber (usedTextures m)) texture (threes (m .corners)))
+      ∙ map-map texture (renumbered m) (cornersIn (m .corners))
+      ∙ sym (map-map (renumber (usedTextures m)) texture (cornersIn (m .corners)))
 
   pub normals-renumbered :
-      map normal (threes (compacted m .corners)) ≡ map (renumber (usedNormals m)) (map normal (threes (m .corners)))
+      map normal (cornersIn (compacted m .corners)) ≡ map (renumber (usedNormals m)) (map normal (cornersIn (m .corners)))
   unfolding renumbered
   normals-renumbered =
       ap (map normal) corners-compacted
-      ∙ map-map normal (renumbered m) (threes (m .corners))
-      ∙ sym (map-map (renumber (usedNormals m)) normal (threes (m .corners)))
+      ∙ map-map normal (renumbered m) (cornersIn (m .corners))
+      ∙ sym (map-map (renumber (usedNormals m)) normal (cornersIn (m .corners)))
 
 -- what a column has of a corner stands in the column
 its-number : (f : Corner → ℕ) (l : Ring) (k : ℕ) → k < length l → has (f (getD l k [])) (map f l) ≡ true
@@ -160,48 +160,48 @@ module _ (m : Mesh) (z : meshNumber m ≡ 0) where
   pub corners-kept : length (compacted m .corners) ≡ length (m .corners)
   unfolding compacted
   corners-kept =
-      let a : length (joined (map (renumbered m) (threes (m .corners)))) ≡ width * length (map (renumbered m) (threes (m .corners))) =
-      length-corners (map (renumbered m) (threes (m .corners))) (new-corners m (threes (m .corners))) in
-      let b : length (map (renumbered m) (threes (m .corners))) ≡ length (threes (m .corners)) =
-      length-map (threes (m .corners)) (renumbered m) in
-      let c : length (threes (m .corners)) ≡ length (m .corners) / width = length-threes (m .corners) in
+      let a : length (joined (map (renumbered m) (cornersIn (m .corners)))) ≡ width * length (map (renumbered m) (cornersIn (m .corners))) =
+      length-corners (map (renumbered m) (cornersIn (m .corners))) (new-corners m (cornersIn (m .corners))) in
+      let b : length (map (renumbered m) (cornersIn (m .corners))) ≡ length (cornersIn (m .corners)) =
+      length-map (cornersIn (m .corners)) (renumbered m) in
+      let c : length (cornersIn (m .corners)) ≡ length (m .corners) / width = length-cornersIn (m .corners) in
       omega (arith, accepted m z .whole .corners)
 
   -- ---- the result is accepted
 
-  position-there : (k : ℕ) → k < length (threes (m .corners)) → eqb (position (getD (threes (m .corners)) k [])) missing ≡ false
+  position-there : (k : ℕ) → k < length (cornersIn (m .corners)) → eqb (position (getD (cornersIn (m .corners)) k [])) missing ≡ false
   position-there k h =
-      let l : k < length (m .corners) / width = rw (length-threes (m .corners)) at h in
-      let e : position (getD (threes (m .corners)) k []) ≡ getD (m .corners) (width * k) 0 =
-      ap position (getD-threes (m .corners) k l) in
+      let l : k < length (m .corners) / width = rw (length-cornersIn (m .corners)) at h in
+      let e : position (getD (cornersIn (m .corners)) k []) ≡ getD (m .corners) (width * k) 0 =
+      ap position (getD-cornersIn (m .corners) k l) in
       let b : getD (m .corners) (width * k) 0 < positionCount m = accepted m z .corner k l .position in
-      ne-eqb (position (getD (threes (m .corners)) k [])) missing (λ g. omega (arith, accepted m z .limits .positions))
+      ne-eqb (position (getD (cornersIn (m .corners)) k [])) missing (λ g. omega (arith, accepted m z .limits .positions))
 
   -- each index is below its new count, or missing
   none-astray :
-      (k : ℕ) → k < length (threes (m .corners)) → astrayAt (compacted m) (renumbered m (getD (threes (m .corners)) k [])) ≡ false
+      (k : ℕ) → k < length (cornersIn (m .corners)) → astrayAt (compacted m) (renumbered m (getD (cornersIn (m .corners)) k [])) ≡ false
   unfolding renumbered usedPositions usedTextures usedNormals
   none-astray k h =
-      let c = getD (threes (m .corners)) k [] in
+      let c = getD (cornersIn (m .corners)) k [] in
       or-neither _ _
       (or-neither _ _
       (lt-leb (positionCount (compacted m)) (renumber (usedPositions m) (position c))
       (rw positions-counted
       (renumber-below (column 0 (m .corners)) (used-small (pointed-positions m z)) (position c)
-      (its-number position (threes (m .corners)) k h) (position-there k h))))
+      (its-number position (cornersIn (m .corners)) k h) (position-there k h))))
       (rw textures-counted (renumber-within (column 1 (m .corners)) (used-small (pointed-textures m z)) (texture c)
-      (its-number texture (threes (m .corners)) k h))))
+      (its-number texture (cornersIn (m .corners)) k h))))
       (rw normals-counted (renumber-within (column 2 (m .corners)) (used-small (pointed-normals m z)) (normal c)
-      (its-number normal (threes (m .corners)) k h)))
+      (its-number normal (cornersIn (m .corners)) k h)))
 
   all-found : astray (compacted m) ≡ false
   unfolding astray
   all-found =
       ap (some (astrayAt (compacted m))) (corners-compacted m)
-      ∙ some-none (astrayAt (compacted m)) (renumbered m []) (map (renumbered m) (threes (m .corners)))
+      ∙ some-none (astrayAt (compacted m)) (renumbered m []) (map (renumbered m) (cornersIn (m .corners)))
       (λ k h.
-      ap (astrayAt (compacted m)) (List·getD-map (renumbered m) (threes (m .corners)) k [])
-      ∙ none-astray k (rw (length-map (threes (m .corners)) (renumbered m)) at h))
+      ap (astrayAt (compacted m)) (List·getD-map (renumbered m) (cornersIn (m .corners)) k [])
+      ∙ none-astray k (rw (length-map (cornersIn (m .corners)) (renumbered m)) at h))
 
   pub accepted-compacted : AcceptedAgain m
   unfolding misfit ungrouped compacted
@@ -234,67 +234,67 @@ module _ (m : Mesh) (z : meshNumber m ≡ 0) where
   pub every-position-used : EveryPositionUsed m
   unfolding usedPositions
   every-position-used i h =
-      ap (has i) (positions-renumbered m) ∙ every-number (map position (threes (m .corners))) i (rw positions-counted at h)
+      ap (has i) (positions-renumbered m) ∙ every-number (map position (cornersIn (m .corners))) i (rw positions-counted at h)
 
   pub every-texture-used : EveryTextureUsed m
   unfolding usedTextures
   every-texture-used i h =
-      ap (has i) (textures-renumbered m) ∙ every-number (map texture (threes (m .corners))) i (rw textures-counted at h)
+      ap (has i) (textures-renumbered m) ∙ every-number (map texture (cornersIn (m .corners))) i (rw textures-counted at h)
 
   pub every-normal-used : EveryNormalUsed m
   unfolding usedNormals
   every-normal-used i h =
-      ap (has i) (normals-renumbered m) ∙ every-number (map normal (threes (m .corners))) i (rw normals-counted at h)
+      ap (has i) (normals-renumbered m) ∙ every-number (map normal (cornersIn (m .corners))) i (rw normals-counted at h)
 
   -- first uses come in the order 0, 1, 2, ..
   pub positions-in-order : usedPositions (compacted m) ≡ span 0 (positionCount (compacted m))
   unfolding usedPositions
   positions-in-order =
       ap firstUses (positions-renumbered m)
-      ∙ uses-numbered (map position (threes (m .corners))) (used-small (pointed-positions m z))
+      ∙ uses-numbered (map position (cornersIn (m .corners))) (used-small (pointed-positions m z))
       ∙ ap (span 0) (sym positions-counted)
 
   pub textures-in-order : usedTextures (compacted m) ≡ span 0 (textureCount (compacted m))
   unfolding usedTextures
   textures-in-order =
       ap firstUses (textures-renumbered m)
-      ∙ uses-numbered (map texture (threes (m .corners))) (used-small (pointed-textures m z))
+      ∙ uses-numbered (map texture (cornersIn (m .corners))) (used-small (pointed-textures m z))
       ∙ ap (span 0) (sym textures-counted)
 
   pub normals-in-order : usedNormals (compacted m) ≡ span 0 (normalCount (compacted m))
   unfolding usedNormals
   normals-in-order =
       ap firstUses (normals-renumbered m)
-      ∙ uses-numbered (map normal (threes (m .corners))) (used-small (pointed-normals m z))
+      ∙ uses-numbered (map normal (cornersIn (m .corners))) (used-small (pointed-normals m z))
       ∙ ap (span 0) (sym normals-counted)
 
   module _ (i j : ℕ) where
     pub position-same :
-        has i (map position (threes (m .corners))) ≡ true → has j (map position (threes (m .corners))) ≡ true
+        has i (map position (cornersIn (m .corners))) ≡ true → has j (map position (cornersIn (m .corners))) ≡ true
         → eqb (renumber (usedPositions m) i) (renumber (usedPositions m) j) ≡ eqb i j
     unfolding usedPositions
-    position-same = renumber-same (map position (threes (m .corners))) (used-small (pointed-positions m z)) i j
+    position-same = renumber-same (map position (cornersIn (m .corners))) (used-small (pointed-positions m z)) i j
 
     pub texture-same :
-        has i (map texture (threes (m .corners))) ≡ true → has j (map texture (threes (m .corners))) ≡ true
+        has i (map texture (cornersIn (m .corners))) ≡ true → has j (map texture (cornersIn (m .corners))) ≡ true
         → eqb (renumber (usedTextures m) i) (renumber (usedTextures m) j) ≡ eqb i j
     unfolding usedTextures
-    texture-same = renumber-same (map texture (threes (m .corners))) (used-small (pointed-textures m z)) i j
+    texture-same = renumber-same (map texture (cornersIn (m .corners))) (used-small (pointed-textures m z)) i j
 
     pub normal-same :
-        has i (map normal (threes (m .corners))) ≡ true → has j (map normal (threes (m .corners))) ≡ true
+        has i (map normal (cornersIn (m .corners))) ≡ true → has j (map normal (cornersIn (m .corners))) ≡ true
         → eqb (renumber (usedNormals m) i) (renumber (usedNormals m) j) ≡ eqb i j
     unfolding usedNormals
-    normal-same = renumber-same (map normal (threes (m .corners))) (used-small (pointed-normals m z)) i j
+    normal-same = renumber-same (map normal (cornersIn (m .corners))) (used-small (pointed-normals m z)) i j
 
   -- ---- the faces
 
   -- the flat list of corners is in face order
-  pub face-order : joined (faces m) ≡ threes (m .corners)
+  pub face-order : joined (faces m) ≡ cornersIn (m .corners)
   unfolding faces
   face-order =
-      sym (threes-joined (joined (faces m)) (every-joined isCorner (faces m) ∙ rings-are (m .sizes) (m .corners)))
-      ∙ ap threes (sym (each-joined (faces m)) ∙ corners-back (m .sizes) (m .corners) (accepted m z .whole .adds))
+      sym (cornersIn-joined (joined (faces m)) (every-joined isCorner (faces m) ∙ rings-are (m .sizes) (m .corners)))
+      ∙ ap cornersIn (sym (each-joined (faces m)) ∙ corners-back (m .sizes) (m .corners) (accepted m z .whole .adds))
 
   -- the faces are those that were given, each corner renumbered
   pub faces-compacted : SameFaces m
@@ -304,9 +304,9 @@ module _ (m : Mesh) (z : meshNumber m ≡ 0) where
       let gs = map (map (renumbered m)) fs in
       let s : map length gs ≡ m .sizes =
       lengths-map (renumbered m) fs ∙ sizes-back (m .sizes) (m .corners) (omega (arith, accepted m z .whole .adds)) in
-      let c : each joined gs ≡ joined (map (renumbered m) (threes (m .corners))) =
+      let c : each joined gs ≡ joined (map (renumbered m) (cornersIn (m .corners))) =
       each-joined gs ∙ ap joined (joined-map (renumbered m) fs ∙ ap (map (renumbered m)) face-order) in
-      ap (λ (l : List ℕ). rings l (joined (map (renumbered m) (threes (m .corners))))) (sym s)
+      ap (λ (l : List ℕ). rings l (joined (map (renumbered m) (cornersIn (m .corners))))) (sym s)
       ∙ ap (rings (map length gs)) (sym c)
       ∙ rings-back gs (new-rings m fs)
 
@@ -325,31 +325,31 @@ module _ (m : Mesh) (z : meshNumber m ≡ 0) where
   -- ---- a second time
 
   corner-twice :
-      (k : ℕ) → k < length (threes (m .corners))
-      → renumbered (compacted m) (renumbered m (getD (threes (m .corners)) k [])) ≡ renumbered m (getD (threes (m .corners)) k [])
+      (k : ℕ) → k < length (cornersIn (m .corners))
+      → renumbered (compacted m) (renumbered m (getD (cornersIn (m .corners)) k [])) ≡ renumbered m (getD (cornersIn (m .corners)) k [])
   unfolding renumbered usedPositions usedTextures usedNormals
   corner-twice k h =
-      let cs = threes (m .corners) in
+      let cs = cornersIn (m .corners) in
       let c = getD cs k [] in
-      let p = number-twice (pointed-positions m z) (map position (threes (compacted m .corners))) (positions-renumbered m)
+      let p = number-twice (pointed-positions m z) (map position (cornersIn (compacted m .corners))) (positions-renumbered m)
       (position c) (its-number position cs k h) in
-      let t = number-twice (pointed-textures m z) (map texture (threes (compacted m .corners))) (textures-renumbered m) (texture c)
+      let t = number-twice (pointed-textures m z) (map texture (cornersIn (compacted m .corners))) (textures-renumbered m) (texture c)
       (its-number texture cs k h) in
-      let n = number-twice (pointed-normals m z) (map normal (threes (compacted m .corners))) (normals-renumbered m) (normal c)
+      let n = number-twice (pointed-normals m z) (map normal (cornersIn (compacted m .corners))) (normals-renumbered m) (normal c)
       (its-number normal cs k h) in
       λ i. p i ∷ t i ∷ n i ∷ []
 
-  corners-twice : map (renumbered (compacted m)) (threes (compacted m .corners)) ≡ map (renumbered m) (threes (m .corners))
+  corners-twice : map (renumbered (compacted m)) (cornersIn (compacted m .corners)) ≡ map (renumbered m) (cornersIn (m .corners))
   corners-twice =
       ap (map (renumbered (compacted m))) (corners-compacted m)
-      ∙ map-map (renumbered (compacted m)) (renumbered m) (threes (m .corners))
-      ∙ map-same (λ c. renumbered (compacted m) (renumbered m c)) (renumbered m) [] (threes (m .corners)) corner-twice
+      ∙ map-map (renumbered (compacted m)) (renumbered m) (cornersIn (m .corners))
+      ∙ map-same (λ c. renumbered (compacted m) (renumbered m c)) (renumbered m) [] (cornersIn (m .corners)) corner-twice
 
   -- compacting a second time changes nothing
   pub compacted-again : SecondTimeSame m
   unfolding compacted usedPositions usedTextures usedNormals
   compacted-again =
-      let p = entries-twice (pointed-positions m z) (map position (threes (compacted m .corners))) (positions-renumbered m) in
-      let t = entries-twice (pointed-textures m z) (map texture (threes (compacted m .corners))) (textures-renumbered m) in
-      let n = entries-twice (pointed-normals m z) (map normal (threes (compacted m .corners))) (normals-renumbered m) in
+      let p = entries-twice (pointed-positions m z) (map position (cornersIn (compacted m .corners))) (positions-renumbered m) in
+      let t = entries-twice (pointed-textures m z) (map texture (cornersIn (compacted m .corners))) (textures-renumbered m) in
+      let n = entries-twice (pointed-normals m z) (map normal (cornersIn (compacted m .corners))) (normals-renumbered m) in
       λ i. meshOf (p i) (t i) (n i) (joined (corners-twice i)) (m .sizes)

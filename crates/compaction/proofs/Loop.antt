@@ -12,8 +12,8 @@ use Rattle.lists.specs.Lists.{joined}
 use Rattle.lists.proofs.Parts.{joined-append}
 use Rattle.lists.proofs.Writing.{sets-append}
 use Rattle.mesh.specs.Limits.{width, entryLimit}
-use Rattle.mesh.specs.Mesh.{Corner, Ring, missing, threes, cornerAt}
-use Rattle.mesh.proofs.Corners.{length-threes, getD-threes}
+use Rattle.mesh.specs.Mesh.{Corner, Ring, missing, cornersIn, cornerAt}
+use Rattle.mesh.proofs.Corners.{length-cornersIn, getD-cornersIn}
 use Rattle.compaction.specs.declared.Compacted.{Compacted}
 use Rattle.compaction.specs.Compaction.{firstUses, renumber, entries, Result}
 use Rattle.compaction.specs.Working.{column, usesTo, newCorner, Pointed, Tables, Before, Taken, Done}
@@ -80,35 +80,35 @@ module _ (cs : List ℕ) where
   length-new (c ∷ l) = let e : length (joined (map (newCorner cs) l)) ≡ width * length l = length-new l in omega arith
 
   -- corner k with its new numbers
-  corner-is : (k : ℕ) → k < length cs / width → newCorner cs (getD (threes cs) k []) ≡ newCorner cs (cornerAt cs k)
-  corner-is k h = ap (newCorner cs) (getD-threes cs k h)
+  corner-is : (k : ℕ) → k < length cs / width → newCorner cs (getD (cornersIn cs) k []) ≡ newCorner cs (cornerAt cs k)
+  corner-is k h = ap (newCorner cs) (getD-cornersIn cs k h)
 
   more-corners :
       (k : ℕ) → k < length cs / width
-      → joined (map (newCorner cs) (take (k + 1) (threes cs))) ≡ joined (map (newCorner cs) (take k (threes cs))) ++ newCorner cs
+      → joined (map (newCorner cs) (take (k + 1) (cornersIn cs))) ≡ joined (map (newCorner cs) (take k (cornersIn cs))) ++ newCorner cs
       (cornerAt cs k)
   more-corners k h =
-      let l : k < length (threes cs) = rw (length-threes cs) h in
-      let done = take k (threes cs) in
+      let l : k < length (cornersIn cs) = rw (length-cornersIn cs) h in
+      let done = take k (cornersIn cs) in
       ap (λ (r : Ring). joined (map (newCorner cs) r))
-      (ap (λ (n : ℕ). take n (threes cs)) (add-one k) ∙ take-suc (threes cs) k [] l)
-      ∙ ap joined (map-append (newCorner cs) done (getD (threes cs) k [] ∷ []))
-      ∙ joined-append (map (newCorner cs) done) (newCorner cs (getD (threes cs) k []) ∷ [])
+      (ap (λ (n : ℕ). take n (cornersIn cs)) (add-one k) ∙ take-suc (cornersIn cs) k [] l)
+      ∙ ap joined (map-append (newCorner cs) done (getD (cornersIn cs) k [] ∷ []))
+      ∙ joined-append (map (newCorner cs) done) (newCorner cs (getD (cornersIn cs) k []) ∷ [])
       ∙ ap (λ (c : Corner). joined (map (newCorner cs) done) ++ c) (corner-is k h)
 
   -- three stores behind the corners that are written
   corners-turn :
       (o : List ℕ) (k : ℕ) → k < length cs / width → (c0 c1 c2 c3 : List ℕ)
-      → c0 ≡ sets o 0 (joined (map (newCorner cs) (take k (threes cs))))
+      → c0 ≡ sets o 0 (joined (map (newCorner cs) (take k (cornersIn cs))))
       → c1 ≡ set c0 (width * k + 0) (renumber (firstUses (column 0 cs)) (getD cs (width * k + 0) 0))
       → c2 ≡ set c1 (width * k + 1) (renumber (firstUses (column 1 cs)) (getD cs (width * k + 1) 0))
       → c3 ≡ set c2 (width * k + 2) (renumber (firstUses (column 2 cs)) (getD cs (width * k + 2) 0))
-      → c3 ≡ sets o 0 (joined (map (newCorner cs) (take (k + 1) (threes cs))))
+      → c3 ≡ sets o 0 (joined (map (newCorner cs) (take (k + 1) (cornersIn cs))))
   corners-turn o k h c0 c1 c2 c3 e0 e1 e2 e3 =
-      let done = joined (map (newCorner cs) (take k (threes cs))) in
+      let done = joined (map (newCorner cs) (take k (cornersIn cs))) in
       let long : 0 + length done ≡ width * k =
-      let a : length done ≡ width * length (take k (threes cs)) = length-new (take k (threes cs)) in
-      let b : length (take k (threes cs)) ≡ k = length-take-le k (threes cs) (rw (length-threes cs) (omega arith)) in
+      let a : length done ≡ width * length (take k (cornersIn cs)) = length-new (take k (cornersIn cs)) in
+      let b : length (take k (cornersIn cs)) ≡ k = length-take-le k (cornersIn cs) (rw (length-cornersIn cs) (omega arith)) in
       omega arith in
       e3 ∙ rw (e2, e1) (three-stores c0 (width * k) _ _ _)
       ∙ ap (λ (i : ℕ). sets c0 (width * k)
@@ -127,7 +127,7 @@ pub record Going
   pub positions : Column p 3 cs 0 k (before .positions) (at .positions) pmap pused
   pub textures : Column t 2 cs 1 k (before .textures) (at .textures) tmap tused
   pub normals : Column n 3 cs 2 k (before .normals) (at .normals) nmap nused
-  pub corners : at .corners ≡ sets (before .corners) 0 (joined (map (newCorner cs) (take k (threes cs))))
+  pub corners : at .corners ≡ sets (before .corners) 0 (joined (map (newCorner cs) (take k (cornersIn cs))))
 
 pub going-begins :
     (p t n : List Float) (cs : List ℕ) (r : Result)
@@ -144,7 +144,7 @@ module _
     {p t n : List Float} {cs : List ℕ} {before at : Result} {pmap tmap nmap : List ℕ} {pused tused nused k : ℕ}
     (g : Going p t n cs before at pmap tmap nmap pused tused nused k) where
   pub going-long : length (at .corners) ≡ length (before .corners)
-  going-long = ap length (g .corners) ∙ length-sets (before .corners) 0 (joined (map (newCorner cs) (take k (threes cs))))
+  going-long = ap length (g .corners) ∙ length-sets (before .corners) 0 (joined (map (newCorner cs) (take k (cornersIn cs))))
 
   pub going-turns :
       (afterwards : Result) (c1 c2 pmap′ tmap′ nmap′ : List ℕ) (pused′ tused′ nused′ : ℕ) → k < length cs / width
@@ -172,7 +172,7 @@ module _
     normal-count = d ∙ column-counts (g .normals) h;
     corners =
         g .corners ∙ ap (λ (l : Ring). sets (before .corners) 0 (joined (map (newCorner cs) l)))
-        (take-all k (threes cs) (rw (length-threes cs) h));
+        (take-all k (cornersIn cs) (rw (length-cornersIn cs) h));
     positions = column-ends (g .positions) h;
     textures = column-ends (g .textures) h;
     normals = column-ends (g .normals) h;

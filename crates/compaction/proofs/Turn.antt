@@ -18,9 +18,9 @@ use Rattle.lists.proofs.Writing.{sets-append}
 use Rattle.lists.proofs.Members.{has-snoc}
 use Rattle.lists.proofs.Others.{eqb-self}
 use Rattle.mesh.specs.Limits.{width, entryLimit}
-use Rattle.mesh.specs.Mesh.{Corner, missing, threes, cornerAt}
+use Rattle.mesh.specs.Mesh.{Corner, missing, cornersIn, cornerAt}
 use Rattle.mesh.specs.Table.{beyondUnlessMissing}
-use Rattle.mesh.proofs.Corners.{length-threes, getD-threes}
+use Rattle.mesh.proofs.Corners.{length-cornersIn, getD-cornersIn}
 use Rattle.compaction.specs.Compaction.{firstUses, place, renumber, entryAt, entries}
 use Rattle.compaction.specs.Working.{column, indexAt, usesTo, Pointed, Tables, Before, Taken}
 use Rattle.compaction.proofs.Places.{place-below, place-append, place-new}
@@ -30,7 +30,7 @@ use Rattle.compaction.proofs.Entries.{entry-within, length-entries, ent
 -- ---- the column, index by index
 
 pub length-column : (q : ℕ) (cs : List ℕ) → length (column q cs) ≡ length cs / width
-length-column q cs = length-map (threes cs) (λ (c : Corner). getD c q 0) ∙ length-threes cs
+length-column q cs = length-map (cornersIn cs) (λ (c : Corner). getD c q 0) ∙ length-cornersIn cs
 
 at-corner : (q : ℕ) (cs : List ℕ) (k : ℕ) → q < 3 → getD (cornerAt cs k) q 0 ≡ indexAt cs k q
 at-corner zero cs k h = ap (λ (i : ℕ). getD cs i 0) (omega arith)
@@ -40,8 +40,8 @@ at-corner (suc (suc (suc q))) cs k h = absurd (omega arith)
 
 pub getD-column : (q : ℕ) (cs : List ℕ) (k : ℕ) → q < 3 → k < length cs / width → getD (column q cs) k 0 ≡ indexAt cs k q
 getD-column q cs k h l =
-    List·getD-map (λ (c : Corner). getD c q 0) (threes cs) k []
-    ∙ ap (λ (c : Corner). getD c q 0) (getD-threes cs k l)
+    List·getD-map (λ (c : Corner). getD c q 0) (cornersIn cs) k []
+    ∙ ap (λ (c : Corner). getD c q 0) (getD-cornersIn cs k l)
     ∙ at-corner q cs k h
 
 -- one index more is read

@@ -8,7 +8,7 @@ use lib.Seq.{sets}
 use lib.Dec.{eqb}
 use lib.Ieee.{Float}
 use Rattle.lists.specs.Lists.{others, joined, each}
-use Rattle.mesh.specs.Mesh.{Mesh, meshOf, Corner, position, texture, normal, missing, threes, positionCount, textureCount, normalCount}
+use Rattle.mesh.specs.Mesh.{Mesh, meshOf, Corner, position, texture, normal, missing, cornersIn, positionCount, textureCount, normalCount}
 use Rattle.mesh.specs.Table.{meshNumber, firstOf, when, lent, short, after}
 use Rattle.compaction.specs.declared.Compacted.{Compacted}
 
@@ -40,13 +40,13 @@ entries w l us = each (entryAt w l) us
 
 -- corners are read in face order: the positions, then the texture points, then the normals that they use
 unfoldable pub usedPositions : Mesh → List ℕ
-usedPositions m = firstUses (map position (threes (m .corners)))
+usedPositions m = firstUses (map position (cornersIn (m .corners)))
 
 unfoldable pub usedTextures : Mesh → List ℕ
-usedTextures m = firstUses (map texture (threes (m .corners)))
+usedTextures m = firstUses (map texture (cornersIn (m .corners)))
 
 unfoldable pub usedNormals : Mesh → List ℕ
-usedNormals m = firstUses (map normal (threes (m .corners)))
+usedNormals m = firstUses (map normal (cornersIn (m .corners)))
 
 -- a corner, each of its three numbers renumbered by its own column
 unfoldable pub renumbered : Mesh → Corner → Corner
@@ -63,7 +63,7 @@ compacted m =
     (entries 3 (m .positions) (usedPositions m))
     (entries 2 (m .textures) (usedTextures m))
     (entries 3 (m .normals) (usedNormals m))
-    (joined (map (renumbered m) (threes (m .corners))))
+    (joined (map (renumbered m) (cornersIn (m .corners))))
     (m .sizes)
 
 -- the lists that are lent for the result, at one moment

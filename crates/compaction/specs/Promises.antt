@@ -4,7 +4,7 @@ use mathlib.Core.Bool.{true}
 use mathlib.Core.List.{map}
 use Prim.Native.Nat.{ℕ, _≤_, _<_}
 use Rattle.lists.specs.Lists.{has}
-use Rattle.mesh.specs.Mesh.{Mesh, position, texture, normal, threes, faces, positionCount, textureCount, normalCount}
+use Rattle.mesh.specs.Mesh.{Mesh, position, texture, normal, cornersIn, faces, positionCount, textureCount, normalCount}
 use Rattle.mesh.specs.Table.{meshNumber}
 use Rattle.compaction.specs.Compaction.{renumbered, compacted}
 
@@ -14,13 +14,13 @@ AcceptedAgain m = meshNumber (compacted m) ≡ 0
 
 -- unused entries go: each entry of the result is used
 abbrev pub EveryPositionUsed : Mesh → Type 0
-EveryPositionUsed m = (i : ℕ) → i < positionCount (compacted m) → has i (map position (threes (compacted m .corners))) ≡ true
+EveryPositionUsed m = (i : ℕ) → i < positionCount (compacted m) → has i (map position (cornersIn (compacted m .corners))) ≡ true
 
 abbrev pub EveryTextureUsed : Mesh → Type 0
-EveryTextureUsed m = (i : ℕ) → i < textureCount (compacted m) → has i (map texture (threes (compacted m .corners))) ≡ true
+EveryTextureUsed m = (i : ℕ) → i < textureCount (compacted m) → has i (map texture (cornersIn (compacted m .corners))) ≡ true
 
 abbrev pub EveryNormalUsed : Mesh → Type 0
-EveryNormalUsed m = (i : ℕ) → i < normalCount (compacted m) → has i (map normal (threes (compacted m .corners))) ≡ true
+EveryNormalUsed m = (i : ℕ) → i < normalCount (compacted m) → has i (map normal (cornersIn (compacted m .corners))) ≡ true
 
 -- no list has grown
 abbrev pub PositionsFewer : Mesh → Type 0

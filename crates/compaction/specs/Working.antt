@@ -8,14 +8,14 @@ use lib.Seq.{sets}
 use lib.Ieee.{Float}
 use Rattle.lists.specs.Lists.{some, has, joined}
 use Rattle.mesh.specs.Limits.{width, entryLimit}
-use Rattle.mesh.specs.Mesh.{Corner, missing, threes}
+use Rattle.mesh.specs.Mesh.{Corner, missing, cornersIn}
 use Rattle.mesh.specs.Table.{beyondUnlessMissing}
 use Rattle.compaction.specs.Compaction.{firstUses, place, renumber, entries, Result}
 use Rattle.compaction.specs.declared.Compacted.{Compacted}
 
 -- column q of the corners: the positions for 0, the texture points for 1, the normals for 2
 abbrev pub column : ℕ → List ℕ → List ℕ
-column q cs = map (λ (c : Corner). getD c q 0) (threes cs)
+column q cs = map (λ (c : Corner). getD c q 0) (cornersIn cs)
 
 -- the index that corner k has in column q
 abbrev pub indexAt : List ℕ → ℕ → ℕ → ℕ
@@ -91,7 +91,7 @@ pub record Done (p t n : List Float) (cs : List ℕ) (before afterwards : Result
   pub position-count : answer .positions ≡ length (firstUses (column 0 cs))
   pub texture-count : answer .textures ≡ length (firstUses (column 1 cs))
   pub normal-count : answer .normals ≡ length (firstUses (column 2 cs))
-  pub corners : afterwards .corners ≡ sets (before .corners) 0 (joined (map (newCorner cs) (threes cs)))
+  pub corners : afterwards .corners ≡ sets (before .corners) 0 (joined (map (newCorner cs) (cornersIn cs)))
   pub positions : afterwards .positions ≡ sets (before .positions) 0 (entries 3 p (firstUses (column 0 cs)))
   pub textures : afterwards .textures ≡ sets (before .textures) 0 (entries 2 t (firstUses (column 1 cs)))
   pub normals : afterwards .normals ≡ sets (before .normals) 0 (entries 3 n (firstUses (column 2 cs)))

@@ -15,9 +15,9 @@ use Rattle.lists.proofs.Bools.{by-cases, and-both, and-left, and-right}
 use Rattle.lists.proofs.Parts.{every-append}
 use Rattle.lists.proofs.Mapping.{every-map, every-all}
 use Rattle.mesh.specs.Limits.{width}
-use Rattle.mesh.specs.Mesh.{Corner, Ring, position, threes, rings}
+use Rattle.mesh.specs.Mesh.{Corner, Ring, position, cornersIn, rings}
 use Rattle.mesh.specs.Face.{Sound, offsetOf, faceOf}
-use Rattle.mesh.proofs.Corners.{length-threes, getD-threes, threes-split}
+use Rattle.mesh.proofs.Corners.{length-cornersIn, getD-cornersIn, cornersIn-split}
 use Rattle.mesh.proofs.Faces.{rings-step, sizes-back}
 use Rattle.edges.specs.Edges.{Edge, runEdges, ringEdges, edgesOf}
 use Rattle.edges.specs.Runs.{faceEdges, nextOf, Edged}
@@ -58,15 +58,15 @@ next-is ps i =
 
 -- the positions of a face's corners
 places : List ℕ → List ℕ
-places f = map position (threes f)
+places f = map position (cornersIn f)
 
 length-places : (f : List ℕ) → length (places f) ≡ length f / width
 unfolding places
-length-places f = length-map (threes f) position ∙ length-threes f
+length-places f = length-map (cornersIn f) position ∙ length-cornersIn f
 
 place-at : (f : List ℕ) (i : ℕ) → i < length f / width → getD (places f) i 0 ≡ getD f (width * i) 0
 unfolding places
-place-at f i h = List·getD-map position (threes f) i [] ∙ ap position (getD-threes f i h)
+place-at f i h = List·getD-map position (cornersIn f) i [] ∙ ap position (getD-cornersIn f i h)
 
 -- a face's edges from corner i on
 pub edgesFrom : List ℕ → ℕ → List Edge
@@ -74,7 +74,7 @@ edgesFrom f i = sides (getD (places f) 0 0) (drop i (places f))
 
 pub edges-begin : (f : List ℕ) → faceEdges f ≡ edgesFrom f 0
 unfolding edgesFrom faceEdges places
-edges-begin f = ring-sides (map position (threes f))
+edges-begin f = ring-sides (map position (cornersIn f))
 
 next-below : (i n : ℕ) → i < n → nextOf i n < n
 unfolding nextOf
@@ -109,7 +109,7 @@ module _ {A : Type 0} where
 
 pub length-face-edges : (f : List ℕ) → length (faceEdges f) ≡ length f / width
 unfolding faceEdges places
-length-face-edges f = length-ring (map position (threes f)) ∙ length-places f
+length-face-edges f = length-ring (map position (cornersIn f)) ∙ length-places f
 
 -- ---- all faces
 
@@ -159,23 +159,23 @@ module _ (n : ℕ) where
   abbrev placed : Corner → Bool
   placed c = below (position c)
 
-  edges-inside : (s cs : List ℕ) → width * sum s ≤ length cs → every placed (threes cs) ≡ true → every (inside n) (edgesOf (rings s cs)) ≡ true
+  edges-inside : (s cs : List ℕ) → width * sum s ≤ length cs → every placed (cornersIn cs) ≡ true → every (inside n) (edgesOf (rings s cs)) ≡ true
   edges-inside [] cs h p = refl
   edges-inside (k ∷ s) cs h p =
       let f : List ℕ = take (width * k) cs in
       let r : List ℕ = drop (width * k) cs in
-      let e : threes cs ≡ threes f ++ threes r = threes-split k cs (omega arith) in
-      let q : (every placed (threes f) && every placed (threes r)) ≡ true = sym (every-append placed (threes f) (threes r)) ∙ ap (every placed) (sym e) ∙ p in
-      every-append (inside n) (ringEdges (map position (threes f))) (edgesOf (rings s r))
-      ∙ and-both (every (inside n) (ringEdges (map position (threes f)))) (every (inside n) (edgesOf (rings s r)))
-      (ring-inside (map position (threes f)) (every-map position below (threes f) ∙ and-left (every placed (threes f)) (every placed (threes r)) q))
-      (edges-inside s r (let z : length (drop (width * k) cs) ≡ length cs - width * k = length-drop (width * k) cs in omega arith) (and-right (every placed (threes f)) (every placed (threes r)) q))
+      let e : cornersIn cs ≡ cornersIn f ++ cornersIn r = cornersIn-split k cs (omega arith) in
+      let q : (every placed (cornersIn f) && every placed (cornersIn r)) ≡ true = sym (every-append placed (cornersIn f) (cornersIn r)) ∙ ap (every placed) (sym e) ∙ p in
+      every-append (inside n) (ringEdges (map position (cornersIn f))) (edgesOf (rings s r))
+      ∙ and-both (every (inside n) (ringEdges (map position (cornersIn f)))) (every (inside n) (edgesOf (rings s r)))
+      (ring-inside (map position (cornersIn f)) (every-map position below (cornersIn f) ∙ and-left (every placed (cornersIn f)) (every placed (cornersIn r)) q))
+      (edges-inside s r (let z : length (drop (width * k) cs) ≡ length cs - width * k = length-drop (width * k) cs in omega arith) (and-right (every placed (cornersIn f)) (every placed (cornersIn r)) q))
 
 -- both ends of every use lie below the number of positions
 pub uses-inside : (cs s : List ℕ) (n : ℕ) → Edged cs s n → every (inside n) (edgesOf (rings s cs)) ≡ true
 uses-inside cs s n h =
     edges-inside n s cs (let z : width * sum s ≡ length cs = h .sound .adds in omega arith)
-    (every-all (placed n) [] (threes cs)
+    (every-all (placed n) [] (cornersIn cs)
     (λ k l.
-    let j : k < length cs / width = rw (length-threes cs) at l in
-    ap (placed n) (getD-threes cs k j) ∙ lt-ltb (getD cs (width * k) 0) n (h .below k j)))
+    let j : k < length cs / width = rw (length-cornersIn cs) at l in
+    ap (placed n) (getD-cornersIn cs k j) ∙ lt-ltb (getD cs (width * k) 0) n (h .below k j)))

@@ -10,7 +10,7 @@ use lib.Seq.{sets}
 use lib.Dec.{leb, ltb, eqb}
 use Rattle.lists.specs.Lists.{keepIf, span}
 use Rattle.mesh.specs.Limits.{width, entryLimit, cornerLimit}
-use Rattle.mesh.specs.Mesh.{position, threes}
+use Rattle.mesh.specs.Mesh.{position, cornersIn}
 use Rattle.mesh.specs.Face.{Sound}
 use Rattle.sorting.specs.Sorting.{sortedBy}
 use Rattle.edges.specs.Edges.{Edge, same, key, ringEdges, Verdict, Irregular, Regular, Oriented, Closed}
@@ -52,7 +52,7 @@ pub record Rooms (n : ℕ) (lowers highers downs first order : List ℕ) : Type 
 
 -- the edges of a face that is given as a part of the flat list of corners
 unfoldable pub faceEdges : List ℕ → List Edge
-faceEdges f = ringEdges (map position (threes f))
+faceEdges f = ringEdges (map position (cornersIn f))
 
 -- the corner behind corner i of n: the next, or the first
 unfoldable pub nextOf : ℕ → ℕ → ℕ

@@ -16,7 +16,7 @@ use Rattle.lists.proofs.Bools.{by-cases, and-both, and-left, and-right, or-left
 use Rattle.lists.proofs.Counting.{clash, or-either}
 use Rattle.lists.proofs.Parts.{every-at}
 use Rattle.lists.proofs.Same.{numbers-equal, lists-equal}
-use Rattle.mesh.specs.Mesh.{position, texture, threes}
+use Rattle.mesh.specs.Mesh.{position, texture, cornersIn}
 use Rattle.mesh.specs.Table.{meshNumber}
 use Rattle.edges.specs.Edges.{Edge, same, edgesOf, Verdict, Irregular, Regular, Oriented, Closed, verdict, hems}
 use Rattle.edges.proofs.SameEdge.{same-true, same-refl}
@@ -79,32 +79,32 @@ tests-tell = record {
   leaves-told = leaves-is;
   compacts-told = λ m places bits.
       let a = eqb (meshNumber m) 0 in
-      let b = sameNumbers (map position (threes (compacted m .corners))) places in
+      let b = sameNumbers (map position (cornersIn (compacted m .corners))) places in
       let c = sameNumbers (map (toBits binary64) (compacted m .positions)) bits in (
         λ h. record {
           accepted = eqb-true (meshNumber m) 0 (and-left a b (and-left (a && b) c h));
-          places-are = numbers-equal (map position (threes (compacted m .corners))) places .0 (and-right a b (and-left (a && b) c h));
+          places-are = numbers-equal (map position (cornersIn (compacted m .corners))) places .0 (and-right a b (and-left (a && b) c h));
           bits-are = numbers-equal (map (toBits binary64) (compacted m .positions)) bits .0 (and-right (a && b) c h);
         },
         λ r.
             and-both (a && b) c
-            (and-both a b (eq-eqb (meshNumber m) 0 (r .accepted)) (numbers-equal (map position (threes (compacted m .corners))) places .1 (r .places-are)))
+            (and-both a b (eq-eqb (meshNumber m) 0 (r .accepted)) (numbers-equal (map position (cornersIn (compacted m .corners))) places .1 (r .places-are)))
             (numbers-equal (map (toBits binary64) (compacted m .positions)) bits .1 (r .bits-are)),
       );
   merges-told = λ m t pairs textures.
       let n = mergeNumber m t (length (m .corners)) in
       let a = eqb n 0 in
       let b = eqb (texturePairs m t) pairs in
-      let c = sameNumbers (map texture (threes (mergedCorners m t))) textures in (
+      let c = sameNumbers (map texture (cornersIn (mergedCorners m t))) textures in (
         λ h. record {
           accepted = eqb-true n 0 (and-left a b (and-left (a && b) c h));
           pairs-are = eqb-true (texturePairs m t) pairs (and-right a b (and-left (a && b) c h));
-          textures-are = numbers-equal (map texture (threes (mergedCorners m t))) textures .0 (and-right (a && b) c h);
+          textures-are = numbers-equal (map texture (cornersIn (mergedCorners m t))) textures .0 (and-right (a && b) c h);
         },
         λ r.
             and-both (a && b) c
             (and-both a b (eq-eqb n 0 (r .accepted)) (eq-eqb (texturePairs m t) pairs (r .pairs-are)))
-            (numbers-equal (map texture (threes (mergedCorners m t))) textures .1 (r .textures-are)),
+            (numbers-equal (map texture (cornersIn (mergedCorners m t))) textures .1 (r .textures-are)),
       );
 }
 
@@ -131,14 +131,14 @@ unfolding allHold
 held k l = every-at (λ (b : Bool). b) false examples k (passed allHold they-hold) l
 
 -- what the ninth, tenth and eleventh are asked of
-six-are : (sixPositions .positions ≡ map (ofBits binary64) (span 0 18)) × (map position (threes (sixPositions .corners)) ≡ 5 ∷ 2 ∷ 4 ∷ [])
+six-are : (sixPositions .positions ≡ map (ofBits binary64) (span 0 18)) × (map position (cornersIn (sixPositions .corners)) ≡ 5 ∷ 2 ∷ 4 ∷ [])
 unfolding sixPositions
 six-are = (refl, refl)
 
 textures-are :
     (threeTextures .textures
     ≡ fin false 0 (pos 0) ∷ fin false 0 (pos 0) ∷ fin false 1 (negsuc 0) ∷ fin false 0 (pos 0) ∷ fin false 1 (pos 0) ∷ fin false 0 (pos 0) ∷ [])
-    × (map texture (threes (threeTextures .corners)) ≡ 0 ∷ 1 ∷ 2 ∷ [])
+    × (map texture (cornersIn (threeTextures .corners)) ≡ 0 ∷ 1 ∷ 2 ∷ [])
 unfolding threeTextures
 textures-are = (refl, refl)
 

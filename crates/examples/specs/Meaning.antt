@@ -9,7 +9,7 @@ use lib.IntN.{pos, negsuc}
 use lib.Ieee.{Float, fin, binary64, ofBits, toBits}
 use Rattle.lists.specs.Lists.{span}
 use Rattle.lists.specs.Same.{Tells}
-use Rattle.mesh.specs.Mesh.{Mesh, Ring, position, texture, threes}
+use Rattle.mesh.specs.Mesh.{Mesh, Ring, position, texture, cornersIn}
 use Rattle.mesh.specs.Table.{meshNumber}
 use Rattle.edges.specs.Edges.{Edge, same, edgesOf, Verdict, Irregular, Regular, Oriented, Closed, verdict, hems}
 use Rattle.ported.specs.Ported.{portedWires}
@@ -50,14 +50,14 @@ Leaves f fs = removed (f ∷ []) ≡ fs
 -- accepted; the new positions of the corners; the bits of the new list
 pub record Compacts (m : Mesh) (places bits : List ℕ) : Type 0 where
   pub accepted : meshNumber m ≡ 0
-  pub places-are : map position (threes (compacted m .corners)) ≡ places
+  pub places-are : map position (cornersIn (compacted m .corners)) ≡ places
   pub bits-are : map (toBits binary64) (compacted m .positions) ≡ bits
 
 -- accepted at a tolerance; the pairs of texture points compared; the new texture indices of the corners
 pub record Merges (m : Mesh) (t : Float) (pairs : ℕ) (textures : List ℕ) : Type 0 where
   pub accepted : mergeNumber m t (length (m .corners)) ≡ 0
   pub pairs-are : texturePairs m t ≡ pairs
-  pub textures-are : map texture (threes (mergedCorners m t)) ≡ textures
+  pub textures-are : map texture (cornersIn (mergedCorners m t)) ≡ textures
 
 -- each test says just that
 pub record TestsTell : Type 0 where
@@ -98,13 +98,13 @@ pub record TwelveHold : Type 0 where
   -- six positions, whose coordinates have the bits 0, 1, .., 17, and the face (5,2,4)
   pub six-positions :
       (sixPositions .positions ≡ map (ofBits binary64) (span 0 18))
-      × (map position (threes (sixPositions .corners)) ≡ 5 ∷ 2 ∷ 4 ∷ [])
+      × (map position (cornersIn (sixPositions .corners)) ≡ 5 ∷ 2 ∷ 4 ∷ [])
   pub by-first-use : Compacts sixPositions (0 ∷ 1 ∷ 2 ∷ []) (15 ∷ 16 ∷ 17 ∷ 6 ∷ 7 ∷ 8 ∷ 12 ∷ 13 ∷ 14 ∷ [])
   -- texture points (0,0),(0.5,0),(1,0), of corners in this order: a number is m·2^e, so 0.5 is 1·2^-1 and 0.625 is 5·2^-3
   pub three-textures :
       (threeTextures .textures
       ≡ fin false 0 (pos 0) ∷ fin false 0 (pos 0) ∷ fin false 1 (negsuc 0) ∷ fin false 0 (pos 0) ∷ fin false 1 (pos 0) ∷ fin false 0 (pos 0) ∷ [])
-      × (map texture (threes (threeTextures .corners)) ≡ 0 ∷ 1 ∷ 2 ∷ [])
+      × (map texture (cornersIn (threeTextures .corners)) ≡ 0 ∷ 1 ∷ 2 ∷ [])
   pub nothing-merges : Merges threeTextures (fin false 1 (negsuc 0)) 3 (0 ∷ 1 ∷ 2 ∷ [])
   pub all-merge : Merges threeTextures (fin false 5 (negsuc 2)) 3 (1 ∷ 1 ∷ 1 ∷ [])
   pub ported-wires : Ported (tri 0 1 4 ∷ tri 1 2 3 ∷ []) (tri 0 1 4 ∷ tri 2 3 1 ∷ [])

@@ -8,7 +8,7 @@ use lib.IntN.{pos, negsuc}
 use lib.Ieee.{Float, fin, binary64, ofBits, toBits}
 use Rattle.lists.specs.Lists.{some, every, span}
 use Rattle.lists.specs.Same.{sameNumbers, sameLists}
-use Rattle.mesh.specs.Mesh.{Mesh, meshOf, Ring, missing, position, texture, threes}
+use Rattle.mesh.specs.Mesh.{Mesh, meshOf, Ring, missing, position, texture, cornersIn}
 use Rattle.mesh.specs.Table.{meshNumber}
 use Rattle.edges.specs.Edges.{Edge, same, edgesOf, Verdict, Irregular, Regular, Oriented, Closed, verdict, hems}
 use Rattle.ported.specs.Ported.{portedWires}
@@ -127,7 +127,7 @@ sixPositions =
 unfoldable pub compacts : Mesh → List ℕ → List ℕ → Bool
 compacts m places bits =
     eqb (meshNumber m) 0
-    && sameNumbers (map position (threes (compacted m .corners))) places
+    && sameNumbers (map position (cornersIn (compacted m .corners))) places
     && sameNumbers (map (toBits binary64) (compacted m .positions)) bits
 
 -- 9: six positions, face (5,2,4): (0,1,2); new list is old 5, 2, 4
@@ -165,7 +165,7 @@ unfoldable pub merges : Mesh → Float → ℕ → List ℕ → Bool
 merges m t pairs textures =
     eqb (mergeNumber m t (length (m .corners))) 0
     && eqb (texturePairs m t) pairs
-    && sameNumbers (map texture (threes (mergedCorners m t))) textures
+    && sameNumbers (map texture (cornersIn (mergedCorners m t))) textures
 
 -- 10: texture points (0,0),(0.5,0),(1,0), tolerance 0.5: three pairs compared, nothing merges
 abbrev pub example10 : Bool

@@ -6,7 +6,7 @@ use Prim.Native.Nat.{ℕ}
 use lib.ListN.{length, length-map}
 use lib.Dec.{eqb}
 use Rattle.lists.specs.Lists.{has, joined}
-use Rattle.mesh.specs.Mesh.{Mesh, Ring, Corner, position, texture, normal, threes, faces, positionCount, textureCount, normalCount}
+use Rattle.mesh.specs.Mesh.{Mesh, Ring, Corner, position, texture, normal, cornersIn, faces, positionCount, textureCount, normalCount}
 use Rattle.mesh.specs.Table.{meshNumber}
 use Rattle.mesh.proofs.Faces.{length-rings}
 use Rattle.compaction.specs.Compaction.{compacted, usedPositions, usedTextures, usedNormals}
@@ -39,24 +39,24 @@ module _ (g : ℕ → ℕ) (m n : Mesh) (y : meshNumber m ≡ 0) (z : meshNumber
   agreed : CoverKept g (faces m) (faces n)
   agreed = covers-agree g m n y z c
 
-  positions-are : (k : Mesh) → meshNumber k ≡ 0 → joined (byPosition (faces k)) ≡ map position (threes (k .corners))
+  positions-are : (k : Mesh) → meshNumber k ≡ 0 → joined (byPosition (faces k)) ≡ map position (cornersIn (k .corners))
   positions-are k e = joined-positions (faces k) ∙ ap (map position) (face-order k e)
 
-  position-column : (x : ℕ) → has x (map g (map position (threes (m .corners)))) ≡ has x (map position (threes (n .corners)))
+  position-column : (x : ℕ) → has x (map g (map position (cornersIn (m .corners)))) ≡ has x (map position (cornersIn (n .corners)))
   position-column x =
       ap (λ (l : List ℕ). has x (map g l)) (sym (positions-are m y))
       ∙ ap (has x) (sym (joined-renumbered g (byPosition (faces m))))
       ∙ some-same (eqb x) (c .same-positions)
       ∙ ap (has x) (positions-are n z)
 
-  one-to-one : OneToOne g (map position (threes (m .corners)))
+  one-to-one : OneToOne g (map position (cornersIn (m .corners)))
   one-to-one = rw (sym (positions-are m y)) (c .one-to-one)
 
   positions-same : positionCount (compacted m) ≡ positionCount (compacted n)
   unfolding usedPositions
   positions-same =
       positions-counted m y
-      ∙ as-many-renumbered g (map position (threes (m .corners))) (map position (threes (n .corners))) one-to-one (none-missing m y) (none-missing n z) position-column
+      ∙ as-many-renumbered g (map position (cornersIn (m .corners))) (map position (cornersIn (n .corners))) one-to-one (none-missing m y) (none-missing n z) position-column
       ∙ sym (positions-counted n z)
 
   -- the rings of the one, renumbered, are as many as its faces
@@ -93,7 +93,7 @@ own-cover m n s = record { one-to-one = λ i j h k. refl; same-positions = rw (r
 -- ---- two whose faces are the same, corner by corner
 
 module _ (m n : Mesh) (y : meshNumber m ≡ 0) (z : meshNumber n ≡ 0) (s : Same (faces m) (faces n)) where
-  column : (col : Corner → ℕ) (x : ℕ) → has x (map col (threes (m .corners))) ≡ has x (map col (threes (n .corners)))
+  column : (col : Corner → ℕ) (x : ℕ) → has x (map col (cornersIn (m .corners))) ≡ has x (map col (cornersIn (n .corners)))
   column col x =
       ap (λ (l : List Corner). has x (map col l)) (sym (face-order m y)) ∙ column-same col s x ∙ ap (λ (l : List Corner). has x (map col l)) (face-order n z)
 
@@ -101,14 +101,14 @@ module _ (m n : Mesh) (y : meshNumber m ≡ 0) (z : meshNumber n ≡ 0) (s : Sam
   unfolding usedTextures
   textures-same =
       textures-counted m y
-      ∙ as-many-used (map texture (threes (m .corners))) (map texture (threes (n .corners))) (column texture)
+      ∙ as-many-used (map texture (cornersIn (m .corners))) (map texture (cornersIn (n .corners))) (column texture)
       ∙ sym (textures-counted n z)
 
   normals-same : normalCount (compacted m) ≡ normalCount (compacted n)
   unfolding usedNormals
   normals-same =
       normals-counted m y
-      ∙ as-many-used (map normal (threes (m .corners))) (map normal (threes (n .corners))) (column normal)
+      ∙ as-many-used (map normal (cornersIn (m .corners))) (map normal (cornersIn (n .corners))) (column normal)
       ∙ sym (normals-counted n z)
 
   pub lines-same : firstLines (foundIn (compacted m)) ≡ firstLines (foundIn (compacted n))

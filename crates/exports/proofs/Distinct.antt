@@ -15,9 +15,9 @@ use Rattle.lists.proofs.Members.{in-head, in-tail, in-left, in-right, Once, onc
 use Rattle.lists.proofs.Others.{eqb-self, once-head, once-tail}
 use Rattle.lists.proofs.Parts.{some-none}
 use Rattle.mesh.specs.Limits.{width}
-use Rattle.mesh.specs.Mesh.{Mesh, Ring, position, missing, threes, positionCount}
+use Rattle.mesh.specs.Mesh.{Mesh, Ring, position, missing, cornersIn, positionCount}
 use Rattle.mesh.specs.Table.{meshNumber}
-use Rattle.mesh.proofs.Corners.{length-threes, getD-threes}
+use Rattle.mesh.proofs.Corners.{length-cornersIn, getD-cornersIn}
 use Rattle.splitting.specs.Splitting.{twice, foldedBy}
 use Rattle.folding.specs.Folding.{folded}
 use Rattle.compaction.specs.Compaction.{firstUses}
@@ -35,17 +35,17 @@ numbers-told = record { told = eqb-true; itself = eqb-self }
 -- ---- as many different positions
 
 -- no position of an accepted mesh is the missing mark
-pub none-missing : (m : Mesh) → meshNumber m ≡ 0 → has missing (map position (threes (m .corners))) ≡ false
+pub none-missing : (m : Mesh) → meshNumber m ≡ 0 → has missing (map position (cornersIn (m .corners))) ≡ false
 none-missing m z =
-    some-none (eqb missing) 0 (map position (threes (m .corners)))
-    (λ k l. ne-eqb missing (getD (map position (threes (m .corners))) k 0) (λ e. above k l e))
+    some-none (eqb missing) 0 (map position (cornersIn (m .corners)))
+    (λ k l. ne-eqb missing (getD (map position (cornersIn (m .corners))) k 0) (λ e. above k l e))
   where
-    above : (k : ℕ) → k < length (map position (threes (m .corners))) → missing ≡ getD (map position (threes (m .corners))) k 0 → ⊥
+    above : (k : ℕ) → k < length (map position (cornersIn (m .corners))) → missing ≡ getD (map position (cornersIn (m .corners))) k 0 → ⊥
     above k l e =
         let d : Edged (m .corners) (m .sizes) (positionCount m) = edged m z in
-        let j : k < length (m .corners) / width = omega (arith, length-map (threes (m .corners)) position, length-threes (m .corners)) in
-        let p : getD (map position (threes (m .corners))) k 0 ≡ getD (m .corners) (width * k) 0 =
-        List·getD-map position (threes (m .corners)) k [] ∙ ap position (getD-threes (m .corners) k j) in
+        let j : k < length (m .corners) / width = omega (arith, length-map (cornersIn (m .corners)) position, length-cornersIn (m .corners)) in
+        let p : getD (map position (cornersIn (m .corners))) k 0 ≡ getD (m .corners) (width * k) 0 =
+        List·getD-map position (cornersIn (m .corners)) k [] ∙ ap position (getD-cornersIn (m .corners) k j) in
         omega (arith, d .few, d .below k j)
 
 not-missing : (l : List ℕ) → has missing l ≡ false → (x : ℕ) → has x l ≡ true → not (eqb x missing) ≡ true

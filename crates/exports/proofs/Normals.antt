@@ -16,7 +16,7 @@ use Rattle.lists.proofs.Counting.{or-either}
 use Rattle.lists.proofs.Mapping.{every-map}
 use Rattle.lists.proofs.Others.{has-every}
 use Rattle.lists.proofs.Parts.{every-append, every-joined}
-use Rattle.mesh.specs.Mesh.{Mesh, Corner, Ring, position, normal, threes, faces}
+use Rattle.mesh.specs.Mesh.{Mesh, Corner, Ring, position, normal, cornersIn, faces}
 use Rattle.mesh.specs.Table.{meshNumber}
 use Rattle.edges.specs.Edges.{ringEdges, same}
 use Rattle.edges.proofs.SameEdge.{same-true, same-of}
@@ -189,12 +189,12 @@ every-two p q (x ∷ l) h k =
 
 module _ (m : Mesh) (z : meshNumber m ≡ 0) where
   abbrev inColumn : (Corner → ℕ) → Corner → Bool
-  inColumn col c = has (col c) (map col (threes (m .corners)))
+  inColumn col c = has (col c) (map col (cornersIn (m .corners)))
 
-  own-column : (col : Corner → ℕ) → every (inColumn col) (threes (m .corners)) ≡ true
+  own-column : (col : Corner → ℕ) → every (inColumn col) (cornersIn (m .corners)) ≡ true
   own-column col =
-      sym (every-map col (λ x. has x (map col (threes (m .corners)))) (threes (m .corners)))
-      ∙ has-every (λ x. has x (map col (threes (m .corners)))) (map col (threes (m .corners))) (λ x h. h)
+      sym (every-map col (λ x. has x (map col (cornersIn (m .corners)))) (cornersIn (m .corners)))
+      ∙ has-every (λ x. has x (map col (cornersIn (m .corners)))) (map col (cornersIn (m .corners))) (λ x h. h)
 
   abbrev inUse : Corner → Bool
   inUse c = inColumn position c && inColumn normal c
@@ -203,7 +203,7 @@ module _ (m : Mesh) (z : meshNumber m ≡ 0) where
   all-in-use =
       sym (every-joined inUse (faces m))
       ∙ ap (every inUse) (face-order m z)
-      ∙ every-two (inColumn position) (inColumn normal) (threes (m .corners)) (own-column position) (own-column normal)
+      ∙ every-two (inColumn position) (inColumn normal) (cornersIn (m .corners)) (own-column position) (own-column normal)
 
   pub compaction-keeps-panels : (normals : Bool) → panels normals (faces (compacted m)) ≡ panels normals (faces m)
   unfolding renumbered

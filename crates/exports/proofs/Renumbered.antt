@@ -7,7 +7,7 @@ use Prim.Native.Nat.{ℕ}
 use Rattle.lists.specs.Lists.{has, every, joined}
 use Rattle.lists.proofs.Others.{has-every}
 use Rattle.lists.proofs.Parts.{every-joined}
-use Rattle.mesh.specs.Mesh.{Mesh, Ring, position, threes, faces}
+use Rattle.mesh.specs.Mesh.{Mesh, Ring, position, cornersIn, faces}
 use Rattle.mesh.specs.Table.{meshNumber}
 use Rattle.edges.specs.Edges.{edgesOf, meshEdges, verdict}
 use Rattle.compaction.specs.Compaction.{renumber, usedPositions, compacted}
@@ -46,7 +46,7 @@ joined-positions [] = refl
 joined-positions (f ∷ fs) = ap (λ (l : List ℕ). map position f ++ l) (joined-positions fs) ∙ sym (map-append position f (joined fs))
 
 module _ (m : Mesh) (z : meshNumber m ≡ 0) where
-  used : (i : ℕ) → has i (positionsOf (faces m)) ≡ true → has i (map position (threes (m .corners))) ≡ true
+  used : (i : ℕ) → has i (positionsOf (faces m)) ≡ true → has i (map position (cornersIn (m .corners))) ≡ true
   used i h = ap (has i) (sym (joined-positions (faces m) ∙ ap (map position) (face-order m z))) ∙ h
 
   pub compaction-renumbers : Renumbers (renumber (usedPositions m)) (faces m) (faces (compacted m))

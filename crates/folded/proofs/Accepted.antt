@@ -14,7 +14,7 @@ use Rattle.lists.proofs.Bools.{and-both, and-left, and-right, by-cases, true-fa
 use Rattle.lists.proofs.Mapping.{every-map, every-all}
 use Rattle.lists.proofs.Parts.{every-joined}
 use Rattle.mesh.specs.Limits.{width, ringLimit}
-use Rattle.mesh.specs.Mesh.{Mesh, meshOf, Corner, Ring, threes, rings, faces}
+use Rattle.mesh.specs.Mesh.{Mesh, meshOf, Corner, Ring, cornersIn, rings, faces}
 use Rattle.mesh.specs.Table.{meshNumber, astray, astrayAt}
 use Rattle.mesh.proofs.Corners.{isCorner}
 use Rattle.mesh.proofs.Faces.{isRing, rings-are, rings-back, sizes-back, corners-back}
@@ -22,7 +22,7 @@ use Rattle.mesh.proofs.Numbers.{clear}
 use Rattle.mesh.proofs.Accepted.{Accepted, accepted}
 use Rattle.grouping.specs.Push.{cornerCount}
 use Rattle.grouping.proofs.Placing.{length-flat}
-use Rattle.grouping.proofs.Accepting.{threes-flat, sized, Orderly, accepted-faces}
+use Rattle.grouping.proofs.Accepting.{cornersIn-flat, sized, Orderly, accepted-faces}
 use Rattle.folding.specs.Folding.{folded, pieces}
 use Rattle.folding.proofs.Pieces.{isFace, pieces-sane}
 use Rattle.folded.specs.Folded.{removed, unfoldedMesh}
@@ -110,9 +110,9 @@ module _ (m : Mesh) (ok : meshNumber m ≡ 0) where
   abbrev keeps : Corner → Bool
   keeps c = not (astrayAt m c)
 
-  corners-keep : every keeps (threes (m .corners)) ≡ true
+  corners-keep : every keeps (cornersIn (m .corners)) ≡ true
   unfolding astray
-  corners-keep = none-every (astrayAt m) (threes (m .corners)) (clear m ok .found)
+  corners-keep = none-every (astrayAt m) (cornersIn (m .corners)) (clear m ok .found)
 
   found-all : some (astrayAt m) (joined (each pieces (faces m))) ≡ false
   found-all =
@@ -120,7 +120,7 @@ module _ (m : Mesh) (ok : meshNumber m ≡ 0) where
       (every-joined keeps (each pieces (faces m))
       ∙ corners-pieces keeps (faces m)
       (sym (every-joined keeps (faces m))
-      ∙ ap (every keeps) (sym (threes-flat (faces m) rings-faces) ∙ ap threes corners-are)
+      ∙ ap (every keeps) (sym (cornersIn-flat (faces m) rings-faces) ∙ ap cornersIn corners-are)
       ∙ corners-keep))
 
   still-accepted : meshNumber (unfoldedMesh m) ≡ 0

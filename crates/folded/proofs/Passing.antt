@@ -11,7 +11,7 @@ use Rattle.lists.specs.Lists.{every, each, sum}
 use Rattle.lists.proofs.Bools.{and-both, and-left, and-right}
 use Rattle.lists.proofs.Parts.{each-append, every-append, every-take, sum-at}
 use Rattle.mesh.specs.Limits.{width}
-use Rattle.mesh.specs.Mesh.{Ring, threes, rings}
+use Rattle.mesh.specs.Mesh.{Ring, cornersIn, rings}
 use Rattle.mesh.specs.Face.{faceOf, offsetOf}
 use Rattle.mesh.proofs.Corners.{isCorner}
 use Rattle.mesh.proofs.Faces.{isRing, rings-are, length-rings, getD-rings, face-length, length-face, offset-step}
@@ -73,7 +73,7 @@ removing-room cs s face o o' l l' c f from k h e y r =
       };
     }
 
-next-pieces : (cs s : List ℕ) (k : ℕ) → k < length s → piecesTo cs s (k + 1) ≡ piecesTo cs s k ++ pieces (threes (faceOf cs s k))
+next-pieces : (cs s : List ℕ) (k : ℕ) → k < length s → piecesTo cs s (k + 1) ≡ piecesTo cs s k ++ pieces (cornersIn (faceOf cs s k))
 next-pieces cs s k h =
     let fs = rings s cs in
     let l : k < length fs = rw (length-rings s cs) h in
@@ -83,10 +83,10 @@ next-pieces cs s k h =
     ∙ ap (λ (t : Ring). piecesTo cs s k ++ pieces t) (getD-rings s cs k h)
 
 pub removing-turns : (cs s face o o' o'' l l' l'' : List ℕ) (c f c' f' from k : ℕ) → k < length s → face ≡ faceOf cs s k → Ready cs s o l
-    → Removing cs s o o' l l' c f from k → Placed (pieces (threes face)) o' o'' l' l'' c f c' f' → length o'' ≡ length o' → length l'' ≡ length l'
+    → Removing cs s o o' l l' c f from k → Placed (pieces (cornersIn face)) o' o'' l' l'' c f c' f' → length o'' ≡ length o' → length l'' ≡ length l'
     → Removing cs s o o'' l l'' c' f' (from + getD s k 0) (k + 1)
 removing-turns cs s face o o' o'' l l' l'' c f c' f' from k h e y r p x z =
-    let g : Ring = threes (faceOf cs s k) in
+    let g : Ring = cornersIn (faceOf cs s k) in
     let q : Placed (pieces g) o' o'' l' l'' c f c' f' = rw e at p in
     let t = took g (pieces g) o' o'' l' l'' c f c' f' (pieces-sane g) q in
     let n : length g ≡ getD s k 0 = length-face cs s (y .fit .sound) k h in

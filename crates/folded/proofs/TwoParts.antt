@@ -17,8 +17,8 @@ use Rattle.lists.proofs.Bools.{and-both, and-left, and-right}
 use Rattle.lists.proofs.Parts.{every-append, each-append, sum-append}
 use Rattle.lists.proofs.Copies.{drop-take, sets-tail}
 use Rattle.mesh.specs.Limits.{width}
-use Rattle.mesh.specs.Mesh.{Ring, threes, rings}
-use Rattle.mesh.proofs.Corners.{length-threes}
+use Rattle.mesh.specs.Mesh.{Ring, cornersIn, rings}
+use Rattle.mesh.proofs.Corners.{length-cornersIn}
 use Rattle.mesh.proofs.Faces.{rings-are, sizes-back}
 use Rattle.grouping.specs.Push.{Placed, pushed, isTriangle, cornerCount}
 use Rattle.grouping.proofs.Placing.{placed-both}
@@ -65,7 +65,7 @@ rings-append (n ∷ a) b cs =
     let y : drop (width * n) (take (width * (n + sum a)) cs) ≡ take (width * sum a) (drop (width * n) cs) =
     drop-take cs (width * n) (width * (n + sum a)) ∙ ap (λ (k : ℕ). take k (drop (width * n) cs)) w in
     let z : drop (width * sum a) (drop (width * n) cs) ≡ drop (width * (n + sum a)) cs = drop-drop (width * sum a) (width * n) cs ∙ ap (λ (k : ℕ). drop k cs) (sym m) in
-    ap (λ (l : List Ring). threes (take (width * n) cs) ∷ l) (rings-append a b (drop (width * n) cs))
+    ap (λ (l : List Ring). cornersIn (take (width * n) cs) ∷ l) (rings-append a b (drop (width * n) cs))
     ∙ rw (x, y, z)
 
 module _ (cs s : List ℕ) (k : ℕ) (y : Fit cs s) (t : Triangles s k) where
@@ -122,9 +122,9 @@ triangle-rings : (s cs : List ℕ) → every (eqb 3) s ≡ true → width * sum 
 triangle-rings [] cs e h = refl
 triangle-rings (n ∷ s) cs e h =
     let a : 3 ≡ n = eqb-true 3 n (and-left (eqb 3 n) (every (eqb 3) s) e) in
-    let r = threes (take (width * n) cs) in
+    let r = cornersIn (take (width * n) cs) in
     let l : length (take (width * n) cs) ≡ width * n = length-take-le (width * n) cs (omega arith) in
-    let c : length r ≡ 3 = length-threes (take (width * n) cs) ∙ (omega arith) in
+    let c : length r ≡ 3 = length-cornersIn (take (width * n) cs) ∙ (omega arith) in
     every-append isTriangle (pieces r) (each pieces (rings s (drop (width * n) cs)))
     ∙ and-both (every isTriangle (pieces r)) (every isTriangle (each pieces (rings s (drop (width * n) cs))))
     (triangle-triangles r c)

@@ -12,7 +12,7 @@ use Rattle.lists.specs.Lists.{every, some, each, sum}
 use Rattle.lists.proofs.Bools.{and-both, and-left, and-right, or-false-left, or-false-right}
 use Rattle.lists.proofs.Parts.{Searching, search-begins, search-turns, search-finds, search-ends}
 use Rattle.mesh.specs.Limits.{width}
-use Rattle.mesh.specs.Mesh.{Ring, threes, rings}
+use Rattle.mesh.specs.Mesh.{Ring, cornersIn, rings}
 use Rattle.mesh.specs.Table.{kind, falls}
 use Rattle.mesh.specs.Face.{faceOf, offsetOf, Sound}
 use Rattle.mesh.proofs.Faces.{length-rings, getD-rings, face-length, offset-step, sizes-back, corners-back}
@@ -36,17 +36,17 @@ looking-begins cs s = record { offset = refl; search = search-begins folded [] (
 pub looking-face : (cs s face : List ℕ) (k : ℕ) → Fit cs s → k < length s → face ≡ faceOf cs s k → Corners face (getD s k 0)
 looking-face cs s face k y h e = record { small = y .most k h; wide = ap length e ∙ face-length cs s (y .sound) k h }
 
-face-is : (cs s face : List ℕ) (k : ℕ) (b : Bool) → k < length s → face ≡ faceOf cs s k → b ≡ folded (threes face) → folded (getD (rings s cs) k []) ≡ b
-face-is cs s face k b h e f = ap folded (getD-rings s cs k h ∙ ap threes (sym e)) ∙ sym f
+face-is : (cs s face : List ℕ) (k : ℕ) (b : Bool) → k < length s → face ≡ faceOf cs s k → b ≡ folded (cornersIn face) → folded (getD (rings s cs) k []) ≡ b
+face-is cs s face k b h e f = ap folded (getD-rings s cs k h ∙ ap cornersIn (sym e)) ∙ sym f
 
-pub looking-turns : (cs s face : List ℕ) (from k : ℕ) (b : Bool) → k < length s → face ≡ faceOf cs s k → b ≡ folded (threes face) → b ≡ false
+pub looking-turns : (cs s face : List ℕ) (from k : ℕ) (b : Bool) → k < length s → face ≡ faceOf cs s k → b ≡ folded (cornersIn face) → b ≡ false
     → Looking cs s from k → Looking cs s (from + getD s k 0) (k + 1)
 looking-turns cs s face from k b h e f z l = record {
   offset = omega (arith, l .offset, offset-step s k h);
   search = search-turns folded [] (rings s cs) k (rw (length-rings s cs) h) (face-is cs s face k b h e f ∙ z) (l .search);
 }
 
-pub looking-finds : (cs s face : List ℕ) (k : ℕ) (b : Bool) → k < length s → face ≡ faceOf cs s k → b ≡ folded (threes face) → b ≡ true → true ≡ some folded (rings s cs)
+pub looking-finds : (cs s face : List ℕ) (k : ℕ) (b : Bool) → k < length s → face ≡ faceOf cs s k → b ≡ folded (cornersIn face) → b ≡ true → true ≡ some folded (rings s cs)
 looking-finds cs s face k b h e f z = search-finds folded [] (rings s cs) k (rw (length-rings s cs) h) (face-is cs s face k b h e f ∙ z)
 
 pub looking-ends : (cs s : List ℕ) (from k : ℕ) → length s ≤ k → Looking cs s from k → false ≡ some folded (rings s cs)

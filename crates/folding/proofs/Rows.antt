@@ -26,11 +26,11 @@ use Rattle.splitting.specs.Splitting.{between, around}
 use Rattle.folding.specs.Working.{Cut}
 
 -- the corners of a row that is owned are three numbers each
-pub row-threes : (xs : Ring) (us : List Val) → shadow (each (List ℕ) (Array (UInt w32) width .own) xs us) → every isCorner xs ≡ true
-row-threes [] us s = refl
-row-threes (x ∷ xs) [] s = absurd s
-row-threes (x ∷ xs) (u ∷ us) s =
-    and-both (isCorner x) (every isCorner xs) (eq-eqb (length x) width (s .0 .1 .0 .1)) (row-threes xs us (s .1))
+pub row-cornersIn : (xs : Ring) (us : List Val) → shadow (each (List ℕ) (Array (UInt w32) width .own) xs us) → every isCorner xs ≡ true
+row-cornersIn [] us s = refl
+row-cornersIn (x ∷ xs) [] s = absurd s
+row-cornersIn (x ∷ xs) (u ∷ us) s =
+    and-both (isCorner x) (every isCorner xs) (eq-eqb (length x) width (s .0 .1 .0 .1)) (row-cornersIn xs us (s .1))
 
 -- the first n corners, one after the other
 pub length-front-corners : (r : Ring) (n : ℕ) → every isCorner r ≡ true → n ≤ length r → length (joined (take n r)) ≡ width * n

@@ -14,9 +14,9 @@ use Rattle.lists.proofs.Counting.{clash}
 use Rattle.lists.proofs.Only.{some-only}
 use Rattle.lists.proofs.Parts.{some-append, every-at, each-joined, every-joined, some-joined}
 use Rattle.mesh.specs.Limits.{width, ringLimit, cornerLimit, pointNumbers, texelNumbers}
-use Rattle.mesh.specs.Mesh.{Mesh, Ring, meshOf, threes}
+use Rattle.mesh.specs.Mesh.{Mesh, Ring, meshOf, cornersIn}
 use Rattle.mesh.specs.Table.{meshNumber, astray, astrayAt, ungrouped}
-use Rattle.mesh.proofs.Corners.{isCorner, threes-joined}
+use Rattle.mesh.proofs.Corners.{isCorner, cornersIn-joined}
 use Rattle.mesh.proofs.Faces.{isRing}
 use Rattle.mesh.proofs.Numbers.{clear-0}
 use Rattle.mesh.proofs.Accepted.{within-back, even-back, sizes-back}
@@ -27,8 +27,8 @@ use Rattle.grouping.proofs.Pushed.{every-pushed, pushed-corners, pushed
 -- ---- faces written flat, corner by corner
 
 -- the corners of faces that are written flat are the faces' corners
-pub threes-flat : (fs : List Ring) → every isRing fs ≡ true → threes (each joined fs) ≡ joined fs
-threes-flat fs e = ap threes (each-joined fs) ∙ threes-joined (joined fs) (every-joined isCorner fs ∙ e)
+pub cornersIn-flat : (fs : List Ring) → every isRing fs ≡ true → cornersIn (each joined fs) ≡ joined fs
+cornersIn-flat fs e = ap cornersIn (each-joined fs) ∙ cornersIn-joined (joined fs) (every-joined isCorner fs ∙ e)
 
 -- what no face has, none that is left has
 none-left : (q : Ring → Bool) (p : Ring → Bool) (fs : List Ring) → some p fs ≡ false → some p (only q fs) ≡ false
@@ -98,7 +98,7 @@ module _ (p t n : List Float) (fs : List Ring) (o : Orderly p t n fs) where
           grouped = pushed-grouped fs;
         };
         found =
-            ap (some (astrayAt m)) (threes-flat (pushed fs) (every-pushed isRing fs (o .are-rings)))
+            ap (some (astrayAt m)) (cornersIn-flat (pushed fs) (every-pushed isRing fs (o .are-rings)))
             ∙ some-joined (astrayAt m) (pushed fs)
             ∙ some-pushed (some (astrayAt m)) fs (sym (some-joined (astrayAt m) fs) ∙ e);
       })

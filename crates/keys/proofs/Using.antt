@@ -16,9 +16,9 @@ use Rattle.lists.proofs.Writing.{sets-append, Copying, copy-turns, copy-ends}
 use Rattle.lists.proofs.Copies.{sets-whole}
 use Rattle.lists.proofs.Buckets.{lt-or-ge, table-at, table-ext}
 use Rattle.mesh.specs.Limits.{width, entryLimit, cornerNumbers}
-use Rattle.mesh.specs.Mesh.{Corner, Ring, missing, threes, rings, cornerAt}
+use Rattle.mesh.specs.Mesh.{Corner, Ring, missing, cornersIn, rings, cornerAt}
 use Rattle.mesh.specs.Face.{offsetOf, faceOf, Sound}
-use Rattle.mesh.proofs.Corners.{length-threes, getD-threes}
+use Rattle.mesh.proofs.Corners.{length-cornersIn, getD-cornersIn}
 use Rattle.mesh.proofs.Faces.{face-length, face-fits, offset-step, length-rings, getD-rings}
 use Rattle.edges.specs.Edges.{runEdges, ringEdges}
 use Rattle.edges.proofs.Uses.{length-ring}
@@ -61,16 +61,16 @@ next-below n j h =
     (lt-or-ge (j + 1) n)
 
 -- the edges of a face that is a part of the list of corners
-pub ring-part : (part : List ℕ) → ringEdges (threes part) ≡ map (edgeAt part) (span 0 (length part / width))
+pub ring-part : (part : List ℕ) → ringEdges (cornersIn part) ≡ map (edgeAt part) (span 0 (length part / width))
 unfolding edgeAt
 ring-part part =
-    let n : length (threes part) ≡ length part / width = length-threes part in
-    table-ext (edgeAt part) (length part / width) ([], []) (ringEdges (threes part))
-    (length-ring (threes part) ∙ n)
+    let n : length (cornersIn part) ≡ length part / width = length-cornersIn part in
+    table-ext (edgeAt part) (length part / width) ([], []) (ringEdges (cornersIn part))
+    (length-ring (cornersIn part) ∙ n)
     (λ j h.
-    ring-at [] (threes part) j (omega arith)
-    ∙ ap (λ (m : ℕ). (getD (threes part) j [], getD (threes part) (nextOf m j) [])) n
-    ∙ ap₂ (λ (a b : Corner). (a, b)) (getD-threes part j h) (getD-threes part (nextOf (length part / width) j) (next-below (length part / width) j h)))
+    ring-at [] (cornersIn part) j (omega arith)
+    ∙ ap (λ (m : ℕ). (getD (cornersIn part) j [], getD (cornersIn part) (nextOf m j) [])) n
+    ∙ ap₂ (λ (a b : Corner). (a, b)) (getD-cornersIn part j h) (getD-cornersIn part (nextOf (length part / width) j) (next-below (length part / width) j h)))
 
 module _ (normals : Bool) (which : ℕ) where
   -- ---- the uses of one face
@@ -85,37 +85,37 @@ module _ (normals : Bool) (which : ℕ) where
       ∙ length-map (ringEdges f) (keyOf normals)
       ∙ length-ring f
 
-  face-column : (k : ℕ) (part : List ℕ) → faceColumn k (threes part) ≡ map (λ j. entryOf which (k, keyOf normals (edgeAt part j))) (span 0 (length part / width))
+  face-column : (k : ℕ) (part : List ℕ) → faceColumn k (cornersIn part) ≡ map (λ j. entryOf which (k, keyOf normals (edgeAt part j))) (span 0 (length part / width))
   face-column k part =
-      map-map (entryOf which) (λ key. (k, key)) (faceKeys normals (threes part))
-      ∙ map-map (λ key. entryOf which (k, key)) (keyOf normals) (ringEdges (threes part))
+      map-map (entryOf which) (λ key. (k, key)) (faceKeys normals (cornersIn part))
+      ∙ map-map (λ key. entryOf which (k, key)) (keyOf normals) (ringEdges (cornersIn part))
       ∙ ap (map (λ e. entryOf which (k, keyOf normals e))) (ring-part part)
       ∙ map-map (λ e. entryOf which (k, keyOf normals e)) (edgeAt part) (span 0 (length part / width))
 
   -- as many numbers as the face has corners, and at corner j the one of its edge
-  pub part-column-length : (k : ℕ) (part : List ℕ) → length (faceColumn k (threes part)) ≡ length part / width
-  part-column-length k part = face-column-length k (threes part) ∙ length-threes part
+  pub part-column-length : (k : ℕ) (part : List ℕ) → length (faceColumn k (cornersIn part)) ≡ length part / width
+  part-column-length k part = face-column-length k (cornersIn part) ∙ length-cornersIn part
 
-  pub part-column-at : (k : ℕ) (part : List ℕ) (j : ℕ) → j < length part / width → getD (faceColumn k (threes part)) j 0 ≡ entryOf which (k, keyOf normals (edgeAt part j))
+  pub part-column-at : (k : ℕ) (part : List ℕ) (j : ℕ) → j < length part / width → getD (faceColumn k (cornersIn part)) j 0 ≡ entryOf which (k, keyOf normals (edgeAt part j))
   part-column-at k part j h =
       ap (λ (l : List ℕ). getD l j 0) (face-column k part) ∙ table-at (λ i. entryOf which (k, keyOf normals (edgeAt part i))) (length part / width) j 0 h
 
   -- one number more of a face's column
   pub face-turns :
       (k : ℕ) (part out₀ out : List ℕ) (at j v : ℕ) → j < length part / width → v ≡ entryOf which (k, keyOf normals (edgeAt part j))
-      → Copying (faceColumn k (threes part)) out₀ out at j
-      → Copying (faceColumn k (threes part)) out₀ (set out (at + j) v) at (j + 1)
+      → Copying (faceColumn k (cornersIn part)) out₀ out at j
+      → Copying (faceColumn k (cornersIn part)) out₀ (set out (at + j) v) at (j + 1)
   face-turns k part out₀ out at j v h e c =
       subst
-      (λ (x : ℕ). Copying (faceColumn k (threes part)) out₀ (set out (at + j) x) at (j + 1))
+      (λ (x : ℕ). Copying (faceColumn k (cornersIn part)) out₀ (set out (at + j) x) at (j + 1))
       (part-column-at k part j h ∙ sym e)
-      (copy-turns 0 (faceColumn k (threes part)) out₀ out at j (let l : length (faceColumn k (threes part)) ≡ length part / width = part-column-length k part in omega arith) c)
+      (copy-turns 0 (faceColumn k (cornersIn part)) out₀ out at j (let l : length (faceColumn k (cornersIn part)) ≡ length part / width = part-column-length k part in omega arith) c)
 
   pub face-ends :
-      (k : ℕ) (part out₀ out : List ℕ) (at j : ℕ) → length part / width ≤ j → Copying (faceColumn k (threes part)) out₀ out at j
-      → out ≡ sets out₀ at (faceColumn k (threes part))
+      (k : ℕ) (part out₀ out : List ℕ) (at j : ℕ) → length part / width ≤ j → Copying (faceColumn k (cornersIn part)) out₀ out at j
+      → out ≡ sets out₀ at (faceColumn k (cornersIn part))
   face-ends k part out₀ out at j h c =
-      copy-ends 0 (faceColumn k (threes part)) out₀ out at j (let l : length (faceColumn k (threes part)) ≡ length part / width = part-column-length k part in omega arith) c
+      copy-ends 0 (faceColumn k (cornersIn part)) out₀ out at j (let l : length (faceColumn k (cornersIn part)) ≡ length part / width = part-column-length k part in omega arith) c
 
 -- ---- one face more
 
@@ -141,7 +141,7 @@ module _ (normals : Bool) (which : ℕ) (cs s out₀ : List ℕ) where
   abbrev upto : ℕ → List ℕ
   upto k = map (entryOf which) (usesFrom normals 0 (take k (rings s cs)))
 
-  one-more : (k : ℕ) → k < length s → upto (k + 1) ≡ upto k ++ map (entryOf which) (faceUses normals k (threes (faceOf cs s k)))
+  one-more : (k : ℕ) → k < length s → upto (k + 1) ≡ upto k ++ map (entryOf which) (faceUses normals k (cornersIn (faceOf cs s k)))
   one-more k h =
       let l : length (rings s cs) ≡ length s = length-rings s cs in
       let n : length (take k (rings s cs)) ≡ k = lib.Seq.length-take-le k (rings s cs) (omega arith) in
@@ -153,7 +153,7 @@ module _ (normals : Bool) (which : ℕ) (cs s out₀ : List ℕ) where
 
   pub fill-turns :
       (out out′ part : List ℕ) (at k : ℕ) → Sound cs s → k < length s → part ≡ faceOf cs s k
-      → out′ ≡ sets out at (map (entryOf which) (faceUses normals k (threes part)))
+      → out′ ≡ sets out at (map (entryOf which) (faceUses normals k (cornersIn part)))
       → Filling normals which cs s out₀ out at k
       → Filling normals which cs s out₀ out′ (at + length part / width) (k + 1)
   fill-turns out out′ part at k sound h e w r = record {
@@ -165,16 +165,16 @@ module _ (normals : Bool) (which : ℕ) (cs s out₀ : List ℕ) where
         omega arith;
     filled =
         w
-        ∙ ap (λ (l : List ℕ). sets l at (map (entryOf which) (faceUses normals k (threes part)))) (r .filled)
-        ∙ ap (λ (i : ℕ). sets (sets out₀ 0 (upto k)) i (map (entryOf which) (faceUses normals k (threes part)))) (sym (zero-add (length (upto k)) ∙ r .counted))
-        ∙ sym (sets-append out₀ 0 (upto k) (map (entryOf which) (faceUses normals k (threes part))))
-        ∙ ap (λ (p : List ℕ). sets out₀ 0 (upto k ++ map (entryOf which) (faceUses normals k (threes p)))) e
+        ∙ ap (λ (l : List ℕ). sets l at (map (entryOf which) (faceUses normals k (cornersIn part)))) (r .filled)
+        ∙ ap (λ (i : ℕ). sets (sets out₀ 0 (upto k)) i (map (entryOf which) (faceUses normals k (cornersIn part)))) (sym (zero-add (length (upto k)) ∙ r .counted))
+        ∙ sym (sets-append out₀ 0 (upto k) (map (entryOf which) (faceUses normals k (cornersIn part))))
+        ∙ ap (λ (p : List ℕ). sets out₀ 0 (upto k ++ map (entryOf which) (faceUses normals k (cornersIn p)))) e
         ∙ ap (sets out₀ 0) (sym (one-more k h));
     counted =
         ap length (one-more k h)
-        ∙ length-append (upto k) (map (entryOf which) (faceUses normals k (threes (faceOf cs s k))))
-        ∙ ap₂ _+_ (r .counted) (ap (λ (p : List ℕ). length (map (entryOf which) (faceUses normals k (threes p)))) (sym e) ∙ part-column-length normals which k part);
-    long = ap length w ∙ length-sets out at (map (entryOf which) (faceUses normals k (threes part))) ∙ r .long;
+        ∙ length-append (upto k) (map (entryOf which) (faceUses normals k (cornersIn (faceOf cs s k))))
+        ∙ ap₂ _+_ (r .counted) (ap (λ (p : List ℕ). length (map (entryOf which) (faceUses normals k (cornersIn p)))) (sym e) ∙ part-column-length normals which k part);
+    long = ap length w ∙ length-sets out at (map (entryOf which) (faceUses normals k (cornersIn part))) ∙ r .long;
   }
     where
       size : length part / width ≡ getD s k 0

@@ -13,8 +13,8 @@ use Rattle.lists.proofs.Cases.{iff}
 use Rattle.lists.proofs.Mapping.{every-map, every-all}
 use Rattle.lists.proofs.Parts.{every-append, every-at}
 use Rattle.mesh.specs.Limits.{width, entryLimit, cornerLimit, pointNumbers}
-use Rattle.mesh.specs.Mesh.{Mesh, Corner, Ring, position, normal, missing, threes, rings}
-use Rattle.mesh.proofs.Corners.{length-threes, getD-threes, threes-split}
+use Rattle.mesh.specs.Mesh.{Mesh, Corner, Ring, position, normal, missing, cornersIn, rings}
+use Rattle.mesh.proofs.Corners.{length-cornersIn, getD-cornersIn, cornersIn-split}
 use Rattle.mesh.proofs.Faces.{sizes-back}
 use Rattle.mesh.proofs.Accepted.{Accepted, Found}
 use Rattle.edges.specs.Edges.{runEdges, ringEdges}
@@ -79,24 +79,24 @@ uses-good normals i (f ∷ fs) h =
 
 -- ---- from the flat list to the faces
 
-rings-every : (q : Corner → Bool) (s cs : List ℕ) → width * sum s ≤ length cs → every q (threes cs) ≡ true → every (every q) (rings s cs) ≡ true
+rings-every : (q : Corner → Bool) (s cs : List ℕ) → width * sum s ≤ length cs → every q (cornersIn cs) ≡ true → every (every q) (rings s cs) ≡ true
 rings-every q [] cs l h = refl
 rings-every q (n ∷ s) cs l h =
-    let e : (every q (threes (take (width * n) cs)) && every q (threes (drop (width * n) cs))) ≡ true =
-    sym (every-append q (threes (take (width * n) cs)) (threes (drop (width * n) cs))) ∙ ap (every q) (sym (threes-split n cs (omega arith))) ∙ h in
-    and-both (every q (threes (take (width * n) cs))) (every (every q) (rings s (drop (width * n) cs)))
-    (and-left (every q (threes (take (width * n) cs))) (every q (threes (drop (width * n) cs))) e)
+    let e : (every q (cornersIn (take (width * n) cs)) && every q (cornersIn (drop (width * n) cs))) ≡ true =
+    sym (every-append q (cornersIn (take (width * n) cs)) (cornersIn (drop (width * n) cs))) ∙ ap (every q) (sym (cornersIn-split n cs (omega arith))) ∙ h in
+    and-both (every q (cornersIn (take (width * n) cs))) (every (every q) (rings s (drop (width * n) cs)))
+    (and-left (every q (cornersIn (take (width * n) cs))) (every q (cornersIn (drop (width * n) cs))) e)
     (rings-every q s (drop (width * n) cs)
     (let z : length (drop (width * n) cs) ≡ length cs - width * n = length-drop (width * n) cs in omega arith)
-    (and-right (every q (threes (take (width * n) cs))) (every q (threes (drop (width * n) cs))) e))
+    (and-right (every q (cornersIn (take (width * n) cs))) (every q (cornersIn (drop (width * n) cs))) e))
 
 pub faces-good : (cs s : List ℕ) → Keyable cs s → every (every goodCorner) (rings s cs) ≡ true
 faces-good cs s a =
     rings-every goodCorner s cs (let z : width * sum s ≡ length cs = a .sound .adds in omega arith)
-    (every-all goodCorner [] (threes cs)
+    (every-all goodCorner [] (cornersIn cs)
     (λ k h.
-    let l : length (threes cs) ≡ length cs / width = length-threes cs in
-    subst (λ (c : Corner). goodCorner c ≡ true) (sym (getD-threes cs k (omega arith)))
+    let l : length (cornersIn cs) ≡ length cs / width = length-cornersIn cs in
+    subst (λ (c : Corner). goodCorner c ≡ true) (sym (getD-cornersIn cs k (omega arith)))
     (and-both (ltb (getD cs (width * k) 0) entryLimit) (isNormal (getD cs (width * k + 2) 0))
     (lt-ltb (getD cs (width * k) 0) entryLimit (a .position k (omega arith)))
     (by-cases (eqb (getD cs (width * k + 2) 0) missing)

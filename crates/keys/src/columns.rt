@@ -7,7 +7,7 @@ ghost use Prim.Native.Nat.{ℕ, _+_, _*_, _/_, _%_, _<_, _≤_};
 ghost use lib.ListN.{length};
 ghost use lib.Seq.{sets};
 ghost use Rattle.mesh.specs.Limits.{cornerLimit};
-ghost use Rattle.mesh.specs.Mesh.{rings, threes};
+ghost use Rattle.mesh.specs.Mesh.{rings, cornersIn};
 ghost use Rattle.keys.specs.Keys.{keyOf};
 ghost use Rattle.keys.specs.Columns.{normalDigit, chosen, entryOf, nextOf, edgeAt, faceUses, column, AtCorner, FaceRoom, ColumnRoom, DigitRoom, Digits};
 
@@ -61,7 +61,7 @@ pub fn put_column(corners: &[u32], sizes: &[u32], normals: bool, which: u32, out
 // Column `which` of the uses of one face, from place `at` on.
 fn put_face(part: &[u32], face: u32, normals: bool, which: u32, out: &mut [u32], at: usize)
     requires { ⌜ FaceRoom (now part) (now out) at ⌝ }
-    ensures { λ _. ⌜ now (out .exit) ≡ sets (now (out .entry)) at (map (entryOf which) (faceUses normals face (threes (now (part .entry))))) ⌝ }
+    ensures { λ _. ⌜ now (out .exit) ≡ sets (now (out .entry)) at (map (entryOf which) (faceUses normals face (cornersIn (now (part .entry))))) ⌝ }
 {
     let n = part.len() / mesh::WIDTH;
     let mut j: usize = 0;

@@ -15,8 +15,8 @@ use Rattle.lists.proofs.Bools.{by-cases}
 use Rattle.lists.proofs.Parts.{joined-append}
 use Rattle.lists.proofs.Writing.{sets-append}
 use Rattle.mesh.specs.Limits.{width}
-use Rattle.mesh.specs.Mesh.{Corner, missing, threes, cornerAt}
-use Rattle.mesh.proofs.Corners.{length-threes, getD-threes}
+use Rattle.mesh.specs.Mesh.{Corner, missing, cornersIn, cornerAt}
+use Rattle.mesh.proofs.Corners.{length-cornersIn, getD-cornersIn}
 use Rattle.merging.specs.Merging.{unlessMissing}
 use Rattle.merging.specs.Working.{sentCorner, Indexed}
 
@@ -37,7 +37,7 @@ length-sent p t n (c ∷ r) = let e : length (joined (map (sentCorner p t n) r))
 
 pub record Writing (cs p t n out out' : List ℕ) (k : ℕ) : Type 0 where
   pub within : k ≤ length cs / width
-  pub written : out' ≡ sets out 0 (joined (map (sentCorner p t n) (take k (threes cs))))
+  pub written : out' ≡ sets out 0 (joined (map (sentCorner p t n) (take k (cornersIn cs))))
   pub long : length out' ≡ length out
 
 module _ (cs p t n out : List ℕ) where
@@ -48,16 +48,16 @@ module _ (cs p t n out : List ℕ) where
     f : Corner → Corner
     f = sentCorner p t n
 
-    one-more : sets (sets out 0 (joined (map (sentCorner p t n) (take k (threes cs))))) (width * k) (sentCorner p t n (cornerAt cs k)) ≡ sets out 0 (joined (map (sentCorner p t n) (take (k + 1) (threes cs))))
+    one-more : sets (sets out 0 (joined (map (sentCorner p t n) (take k (cornersIn cs))))) (width * k) (sentCorner p t n (cornerAt cs k)) ≡ sets out 0 (joined (map (sentCorner p t n) (take (k + 1) (cornersIn cs))))
     one-more =
-        let l : length (threes cs) ≡ length cs / width = length-threes cs in
-        let done = joined (map (sentCorner p t n) (take k (threes cs))) in
+        let l : length (cornersIn cs) ≡ length cs / width = length-cornersIn cs in
+        let done = joined (map (sentCorner p t n) (take k (cornersIn cs))) in
         let new = sentCorner p t n (cornerAt cs k) in
-        let e : width * k ≡ 0 + length done = omega (arith, length-sent p t n (take k (threes cs)), length-take-le k (threes cs) (omega arith)) in
-        let q : take (k + 1) (threes cs) ≡ take k (threes cs) ++ (cornerAt cs k ∷ []) = rw (add-one k, take-suc (threes cs) k [] (omega arith), getD-threes cs k h) in
+        let e : width * k ≡ 0 + length done = omega (arith, length-sent p t n (take k (cornersIn cs)), length-take-le k (cornersIn cs) (omega arith)) in
+        let q : take (k + 1) (cornersIn cs) ≡ take k (cornersIn cs) ++ (cornerAt cs k ∷ []) = rw (add-one k, take-suc (cornersIn cs) k [] (omega arith), getD-cornersIn cs k h) in
         ap (λ (j : ℕ). sets (sets out 0 done) j new) e
         ∙ sym (sets-append out 0 done new)
-        ∙ ap (sets out 0) (sym (ap (λ (r : List Corner). joined (map (sentCorner p t n) r)) q ∙ ap joined (map-append (sentCorner p t n) (take k (threes cs)) (cornerAt cs k ∷ [])) ∙ joined-append (map (sentCorner p t n) (take k (threes cs))) (new ∷ []) ∙ ap (λ (x : List ℕ). done ++ x) (append-nil new)))
+        ∙ ap (sets out 0) (sym (ap (λ (r : List Corner). joined (map (sentCorner p t n) r)) q ∙ ap joined (map-append (sentCorner p t n) (take k (cornersIn cs)) (cornerAt cs k ∷ [])) ∙ joined-append (map (sentCorner p t n) (take k (cornersIn cs))) (new ∷ []) ∙ ap (λ (x : List ℕ). done ++ x) (append-nil new)))
 
     pub write-turns :
         (a b c : ℕ)
@@ -78,7 +78,7 @@ module _ (cs p t n out : List ℕ) where
           long = ap length w ∙ length-sets out' (width * k) (a ∷ b ∷ c ∷ []) ∙ g .long;
         }
 
-  pub write-ends : (out' : List ℕ) (k : ℕ) → length cs / width ≤ k → Writing cs p t n out out' k → out' ≡ sets out 0 (joined (map (sentCorner p t n) (threes cs)))
+  pub write-ends : (out' : List ℕ) (k : ℕ) → length cs / width ≤ k → Writing cs p t n out out' k → out' ≡ sets out 0 (joined (map (sentCorner p t n) (cornersIn cs)))
   write-ends out' k h g =
       g .written
-      ∙ ap (λ (r : List Corner). sets out 0 (joined (map (sentCorner p t n) r))) (take-all k (threes cs) (let l : length (threes cs) ≡ length cs / width = length-threes cs in omega arith))
+      ∙ ap (λ (r : List Corner). sets out 0 (joined (map (sentCorner p t n) r))) (take-all k (cornersIn cs) (let l : length (cornersIn cs) ≡ length cs / width = length-cornersIn cs in omega arith))

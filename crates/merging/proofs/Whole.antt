@@ -14,11 +14,11 @@ use Rattle.lists.specs.Lists.{joined}
 use Rattle.lists.proofs.Bools.{by-cases}
 use Rattle.lists.proofs.Mapping.{map-same}
 use Rattle.mesh.specs.Limits.{width, entryLimit}
-use Rattle.mesh.specs.Mesh.{Mesh, Corner, missing, threes, cornerAt, positionCount, textureCount, normalCount}
+use Rattle.mesh.specs.Mesh.{Mesh, Corner, missing, cornersIn, cornerAt, positionCount, textureCount, normalCount}
 use Rattle.mesh.specs.Table.{after}
 use Rattle.mesh.proofs.Accepted.{Accepted, Found, accepted}
 use Rattle.mesh.proofs.After.{after-refused}
-use Rattle.mesh.proofs.Corners.{length-threes, getD-threes}
+use Rattle.mesh.proofs.Corners.{length-cornersIn, getD-cornersIn}
 use Rattle.floating.specs.Scaling.{scaledList}
 use Rattle.nearby.specs.Pairs.{comparedPairs}
 use Rattle.merging.specs.Centre.{pick}
@@ -102,13 +102,13 @@ module _ (m : Mesh) (t : Float) (out : List ℕ) (earns : mergeNumber m t (lengt
         let z = sent-same (λ i. getD n i 0) (mergedTo t 3 (m .normals)) (normalCount m) (getD (m .corners) (width * k + 2) 0) (f .normal) (sn .each) in
         rw (x, y, z)
 
-    corners-same : map (sentCorner p u n) (threes (m .corners)) ≡ map (mergedCorner m t) (threes (m .corners))
+    corners-same : map (sentCorner p u n) (cornersIn (m .corners)) ≡ map (mergedCorner m t) (cornersIn (m .corners))
     corners-same =
-        map-same (sentCorner p u n) (mergedCorner m t) [] (threes (m .corners))
+        map-same (sentCorner p u n) (mergedCorner m t) [] (cornersIn (m .corners))
         (λ k h.
-        let l : k < length (m .corners) / width = (let e : length (threes (m .corners)) ≡ length (m .corners) / width = length-threes
-        (m .corners) in let z : k < length (threes (m .corners)) = h in omega arith) in
-        let e : getD (threes (m .corners)) k [] ≡ cornerAt (m .corners) k = getD-threes (m .corners) k l in
+        let l : k < length (m .corners) / width = (let e : length (cornersIn (m .corners)) ≡ length (m .corners) / width = length-cornersIn
+        (m .corners) in let z : k < length (cornersIn (m .corners)) = h in omega arith) in
+        let e : getD (cornersIn (m .corners)) k [] ≡ cornerAt (m .corners) k = getD-cornersIn (m .corners) k l in
         ap (sentCorner p u n) e ∙ corner-same k l ∙ ap (mergedCorner m t) (sym e))
 
     pub accepted-call :
@@ -116,7 +116,7 @@ module _ (m : Mesh) (t : Float) (out : List ℕ) (earns : mergeNumber m t (lengt
         → i ≡ comparedPairs t 3 (scaledList (m .positions))
         → j ≡ comparedPairs t 2 (m .textures)
         → k ≡ comparedPairs t 3 (m .normals)
-        → out' ≡ sets out 0 (joined (map (sentCorner p u n) (threes (m .corners))))
+        → out' ≡ sets out 0 (joined (map (sentCorner p u n) (cornersIn (m .corners))))
         → PutTogether m t out (record { number = 0; positions = i; textures = j; normals = k }) out'
     unfolding positionPairs texturePairs normalPairs mergedCorners
     accepted-call i j k out' ei ej ek eo = record {

@@ -9,7 +9,7 @@ use lib.ListN.{length}
 use lib.Seq.{sets}
 use lib.Ieee.{Float}
 use Rattle.lists.specs.Lists.{some, joined}
-use Rattle.mesh.specs.Mesh.{Mesh, Corner, position, texture, normal, missing, threes}
+use Rattle.mesh.specs.Mesh.{Mesh, Corner, position, texture, normal, missing, cornersIn}
 use Rattle.mesh.specs.Table.{meshNumber, firstOf, when, lent, short, after}
 use Rattle.floating.specs.Limits.{unfit, boundless, distant}
 use Rattle.floating.specs.Scaling.{scaledList}
@@ -76,7 +76,7 @@ mergedCorner m t c =
 
 unfoldable pub mergedCorners : Mesh → Float → List ℕ
 unfolding mergedCorner
-mergedCorners m t = joined (map (mergedCorner m t) (threes (m .corners)))
+mergedCorners m t = joined (map (mergedCorner m t) (cornersIn (m .corners)))
 
 -- what the call answers and leaves: every number but 0 comes with no writing, and each count beside it is 0
 pub record PutTogether (m : Mesh) (t : Float) (out : List ℕ) (r : Merged) (out' : List ℕ) : Type 0 where

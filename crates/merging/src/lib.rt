@@ -10,7 +10,7 @@ ghost use lib.ListN.{length, getD};
 ghost use lib.Seq.{slice, sets};
 ghost use lib.Ieee.{Float};
 ghost use Rattle.lists.specs.Lists.{some, joined};
-ghost use Rattle.mesh.specs.Mesh.{meshOf, missing, threes};
+ghost use Rattle.mesh.specs.Mesh.{meshOf, missing, cornersIn};
 ghost use Rattle.floating.specs.Limits.{boundless, distant};
 ghost use Rattle.floating.specs.Points.{leading};
 ghost use Rattle.floating.specs.Scaling.{scaledList};
@@ -197,7 +197,7 @@ fn merge_positions(positions: &[f64], t: f64, map: &mut [u32]) -> usize
 // Indices in corners become the representative's.
 fn send_corners(corners: &[u32], pmap: &[u32], tmap: &[u32], nmap: &[u32], out: &mut [u32])
     requires { ⌜ Indexed (now corners) (now pmap) (now tmap) (now nmap) (now out) ⌝ }
-    ensures { λ _. ⌜ now (out .exit) ≡ sets (now (out .entry)) 0 (joined (map (sentCorner (now (pmap .entry)) (now (tmap .entry)) (now (nmap .entry))) (threes (now (corners .entry))))) ⌝ }
+    ensures { λ _. ⌜ now (out .exit) ≡ sets (now (out .entry)) 0 (joined (map (sentCorner (now (pmap .entry)) (now (tmap .entry)) (now (nmap .entry))) (cornersIn (now (corners .entry))))) ⌝ }
 {
     let count = corners.len() / mesh::WIDTH;
     let mut k: usize = 0;

@@ -10,10 +10,10 @@ use Rattle.lists.specs.Lists.{sum}
 use Rattle.lists.proofs.Bools.{or-false-left, or-false-right, or-neither, by-cases}
 use Rattle.lists.proofs.Parts.{some-false-at, some-none}
 use Rattle.mesh.specs.Limits.{width, ringLimit, faceLimit, pointNumbers, texelNumbers, cornerNumbers}
-use Rattle.mesh.specs.Mesh.{Mesh, threes, missing, positionCount, textureCount, normalCount}
+use Rattle.mesh.specs.Mesh.{Mesh, cornersIn, missing, positionCount, textureCount, normalCount}
 use Rattle.mesh.specs.Table.{overLimits, uneven, misfit, outside, ungrouped, astray, astrayAt, beyondUnlessMissing, kind, falls, meshNumber}
 use Rattle.mesh.specs.Face.{Sound}
-use Rattle.mesh.proofs.Corners.{length-threes, getD-threes}
+use Rattle.mesh.proofs.Corners.{length-cornersIn, getD-cornersIn}
 use Rattle.mesh.proofs.Numbers.{Shaped, Clear, shaped, clear, clear-0}
 
 -- ---- row 1: no list is too long
@@ -130,7 +130,7 @@ found m h k l =
     let b = beyondUnlessMissing (textureCount m) t in
     let c = beyondUnlessMissing (normalCount m) n in
     let e : (a || b || c) ≡ false =
-    ap (astrayAt m) (sym (getD-threes (m .corners) k l)) ∙ some-false-at (astrayAt m) [] (threes (m .corners)) k h (rw (length-threes (m .corners)) l) in
+    ap (astrayAt m) (sym (getD-cornersIn (m .corners) k l)) ∙ some-false-at (astrayAt m) [] (cornersIn (m .corners)) k h (rw (length-cornersIn (m .corners)) l) in
     let f : (a || b) ≡ false = or-false-left (a || b) c e in
     record {
       position = leb-false (positionCount m) p (or-false-left a b f);
@@ -141,11 +141,11 @@ found m h k l =
 pub found-back : (m : Mesh) → ((k : ℕ) → k < length (m .corners) / width → Found m k) → astray m ≡ false
 unfolding astray
 found-back m f =
-    some-none (astrayAt m) [] (threes (m .corners))
+    some-none (astrayAt m) [] (cornersIn (m .corners))
     (λ k l.
-    let h : k < length (m .corners) / width = rw (length-threes (m .corners)) at l in
+    let h : k < length (m .corners) / width = rw (length-cornersIn (m .corners)) at l in
     let r : Found m k = f k h in
-    ap (astrayAt m) (getD-threes (m .corners) k h)
+    ap (astrayAt m) (getD-cornersIn (m .corners) k h)
     ∙ or-neither _ _
     (or-neither _ _ (lt-leb _ _ (r .position)) (missing-or-below _ _ (r .texture)))
     (missing-or-below _ _ (r .normal)))

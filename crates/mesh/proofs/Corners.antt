@@ -14,7 +14,7 @@ use borrow.Author.Tests.{eq-eqb, eqb-true}
 use Rattle.lists.specs.Lists.{every, joined}
 use Rattle.lists.proofs.Bools.{and-both, and-left, and-right}
 use Rattle.mesh.specs.Limits.{width}
-use Rattle.mesh.specs.Mesh.{Corner, Ring, firstCorners, threes, cornerAt}
+use Rattle.mesh.specs.Mesh.{Corner, Ring, firstCorners, cornersIn, cornerAt}
 
 -- the numbers of one corner
 corner-of : (cs : List ℕ) (i : ℕ) → i + width ≤ length cs → take width (drop i cs) ≡ getD cs i 0 ∷ getD cs (i + 1) 0 ∷ getD cs (i + 2) 0 ∷ []
@@ -25,8 +25,8 @@ corner-of cs i h =
     simp towards-suc (rw (drop-cons cs i 0 a, drop-cons cs (suc i) 0 b, drop-cons cs (suc (suc i)) 0 c))
 
 -- one more corner of what is left
-pub threes-step : (cs : List ℕ) (k : ℕ) → width * (k + 1) ≤ length cs → threes (drop (width * k) cs) ≡ cornerAt cs k ∷ threes (drop (width * (k + 1)) cs)
-threes-step cs k h =
+pub cornersIn-step : (cs : List ℕ) (k : ℕ) → width * (k + 1) ≤ length cs → cornersIn (drop (width * k) cs) ≡ cornerAt cs k ∷ cornersIn (drop (width * (k + 1)) cs)
+cornersIn-step cs k h =
     let l = drop (width * k) cs in
     let r = drop (width * (k + 1)) cs in
     let x : length (drop (width * k) cs) ≡ length cs - width * k = length-drop (width * k) cs in
@@ -42,8 +42,8 @@ length-first : (n : ℕ) (cs : List ℕ) → length (firstCorners n cs) ≡ n
 length-first zero cs = refl
 length-first (suc n) cs = ap suc (length-first n (drop width cs))
 
-pub length-threes : (cs : List ℕ) → length (threes cs) ≡ length cs / width
-length-threes cs = length-first (length cs / width) cs
+pub length-cornersIn : (cs : List ℕ) → length (cornersIn cs) ≡ length cs / width
+length-cornersIn cs = length-first (length cs / width) cs
 
 -- the corner at a place
 getD-first : (n : ℕ) (cs : List ℕ) (k : ℕ) → k < n → getD (firstCorners n cs) k [] ≡ take width (drop (width * k) cs)
@@ -54,8 +54,8 @@ getD-first (suc n) cs (suc k) h =
     getD-first n (drop width cs) k (le-of-suc-le-suc h)
     ∙ ap (take width) (drop-drop (width * k) width cs ∙ ap (λ (i : ℕ). drop i cs) e)
 
-pub getD-threes : (cs : List ℕ) (k : ℕ) → k < length cs / width → getD (threes cs) k [] ≡ cornerAt cs k
-getD-threes cs k h = getD-first (length cs / width) cs k h ∙ corner-of cs (width * k) (omega arith)
+pub getD-cornersIn : (cs : List ℕ) (k : ℕ) → k < length cs / width → getD (cornersIn cs) k [] ≡ cornerAt cs k
+getD-cornersIn cs k h = getD-first (length cs / width) cs k h ∙ corner-of cs (width * k) (omega arith)
 
 -- how long a corner is
 abbrev pub isCorner : Corner → Bool
@@ -69,29 +69,29 @@ corners-first (suc n) cs h =
     (eq-eqb (length (take width cs)) width (length-take-le width cs (omega arith)))
     (corners-first n (drop width cs) (omega arith))
 
-pub corners-threes : (cs : List ℕ) → every isCorner (threes cs) ≡ true
-corners-threes cs = corners-first (length cs / width) cs (omega arith)
+pub corners-cornersIn : (cs : List ℕ) → every isCorner (cornersIn cs) ≡ true
+corners-cornersIn cs = corners-first (length cs / width) cs (omega arith)
 
 -- flat and back: whole corners are what they were
-corner-then : (c : List ℕ) → length c ≡ width → (r : List ℕ) → threes (c ++ r) ≡ c ∷ threes r
+corner-then : (c : List ℕ) → length c ≡ width → (r : List ℕ) → cornersIn (c ++ r) ≡ c ∷ cornersIn r
 corner-then c h r =
     let n : length (c ++ r) / width ≡ suc (length r / width) = omega (arith, length-append c r) in
     ap (λ (i : ℕ). firstCorners i (c ++ r)) n
     ∙ ap (λ (d : Corner). d ∷ firstCorners (length r / width) (drop width (c ++ r))) (take-at c r width h)
     ∙ ap (λ (l : List ℕ). c ∷ firstCorners (length r / width) l) (drop-at c r width h)
 
-corners-then : (r : Ring) (b : List ℕ) → every isCorner r ≡ true → threes (joined r ++ b) ≡ r ++ threes b
+corners-then : (r : Ring) (b : List ℕ) → every isCorner r ≡ true → cornersIn (joined r ++ b) ≡ r ++ cornersIn b
 corners-then [] b h = refl
 corners-then (c ∷ r) b h =
-    ap threes (append-assoc c (joined r) b)
+    ap cornersIn (append-assoc c (joined r) b)
     ∙ corner-then c (eqb-true (length c) width (and-left (isCorner c) (every isCorner r) h)) (joined r ++ b)
     ∙ ap (λ (t : Ring). c ∷ t) (corners-then r b (and-right (isCorner c) (every isCorner r) h))
 
-pub threes-joined : (r : Ring) → every isCorner r ≡ true → threes (joined r) ≡ r
-threes-joined [] h = refl
-threes-joined (c ∷ r) h =
+pub cornersIn-joined : (r : Ring) → every isCorner r ≡ true → cornersIn (joined r) ≡ r
+cornersIn-joined [] h = refl
+cornersIn-joined (c ∷ r) h =
     corner-then c (eqb-true (length c) width (and-left (isCorner c) (every isCorner r) h)) (joined r)
-    ∙ ap (λ (t : Ring). c ∷ t) (threes-joined r (and-right (isCorner c) (every isCorner r) h))
+    ∙ ap (λ (t : Ring). c ∷ t) (cornersIn-joined r (and-right (isCorner c) (every isCorner r) h))
 
 joined-first : (n : ℕ) (cs : List ℕ) → length cs ≡ width * n → joined (firstCorners n cs) ≡ cs
 joined-first zero [] h = refl
@@ -101,8 +101,8 @@ joined-first (suc n) cs h =
     ap (λ (l : List ℕ). take width cs ++ l) (joined-first n (drop width cs) (omega arith))
     ∙ take-append-drop width cs
 
-pub joined-threes : (cs : List ℕ) → length cs % width ≡ 0 → joined (threes cs) ≡ cs
-joined-threes cs h = joined-first (length cs / width) cs (omega arith)
+pub joined-cornersIn : (cs : List ℕ) → length cs % width ≡ 0 → joined (cornersIn cs) ≡ cs
+joined-cornersIn cs h = joined-first (length cs / width) cs (omega arith)
 
 pub length-corners : (r : Ring) → every isCorner r ≡ true → length (joined r) ≡ width * length r
 length-corners [] h = refl
@@ -112,11 +112,11 @@ length-corners (c ∷ r) h =
     omega (arith, length-append c (joined r))
 
 -- the first n corners and the others
-pub threes-split : (n : ℕ) (cs : List ℕ) → width * n ≤ length cs → threes cs ≡ threes (take (width * n) cs) ++ threes (drop (width * n) cs)
-threes-split n cs h =
+pub cornersIn-split : (n : ℕ) (cs : List ℕ) → width * n ≤ length cs → cornersIn cs ≡ cornersIn (take (width * n) cs) ++ cornersIn (drop (width * n) cs)
+cornersIn-split n cs h =
     let a = take (width * n) cs in
     let l : length (take (width * n) cs) ≡ width * n = length-take-le (width * n) cs h in
-    let whole : joined (threes a) ≡ a = joined-threes a (omega arith) in
-    ap threes (sym (take-append-drop (width * n) cs))
-    ∙ ap (λ (f : List ℕ). threes (f ++ drop (width * n) cs)) (sym whole)
-    ∙ corners-then (threes a) (drop (width * n) cs) (corners-threes a)
+    let whole : joined (cornersIn a) ≡ a = joined-cornersIn a (omega arith) in
+    ap cornersIn (sym (take-append-drop (width * n) cs))
+    ∙ ap (λ (f : List ℕ). cornersIn (f ++ drop (width * n) cs)) (sym whole)
+    ∙ corners-then (cornersIn a) (drop (width * n) cs) (corners-cornersIn a)

@@ -12,10 +12,10 @@ use borrow.Author.Tests.{le-ltb, le-leb, eqb-true, eqb-false}
 use Rattle.lists.proofs.Bools.{by-cases, or-left}
 use Rattle.lists.proofs.Parts.{sum-step, some-true-at, Gathering, gather-begins, gather-turns, gather-ends}
 use Rattle.mesh.specs.Limits.{width}
-use Rattle.mesh.specs.Mesh.{Mesh, Corner, position, texture, normal, threes, cornerAt, positionCount, textureCount, normalCount}
+use Rattle.mesh.specs.Mesh.{Mesh, Corner, position, texture, normal, cornersIn, cornerAt, positionCount, textureCount, normalCount}
 use Rattle.mesh.specs.Table.{kind, falls, beyond, beyondUnlessMissing, astray, astrayAt}
 use Rattle.mesh.specs.Face.{offsetOf}
-use Rattle.mesh.proofs.Corners.{length-threes, getD-threes}
+use Rattle.mesh.proofs.Corners.{length-cornersIn, getD-cornersIn}
 
 -- ---- the sizes before face i are added up to t
 
@@ -71,22 +71,22 @@ grouping-ends s fallen last k h g =
 
 module _ (m : Mesh) where
   abbrev pub Straying : Bool → ℕ → Type 0
-  Straying found k = Gathering (astrayAt m) (threes (m .corners)) found k
+  Straying found k = Gathering (astrayAt m) (cornersIn (m .corners)) found k
 
   abbrev count : ℕ
   count = length (m .corners) / width
 
   pub straying-begins : Straying false 0
-  straying-begins = gather-begins (astrayAt m) [] (threes (m .corners))
+  straying-begins = gather-begins (astrayAt m) [] (cornersIn (m .corners))
 
   pub straying-turns : (found : Bool) (k : ℕ) → k < count → Straying found k → Straying (found || astrayAt m (cornerAt (m .corners) k)) (k + 1)
   straying-turns found k h s =
-      subst (λ (c : Corner). Straying (found || astrayAt m c) (k + 1)) (getD-threes (m .corners) k h)
-      (gather-turns (astrayAt m) [] (threes (m .corners)) found k (rw (length-threes (m .corners)) h) s)
+      subst (λ (c : Corner). Straying (found || astrayAt m c) (k + 1)) (getD-cornersIn (m .corners) k h)
+      (gather-turns (astrayAt m) [] (cornersIn (m .corners)) found k (rw (length-cornersIn (m .corners)) h) s)
 
   pub straying-ends : (found : Bool) (k : ℕ) → count ≤ k → Straying found k → found ≡ astray m
   unfolding astray
-  straying-ends found k h s = gather-ends (astrayAt m) [] (threes (m .corners)) found k (rw (length-threes (m .corners)) h) s
+  straying-ends found k h s = gather-ends (astrayAt m) [] (cornersIn (m .corners)) found k (rw (length-cornersIn (m .corners)) h) s
 
   -- with no positions every corner is astray
   all-astray : positionCount m ≡ 0 → (c : Corner) → astrayAt m c ≡ true
@@ -102,5 +102,5 @@ module _ (m : Mesh) where
       (λ e. rw e (straying-ends false 0 (omega (arith, eqb-true count 0 e)) straying-begins))
       (λ e.
       let f : count ≡ 0 → ⊥ = eqb-false count 0 e in
-      let t = threes (m .corners) in
-      rw e (sym (some-true-at (astrayAt m) [] t 0 (rw (length-threes (m .corners)) (omega (arith, f))) (all-astray h (getD t 0 [])))))
+      let t = cornersIn (m .corners) in
+      rw e (sym (some-true-at (astrayAt m) [] t 0 (rw (length-cornersIn (m .corners)) (omega (arith, f))) (all-astray h (getD t 0 [])))))

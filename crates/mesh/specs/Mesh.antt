@@ -46,13 +46,13 @@ abbrev pub firstCorners : ℕ → List ℕ → Ring
 firstCorners zero cs = []
 firstCorners (suc n) cs = take width cs ∷ firstCorners n (drop width cs)
 
-abbrev pub threes : List ℕ → Ring
-threes cs = firstCorners (length cs / width) cs
+abbrev pub cornersIn : List ℕ → Ring
+cornersIn cs = firstCorners (length cs / width) cs
 
 -- the faces of a flat list of corners: each takes as many corners as its size says
 abbrev pub rings : List ℕ → List ℕ → List Ring
 rings [] cs = []
-rings (n ∷ s) cs = threes (take (width * n) cs) ∷ rings s (drop (width * n) cs)
+rings (n ∷ s) cs = cornersIn (take (width * n) cs) ∷ rings s (drop (width * n) cs)
 
 -- the faces of a mesh; face k is the one at place k
 unfoldable pub faces : Mesh → List Ring

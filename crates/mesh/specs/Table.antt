@@ -7,7 +7,7 @@ use lib.ListN.{length}
 use lib.Dec.{ltb, leb, eqb}
 use Rattle.lists.specs.Lists.{some, sum}
 use Rattle.mesh.specs.Limits.{width, ringLimit, entryLimit, cornerLimit, faceLimit}
-use Rattle.mesh.specs.Mesh.{Mesh, Corner, position, texture, normal, missing, threes, positionCount, textureCount, normalCount}
+use Rattle.mesh.specs.Mesh.{Mesh, Corner, position, texture, normal, missing, cornersIn, positionCount, textureCount, normalCount}
 
 -- a row of the table: its number where its rule says so, else 0
 abbrev pub when : Bool → ℕ → ℕ
@@ -80,7 +80,7 @@ astrayAt m c =
     astrayBy (positionCount m) (textureCount m) (normalCount m) (position c) (texture c) (normal c)
 
 unfoldable pub astray : Mesh → Bool
-astray m = some (astrayAt m) (threes (m .corners))
+astray m = some (astrayAt m) (cornersIn (m .corners))
 
 -- rows 1 to 4 in their order, the first of them that is given, and the first of all five
 abbrev pub shapeRows : Mesh → List ℕ

@@ -10,7 +10,7 @@ ghost use Prim.Native.Nat.{ℕ, _+_, _*_, _-_, _<_, _≤_, _/_, _%_};
 ghost use lib.ListN.{length, getD, take, drop};
 ghost use Rattle.lists.specs.Lists.{some, sum};
 ghost use Rattle.mesh.specs.Limits.{width, faceLimit, cornerNumbers};
-ghost use Rattle.mesh.specs.Mesh.{meshOf, threes, cornerAt};
+ghost use Rattle.mesh.specs.Mesh.{meshOf, cornersIn, cornerAt};
 ghost use Rattle.mesh.specs.Table as table;
 ghost use Rattle.mesh.specs.Face as part;
 ghost use Rattle.mesh.specs.Working.{narrow, strays};

@@ -12,54 +12,54 @@ use Rattle.lists.proofs.Bools.{and-left, and-right}
 use Rattle.lists.proofs.Writing.{Copying, copy-ends, sets-append}
 use Rattle.lists.proofs.Copies.{front-turns, take-written}
 use Rattle.mesh.specs.Limits.{width}
-use Rattle.mesh.specs.Mesh.{Corner, Ring, position, threes, cornerAt}
-use Rattle.mesh.proofs.Corners.{isCorner, threes-step, length-threes, getD-threes}
+use Rattle.mesh.specs.Mesh.{Corner, Ring, position, cornersIn, cornerAt}
+use Rattle.mesh.proofs.Corners.{isCorner, cornersIn-step, length-cornersIn, getD-cornersIn}
 use Rattle.grouping.specs.Push.{Placed}
 use Rattle.folding.proofs.Placing.{placed-ring}
 
 -- three corners, four corners
-pub threes-3 : (cs : List ℕ) → length cs ≡ width * 3 → threes cs ≡ cornerAt cs 0 ∷ cornerAt cs 1 ∷ cornerAt cs 2 ∷ []
-threes-3 cs h =
+pub cornersIn-3 : (cs : List ℕ) → length cs ≡ width * 3 → cornersIn cs ≡ cornerAt cs 0 ∷ cornerAt cs 1 ∷ cornerAt cs 2 ∷ []
+cornersIn-3 cs h =
     let z : length cs ≤ width * 3 = omega arith in
-    threes-step cs 0 (omega arith)
-    ∙ ap (λ (r : Ring). cornerAt cs 0 ∷ r) (threes-step cs 1 (omega arith))
-    ∙ ap (λ (r : Ring). cornerAt cs 0 ∷ cornerAt cs 1 ∷ r) (threes-step cs 2 (omega arith))
-    ∙ ap (λ (l : List ℕ). cornerAt cs 0 ∷ cornerAt cs 1 ∷ cornerAt cs 2 ∷ threes l) (drop-of-length-le cs z)
+    cornersIn-step cs 0 (omega arith)
+    ∙ ap (λ (r : Ring). cornerAt cs 0 ∷ r) (cornersIn-step cs 1 (omega arith))
+    ∙ ap (λ (r : Ring). cornerAt cs 0 ∷ cornerAt cs 1 ∷ r) (cornersIn-step cs 2 (omega arith))
+    ∙ ap (λ (l : List ℕ). cornerAt cs 0 ∷ cornerAt cs 1 ∷ cornerAt cs 2 ∷ cornersIn l) (drop-of-length-le cs z)
 
-pub threes-4 : (cs : List ℕ) → length cs ≡ width * 4 → threes cs ≡ cornerAt cs 0 ∷ cornerAt cs 1 ∷ cornerAt cs 2 ∷ cornerAt cs 3 ∷ []
-threes-4 cs h =
+pub cornersIn-4 : (cs : List ℕ) → length cs ≡ width * 4 → cornersIn cs ≡ cornerAt cs 0 ∷ cornerAt cs 1 ∷ cornerAt cs 2 ∷ cornerAt cs 3 ∷ []
+cornersIn-4 cs h =
     let z : length cs ≤ width * 4 = omega arith in
-    threes-step cs 0 (omega arith)
-    ∙ ap (λ (r : Ring). cornerAt cs 0 ∷ r) (threes-step cs 1 (omega arith))
-    ∙ ap (λ (r : Ring). cornerAt cs 0 ∷ cornerAt cs 1 ∷ r) (threes-step cs 2 (omega arith))
-    ∙ ap (λ (r : Ring). cornerAt cs 0 ∷ cornerAt cs 1 ∷ cornerAt cs 2 ∷ r) (threes-step cs 3 (omega arith))
-    ∙ ap (λ (l : List ℕ). cornerAt cs 0 ∷ cornerAt cs 1 ∷ cornerAt cs 2 ∷ cornerAt cs 3 ∷ threes l) (drop-of-length-le cs z)
+    cornersIn-step cs 0 (omega arith)
+    ∙ ap (λ (r : Ring). cornerAt cs 0 ∷ r) (cornersIn-step cs 1 (omega arith))
+    ∙ ap (λ (r : Ring). cornerAt cs 0 ∷ cornerAt cs 1 ∷ r) (cornersIn-step cs 2 (omega arith))
+    ∙ ap (λ (r : Ring). cornerAt cs 0 ∷ cornerAt cs 1 ∷ cornerAt cs 2 ∷ r) (cornersIn-step cs 3 (omega arith))
+    ∙ ap (λ (l : List ℕ). cornerAt cs 0 ∷ cornerAt cs 1 ∷ cornerAt cs 2 ∷ cornerAt cs 3 ∷ cornersIn l) (drop-of-length-le cs z)
 
 -- The positions of a face under way: the first k are read.
 module _ (cs : List ℕ) (n : ℕ) (h : length cs ≡ width * n) where
-  corners : length (threes cs) ≡ n
-  corners = length-threes cs ∙ (omega arith)
+  corners : length (cornersIn cs) ≡ n
+  corners = length-cornersIn cs ∙ (omega arith)
 
-  pub places-turn : (l l' : List ℕ) (k : ℕ) → k < n → Copying (map position (threes cs)) l l' 0 k
-      → Copying (map position (threes cs)) l (set l' k (getD cs (width * k) 0)) 0 (k + 1)
+  pub places-turn : (l l' : List ℕ) (k : ℕ) → k < n → Copying (map position (cornersIn cs)) l l' 0 k
+      → Copying (map position (cornersIn cs)) l (set l' k (getD cs (width * k) 0)) 0 (k + 1)
   places-turn l l' k b c =
-      let m : length (map position (threes cs)) ≡ n = length-map (threes cs) position ∙ corners in
-      let e : getD (map position (threes cs)) k 0 ≡ getD cs (width * k) 0 =
-      List·getD-map position (threes cs) k [] ∙ ap position (getD-threes cs k (omega arith)) in
-      rw e at (front-turns 0 (map position (threes cs)) l l' k (omega arith) c)
+      let m : length (map position (cornersIn cs)) ≡ n = length-map (cornersIn cs) position ∙ corners in
+      let e : getD (map position (cornersIn cs)) k 0 ≡ getD cs (width * k) 0 =
+      List·getD-map position (cornersIn cs) k [] ∙ ap position (getD-cornersIn cs k (omega arith)) in
+      rw e at (front-turns 0 (map position (cornersIn cs)) l l' k (omega arith) c)
 
-  pub places-end : (l l' : List ℕ) (k : ℕ) → n ≤ length l → n ≤ k → Copying (map position (threes cs)) l l' 0 k → take n l' ≡ map position (threes cs)
+  pub places-end : (l l' : List ℕ) (k : ℕ) → n ≤ length l → n ≤ k → Copying (map position (cornersIn cs)) l l' 0 k → take n l' ≡ map position (cornersIn cs)
   places-end l l' k b a c =
-      let m : length (map position (threes cs)) ≡ n = length-map (threes cs) position ∙ corners in
-      ap (take n) (copy-ends 0 (map position (threes cs)) l l' 0 k (omega arith) c) ∙ take-written l (map position (threes cs)) n m b
+      let m : length (map position (cornersIn cs)) ≡ n = length-map (cornersIn cs) position ∙ corners in
+      ap (take n) (copy-ends 0 (map position (cornersIn cs)) l l' 0 k (omega arith) c) ∙ take-written l (map position (cornersIn cs)) n m b
 
   -- the row
-  pub row-turn : (l l' : Ring) (k : ℕ) → k < n → Copying (threes cs) l l' 0 k → Copying (threes cs) l (set l' k (cornerAt cs k)) 0 (k + 1)
-  row-turn l l' k b c = rw (getD-threes cs k (omega arith)) at (front-turns [] (threes cs) l l' k (omega (arith, corners)) c)
+  pub row-turn : (l l' : Ring) (k : ℕ) → k < n → Copying (cornersIn cs) l l' 0 k → Copying (cornersIn cs) l (set l' k (cornerAt cs k)) 0 (k + 1)
+  row-turn l l' k b c = rw (getD-cornersIn cs k (omega arith)) at (front-turns [] (cornersIn cs) l l' k (omega (arith, corners)) c)
 
-  pub row-end : (l l' : Ring) (k : ℕ) → n ≤ length l → n ≤ k → Copying (threes cs) l l' 0 k → take n l' ≡ threes cs
+  pub row-end : (l l' : Ring) (k : ℕ) → n ≤ length l → n ≤ k → Copying (cornersIn cs) l l' 0 k → take n l' ≡ cornersIn cs
   row-end l l' k b a c =
-      ap (take n) (copy-ends [] (threes cs) l l' 0 k (omega (arith, corners)) c) ∙ take-written l (threes cs) n corners b
+      ap (take n) (copy-ends [] (cornersIn cs) l l' 0 k (omega (arith, corners)) c) ∙ take-written l (cornersIn cs) n corners b
 
 -- ---- corners that are written one behind the other
 

@@ -9,8 +9,8 @@ use lib.Dec.{ltb}
 use borrow.Author.Tests.{ltb-true, ltb-false}
 use Rattle.lists.proofs.Bools.{by-cases}
 use Rattle.mesh.specs.Limits.{width}
-use Rattle.mesh.specs.Mesh.{Ring, position, threes}
-use Rattle.mesh.proofs.Corners.{length-threes}
+use Rattle.mesh.specs.Mesh.{Ring, position, cornersIn}
+use Rattle.mesh.proofs.Corners.{length-cornersIn}
 use Rattle.grouping.specs.Push.{Placed, Room}
 use Rattle.grouping.proofs.Placing.{placed-none}
 use Rattle.splitting.specs.Splitting.{firstMated, firstBy}
@@ -26,8 +26,8 @@ pub placed-as : {ps qs : List Ring} {o o' l l' : List ℕ} {c f c' f' : ℕ} →
 placed-as e h = rw e h
 
 module _ (face : List ℕ) (n : ℕ) (out lens : List ℕ) (c f : ℕ) (h : Face face n out lens c f) where
-  pub corners : length (threes face) ≡ n
-  corners = length-threes face ∙ (omega (arith, h .wide))
+  pub corners : length (cornersIn face) ≡ n
+  corners = length-cornersIn face ∙ (omega (arith, h .wide))
 
   -- there is room for the face itself
   pub face-room : Room face out lens c f
@@ -39,48 +39,48 @@ module _ (face : List ℕ) (n : ℕ) (out lens : List ℕ) (c f : ℕ) (h : Face
   }
 
   -- a larger face in which the search finds no pair stays
-  pub ring-kept : (ps : List ℕ) (i : ℕ) → take n ps ≡ map position (threes face) → i ≡ firstMated (take n ps) → n ≤ i → ringPieces (threes face) ≡ threes face ∷ []
+  pub ring-kept : (ps : List ℕ) (i : ℕ) → take n ps ≡ map position (cornersIn face) → i ≡ firstMated (take n ps) → n ≤ i → ringPieces (cornersIn face) ≡ cornersIn face ∷ []
   ring-kept ps i e g k =
-      let z : i ≡ firstMated (map position (threes face)) = g ∙ ap firstMated e in
-      pieces-stay position (threes face) (folded-missing position (threes face) (omega (arith, corners))) (omega (arith, corners, h .least))
+      let z : i ≡ firstMated (map position (cornersIn face)) = g ∙ ap firstMated e in
+      pieces-stay position (cornersIn face) (folded-missing position (cornersIn face) (omega (arith, corners))) (omega (arith, corners, h .least))
 
   -- by the size
-  pub three-pieces : n ≡ 3 → pieces (threes face) ≡ trianglePieces (threes face)
-  three-pieces e = pieces-triangle (threes face) (corners ∙ e)
+  pub three-pieces : n ≡ 3 → pieces (cornersIn face) ≡ trianglePieces (cornersIn face)
+  three-pieces e = pieces-triangle (cornersIn face) (corners ∙ e)
 
-  pub four-pieces : n ≡ 4 → pieces (threes face) ≡ quadranglePieces (threes face)
-  four-pieces e = pieces-quadrangle (threes face) (corners ∙ e)
+  pub four-pieces : n ≡ 4 → pieces (cornersIn face) ≡ quadranglePieces (cornersIn face)
+  four-pieces e = pieces-quadrangle (cornersIn face) (corners ∙ e)
 
-  pub more-pieces : (n ≡ 3 → ⊥) → (n ≡ 4 → ⊥) → pieces (threes face) ≡ ringPieces (threes face)
-  more-pieces a b = pieces-ring (threes face) (λ e. a (sym corners ∙ e)) (λ e. b (sym corners ∙ e))
+  pub more-pieces : (n ≡ 3 → ⊥) → (n ≡ 4 → ⊥) → pieces (cornersIn face) ≡ ringPieces (cornersIn face)
+  more-pieces a b = pieces-ring (cornersIn face) (λ e. a (sym corners ∙ e)) (λ e. b (sym corners ∙ e))
 
 -- a triangle by the test on its corners
 module _ (face : List ℕ) (tri : Ring) (b : Bool) where
-  pub triangle-none : (o l : List ℕ) (c f : ℕ) → tri ≡ threes face → b ≡ folded tri → b ≡ true → Placed (trianglePieces (threes face)) o o l l c f c f
+  pub triangle-none : (o l : List ℕ) (c f : ℕ) → tri ≡ cornersIn face → b ≡ folded tri → b ≡ true → Placed (trianglePieces (cornersIn face)) o o l l c f c f
   triangle-none o l c f e h t = placed-as (ap trianglePieces (sym e) ∙ triangle-goes tri (sym h ∙ t)) (placed-none o l c f)
 
   pub triangle-put :
-      {o o' l l' : List ℕ} {c f c' f' : ℕ} → tri ≡ threes face → b ≡ folded tri → b ≡ false → Placed (tri ∷ []) o o' l l' c f c' f'
-      → Placed (trianglePieces (threes face)) o o' l l' c f c' f'
+      {o o' l l' : List ℕ} {c f c' f' : ℕ} → tri ≡ cornersIn face → b ≡ folded tri → b ≡ false → Placed (tri ∷ []) o o' l l' c f c' f'
+      → Placed (trianglePieces (cornersIn face)) o o' l l' c f c' f'
   triangle-put e h t p = placed-as (ap trianglePieces (sym e) ∙ triangle-stays tri (sym h ∙ t)) p
 
 -- a quadrangle by the answer on it
 pub quad-tells :
-    (face : List ℕ) (quad : Ring) (f g : Fold) → length face ≡ width * 4 → quad ≡ threes face → f ≡ foldOf quad → f ≡ g
-    → changes g ≡ folded (threes face)
+    (face : List ℕ) (quad : Ring) (f g : Fold) → length face ≡ width * 4 → quad ≡ cornersIn face → f ≡ foldOf quad → f ≡ g
+    → changes g ≡ folded (cornersIn face)
 quad-tells face quad f g w e h k =
-    ap changes (sym k ∙ h ∙ ap foldOf e) ∙ quadrangle-tells (threes face) (length-threes face ∙ (omega arith))
+    ap changes (sym k ∙ h ∙ ap foldOf e) ∙ quadrangle-tells (cornersIn face) (length-cornersIn face ∙ (omega arith))
 
 pub quad-left :
-    (face : List ℕ) (quad : Ring) (f g : Fold) → quad ≡ threes face → f ≡ foldOf quad → f ≡ g
-    → quadranglePieces (threes face) ≡ left g (threes face)
-quad-left face quad f g e h k = quadrangle-left (threes face) g (sym k ∙ h ∙ ap foldOf e)
+    (face : List ℕ) (quad : Ring) (f g : Fold) → quad ≡ cornersIn face → f ≡ foldOf quad → f ≡ g
+    → quadranglePieces (cornersIn face) ≡ left g (cornersIn face)
+quad-left face quad f g e h k = quadrangle-left (cornersIn face) g (sym k ∙ h ∙ ap foldOf e)
 
 -- the search in a larger face says whether it is folded
-pub ring-folded : (face ps : List ℕ) (n i : ℕ) → Corners face n → take n ps ≡ map position (threes face) → i ≡ firstMated (take n ps) → ltb i n ≡ folded (threes face)
+pub ring-folded : (face ps : List ℕ) (n i : ℕ) → Corners face n → take n ps ≡ map position (cornersIn face) → i ≡ firstMated (take n ps) → ltb i n ≡ folded (cornersIn face)
 ring-folded face ps n i h e f =
-    let c : length (threes face) ≡ n = length-threes face ∙ (omega (arith, h .wide)) in
-    let z : i ≡ firstBy position (threes face) = f ∙ ap firstMated e in
+    let c : length (cornersIn face) ≡ n = length-cornersIn face ∙ (omega (arith, h .wide)) in
+    let z : i ≡ firstBy position (cornersIn face) = f ∙ ap firstMated e in
     by-cases (ltb i n)
-    (λ t. t ∙ sym (folded-found position (threes face) (let q : i < n = ltb-true i n t in omega arith)))
-    (λ t. t ∙ sym (folded-missing position (threes face) (let q : n ≤ i = ltb-false i n t in omega arith)))
+    (λ t. t ∙ sym (folded-found position (cornersIn face) (let q : i < n = ltb-true i n t in omega arith)))
+    (λ t. t ∙ sym (folded-missing position (cornersIn face) (let q : n ≤ i = ltb-false i n t in omega arith)))

@@ -5,7 +5,7 @@ ghost use mathlib.Core.List.{[], _∷_, map};
 ghost use Prim.Native.Nat.{_+_, _*_, _<_, _≤_};
 ghost use lib.ListN.{length, take};
 ghost use Rattle.mesh.specs.Limits.{width};
-ghost use Rattle.mesh.specs.Mesh.{position, threes};
+ghost use Rattle.mesh.specs.Mesh.{position, cornersIn};
 ghost use Rattle.grouping.specs.Push.{Placed};
 ghost use Rattle.folding.specs.Folding.{folded, trianglePieces, quadranglePieces, ringPieces, pieces};
 ghost use Rattle.oneface.specs.Working.{Corners, Face};
@@ -24,7 +24,7 @@ const FOURTH: usize = 3 * WIDTH;
 // Whether a face of n corners is folded.
 pub fn is_folded(face: &[u32], n: usize) -> bool
     requires { ⌜ Corners (now face) n ⌝ }
-    ensures { λ r. ⌜ r ≡ folded (threes (now (face .entry))) ⌝ }
+    ensures { λ r. ⌜ r ≡ folded (cornersIn (now (face .entry))) ⌝ }
 {
     if n == 3 {
         return folding::degenerate_triangle(tri_of(face));
@@ -38,7 +38,7 @@ pub fn is_folded(face: &[u32], n: usize) -> bool
 // The pieces of a face of n corners.
 pub fn face_pieces(face: &[u32], n: usize, out: &mut [u32], lens: &mut [u32], at: Filled) -> Filled
     requires { ⌜ Face (now face) n (now out) (now lens) (at .corners) (at .faces) ⌝ }
-    ensures { λ r. ⌜ Placed (pieces (threes (now (face .entry))))
+    ensures { λ r. ⌜ Placed (pieces (cornersIn (now (face .entry))))
         (now (out .entry)) (now (out .exit)) (now (lens .entry)) (now (lens .exit))
         (at .corners) (at .faces) (r .corners) (r .faces) ⌝ }
 {
@@ -54,7 +54,7 @@ pub fn face_pieces(face: &[u32], n: usize, out: &mut [u32], lens: &mut [u32], at
 // Whether a quadrangle is folded: it stays just where it is not.
 fn folded_quadrangle(face: &[u32]) -> bool
     requires { ⌜ length (now face) ≡ width * 4 ⌝ }
-    ensures { λ r. ⌜ r ≡ folded (threes (now (face .entry))) ⌝ }
+    ensures { λ r. ⌜ r ≡ folded (cornersIn (now (face .entry))) ⌝ }
 {
     match folding::degenerate_quadrangle(quad_of(face)) {
         Fold::Goes => true,
@@ -67,7 +67,7 @@ fn folded_quadrangle(face: &[u32]) -> bool
 // Whether a larger face of n corners is folded.
 fn folded_ring(face: &[u32], n: usize) -> bool
     requires { ⌜ Corners (now face) n ⌝ }
-    ensures { λ r. ⌜ r ≡ folded (threes (now (face .entry))) ⌝ }
+    ensures { λ r. ⌜ r ≡ folded (cornersIn (now (face .entry))) ⌝ }
 {
     let places = places_of(face, n);
     folding::first(&places[..n]) < n
@@ -76,7 +76,7 @@ fn folded_ring(face: &[u32], n: usize) -> bool
 // A triangle's corners, by value.
 fn tri_of(face: &[u32]) -> [[u32; WIDTH]; 3]
     requires { ⌜ length (now face) ≡ width * 3 ⌝ }
-    ensures { λ r. ⌜ r ≡ threes (now (face .entry)) ⌝ }
+    ensures { λ r. ⌜ r ≡ cornersIn (now (face .entry)) ⌝ }
 {
     let a = mesh::corner_at(face, 0);
     let b = mesh::corner_at(face, 1);
@@ -87,7 +87,7 @@ fn tri_of(face: &[u32]) -> [[u32; WIDTH]; 3]
 // A quadrangle's corners, by value.
 fn quad_of(face: &[u32]) -> [[u32; WIDTH]; 4]
     requires { ⌜ length (now face) ≡ width * 4 ⌝ }
-    ensures { λ r. ⌜ r ≡ threes (now (face .entry)) ⌝ }
+    ensures { λ r. ⌜ r ≡ cornersIn (now (face .entry)) ⌝ }
 {
     let a = mesh::corner_at(face, 0);
     let b = mesh::corner_at(face, 1);
@@ -99,7 +99,7 @@ fn quad_of(face: &[u32]) -> [[u32; WIDTH]; 4]
 // The positions of a face's corners.
 fn places_of(face: &[u32], n: usize) -> [u32; RING]
     requires { ⌜ Corners (now face) n ⌝ }
-    ensures { λ r. ⌜ take n r ≡ map position (threes (now (face .entry))) ⌝ }
+    ensures { λ r. ⌜ take n r ≡ map position (cornersIn (now (face .entry))) ⌝ }
 {
     let mut places = [0u32; RING];
     let mut k: usize = 0;
@@ -113,7 +113,7 @@ fn places_of(face: &[u32], n: usize) -> [u32; RING]
 // A face's corners, as the front of a row.
 fn row_of(face: &[u32], n: usize) -> [[u32; WIDTH]; RING]
     requires { ⌜ Corners (now face) n ⌝ }
-    ensures { λ r. ⌜ take n r ≡ threes (now (face .entry)) ⌝ }
+    ensures { λ r. ⌜ take n r ≡ cornersIn (now (face .entry)) ⌝ }
 {
     let mut row = [[0u32; WIDTH]; RING];
     let mut k: usize = 0;
@@ -166,7 +166,7 @@ fn put_quadrangle(quad: [[u32; WIDTH]; 4], out: &mut [u32], lens: &mut [u32], at
 // A triangle, if it is not folded.
 fn triangle_pieces(face: &[u32], out: &mut [u32], lens: &mut [u32], at: Filled) -> Filled
     requires { ⌜ Face (now face) 3 (now out) (now lens) (at .corners) (at .faces) ⌝ }
-    ensures { λ r. ⌜ Placed (trianglePieces (threes (now (face .entry))))
+    ensures { λ r. ⌜ Placed (trianglePieces (cornersIn (now (face .entry))))
         (now (out .entry)) (now (out .exit)) (now (lens .entry)) (now (lens .exit))
         (at .corners) (at .faces) (r .corners) (r .faces) ⌝ }
 {
@@ -180,7 +180,7 @@ fn triangle_pieces(face: &[u32], out: &mut [u32], lens: &mut [u32], at: Filled) 
 // What is left of a quadrangle.
 fn quadrangle_pieces(face: &[u32], out: &mut [u32], lens: &mut [u32], at: Filled) -> Filled
     requires { ⌜ Face (now face) 4 (now out) (now lens) (at .corners) (at .faces) ⌝ }
-    ensures { λ r. ⌜ Placed (quadranglePieces (threes (now (face .entry))))
+    ensures { λ r. ⌜ Placed (quadranglePieces (cornersIn (now (face .entry))))
         (now (out .entry)) (now (out .exit)) (now (lens .entry)) (now (lens .exit))
         (at .corners) (at .faces) (r .corners) (r .faces) ⌝ }
 {
@@ -196,7 +196,7 @@ fn quadrangle_pieces(face: &[u32], out: &mut [u32], lens: &mut [u32], at: Filled
 // The pieces of a larger face of n corners: itself where it is not folded.
 fn ring_pieces(face: &[u32], n: usize, out: &mut [u32], lens: &mut [u32], at: Filled) -> Filled
     requires { ⌜ Face (now face) n (now out) (now lens) (at .corners) (at .faces) ⌝ }
-    ensures { λ r. ⌜ Placed (ringPieces (threes (now (face .entry))))
+    ensures { λ r. ⌜ Placed (ringPieces (cornersIn (now (face .entry))))
         (now (out .entry)) (now (out .exit)) (now (lens .entry)) (now (lens .exit))
         (at .corners) (at .faces) (r .corners) (r .faces) ⌝ }
 {

@@ -20,7 +20,7 @@ use Rattle.mesh.proofs.Numbers.{first-is, first-head, first-tail, when-not}
 use Rattle.grouping.specs.Push.{pushed, cornerCount, Placed}
 use Rattle.grouping.proofs.Placing.{length-flat}
 use Rattle.grouping.proofs.Pushed.{every-pushed}
-use Rattle.grouping.proofs.Accepting.{threes-flat, accepted-faces}
+use Rattle.grouping.proofs.Accepting.{cornersIn-flat, accepted-faces}
 use Rattle.panelfile.specs.declared.Progress.{Progress}
 use Rattle.panelfile.specs.declared.MeshRead.{MeshRead}
 use Rattle.panelfile.specs.Reading.{Drawn, Reader, readAll, meshDrawn, finish, fullRoom, roomOf, readingNumber, panelMesh}
@@ -73,7 +73,7 @@ module _ (file : List ℕ) (x : Progress) (p t n : List Float) (c s : List ℕ) 
   -- the indices, over the corners of all faces that are kept
   pub own-astray : astray (meshOf (take (3 * x .positions) p) (take (2 * x .textures) t) (take (3 * x .normals) n) (take (width * x .corners) c) (take (x .faces) s)) ≡ some (astrayAt (meshDrawn drawn)) (joined (drawn .faces))
   unfolding astray meshDrawn
-  own-astray = rw (d .holds .positions, d .holds .textures, d .holds .normals, d .holds .corners, threes-flat (drawn .faces) (all-sane file .drawn .are-rings))
+  own-astray = rw (d .holds .positions, d .holds .textures, d .holds .normals, d .holds .corners, cornersIn-flat (drawn .faces) (all-sane file .drawn .are-rings))
 
   -- ---- the number at the end
   pub end-refused : (x .number ≡ 0 → ⊥) → x .number ≡ finish file (readAll file)

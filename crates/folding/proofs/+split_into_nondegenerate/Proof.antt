@@ -7,7 +7,7 @@ use Prim.Native.Nat.{ℕ, _<_}
 use borrow.Fn.Kinds.{In}
 use borrow.Fn.PlainCycle.{Measures, is, falls, and}
 use Rattle.folding.specs.Working.{Cut}
-use Rattle.folding.proofs.Rows.{row-threes}
+use Rattle.folding.proofs.Rows.{row-cornersIn}
 use Rattle.folding.proofs.Cutting.{not-folded, cut, cut-placed, room-one, room-two}
 use Rattle.folding.proofs.split_into_nondegenerate.Reads as reads
 use Rattle.folding.proofs.split_into_nondegenerate.Kinds as kinds
@@ -103,7 +103,7 @@ module _ (t : ℕ) where
       let two = c .before .before .before .before .before .before .before .ring-two in
       let second = c .before .before .before .before .split-into-nondegenerate2 in
       cut-placed (a .poly) (a .n) (p .result .i) (p .result .j) (start .good .0 .1 .0 .1) (start .pre .1 .small) (p .ensures) found
-      (one .result) (two .result) _ _ _ _ _ _ _ _ _ _ _ _ (one .ensures) (two .ensures) (row-threes (one .result) _ (one .ok .1 .1))
+      (one .result) (two .result) _ _ _ _ _ _ _ _ _ _ _ _ (one .ensures) (two .ensures) (row-cornersIn (one .result) _ (one .ok .1 .1))
       (first .ensures) (second .ensures)
 
   put-ring-requires : lts.Need-put-ring-requires claims (at t) reads.Post

@@ -1,6 +1,6 @@
 -- `folding::put_row` meets its contract: the first k corners stand in the list, and k rises to n. Assumes nothing.
 use Prim.Native.Nat.{_-_}
-use Rattle.folding.proofs.Rows.{Writing, write-begins, write-turns, write-ends, row-threes}
+use Rattle.folding.proofs.Rows.{Writing, write-begins, write-turns, write-ends, row-cornersIn}
 use borrow.Author.Needs.{needs}
 use native.Mathlib.Omega.{arith}
 use Rattle.folding.proofs.put_row.Statement.{statement}
@@ -40,8 +40,8 @@ loop-again : tie.Need-loop-again Inv-loop μ-loop
 loop-again c =
     let start = c .before .before .before .before .before .before .before .before in
     let row = start .args .t1 in
-    let threes = row-threes row _ (start .good .0 .1 .1) in
-    write-turns row _ _ _ _ _ _ threes (omega arith) (omega arith) (c .before .before .put-corner .ensures) (c .before .before .before .before .before .before .loop .inv)
+    let cornersIn = row-cornersIn row _ (start .good .0 .1 .1) in
+    write-turns row _ _ _ _ _ _ cornersIn (omega arith) (omega arith) (c .before .before .put-corner .ensures) (c .before .before .before .before .before .before .loop .inv)
 
 same-length : tie.Need-same-length Inv-loop μ-loop
 same-length c = search needs

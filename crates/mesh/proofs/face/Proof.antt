@@ -21,10 +21,12 @@ slice-aggregate-result-2 : tie.Need-slice-aggregate-result-2
 slice-aggregate-result-2 c = search needs
 
 returns-2 : tie.Need-returns-2
-returns-2 c = no-shape _ _ (c .before .before .before .if1 .left) (λ e. c .before .if2 .taken (c .before .before .shape-number .ensures ∙ e))
+returns-2 c =
+    no-shape _ _ (c .before .before .before .if1 .left)
+    (λ e. c .before .if2 .taken (omega (arith, c .before .before .shape-number .ensures, e)))
 
 offset-requires : tie.Need-offset-requires
-offset-requires c κs = (omega arith, sound _ (shaped _ (sym (c .before .shape-number .ensures) ∙ c .if2 .left)) .few)
+offset-requires c κs = (omega arith, sound _ (shaped _ (sym (c .before .shape-number .ensures) ∙ omega (arith, c .if2 .left))) .few)
 
 face-at-requires : tie.Need-face-at-requires
 face-at-requires c κs = record { sound = sound _ (shaped _ (sym (c .before .before .shape-number .ensures) ∙ c .before .if2 .left)); is-face = c .before .before .before .if1 .left; offset = c .offset .ensures .0 }

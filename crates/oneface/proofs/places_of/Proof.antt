@@ -2,7 +2,7 @@
 use Prim.Native.Nat.{_-_}
 use mathlib.Core.List.{map}
 use Rattle.lists.proofs.Writing.{Copying, copy-begins}
-use Rattle.mesh.specs.Mesh.{position, threes}
+use Rattle.mesh.specs.Mesh.{position, cornersIn}
 use Rattle.oneface.proofs.Flat.{places-turn, places-end}
 use borrow.Author.Needs.{needs}
 use native.Mathlib.Omega.{arith}
@@ -10,7 +10,7 @@ use Rattle.oneface.proofs.places_of.Statement.{statement}
 use Rattle.oneface.proofs.places_of.Tie as tie
 
 abbrev Inv-loop : tie.InvT-loop
-Inv-loop face n places₀ k₀ places k = Copying (map position (threes face)) places₀ places 0 k
+Inv-loop face n places₀ k₀ places k = Copying (map position (cornersIn face)) places₀ places 0 k
 
 abbrev μ-loop : tie.MeasureT-loop
 μ-loop face n places₀ k₀ places k = n - k

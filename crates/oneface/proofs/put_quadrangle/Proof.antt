@@ -1,5 +1,5 @@
 -- `oneface::put_quadrangle` meets its contract: four corners, one behind the other. Assumes nothing.
-use Rattle.folding.proofs.Rows.{row-threes}
+use Rattle.folding.proofs.Rows.{row-cornersIn}
 use Rattle.oneface.proofs.Flat.{quadrangle-placed}
 use borrow.Author.Needs.{needs}
 use Rattle.oneface.proofs.put_quadrangle.Statement.{statement}
@@ -72,11 +72,11 @@ returns : tie.Need-returns
 returns c =
     let start = c .before .before .before .before .before .before .before .before .before .before .before .before .before .before .before .before .before .before .before .before .before .before in
     let quad = start .args .t1 in
-    let threes = row-threes quad _ (start .good .0 .1 .1) in
+    let cornersIn = row-cornersIn quad _ (start .good .0 .1 .1) in
     let first = c .before .before .before .before .before .before .before .before .before .before .before .before .before .before .before .before .before .put-corner .ensures in
     let second = c .before .before .before .before .before .before .before .before .before .before .before .before .put-corner2 .ensures in
     let third = c .before .before .before .before .before .before .before .put-corner3 .ensures in
-    quadrangle-placed quad _ _ _ _ _ _ _ _ (start .good .0 .1 .0 .1) threes first second third (c .before .before .put-corner4 .ensures)
+    quadrangle-placed quad _ _ _ _ _ _ _ _ (start .good .0 .1 .0 .1) cornersIn first second third (c .before .before .put-corner4 .ensures)
 
 pub put-quadrangle-spec : {M : Type 1} → statement M
 put-quadrangle-spec =

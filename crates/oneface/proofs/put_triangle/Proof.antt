@@ -1,5 +1,5 @@
 -- `oneface::put_triangle` meets its contract: three corners, one behind the other. Assumes nothing.
-use Rattle.folding.proofs.Rows.{row-threes}
+use Rattle.folding.proofs.Rows.{row-cornersIn}
 use Rattle.oneface.proofs.Flat.{triangle-placed}
 use borrow.Author.Needs.{needs}
 use Rattle.oneface.proofs.put_triangle.Statement.{statement}
@@ -60,10 +60,10 @@ returns : tie.Need-returns
 returns c =
     let start = c .before .before .before .before .before .before .before .before .before .before .before .before .before .before .before .before .before in
     let tri = start .args .t1 in
-    let threes = row-threes tri _ (start .good .0 .1 .1) in
+    let cornersIn = row-cornersIn tri _ (start .good .0 .1 .1) in
     let first = c .before .before .before .before .before .before .before .before .before .before .before .before .put-corner .ensures in
     let second = c .before .before .before .before .before .before .before .put-corner2 .ensures in
-    triangle-placed tri _ _ _ _ _ _ _ (start .good .0 .1 .0 .1) threes first second (c .before .before .put-corner3 .ensures)
+    triangle-placed tri _ _ _ _ _ _ _ (start .good .0 .1 .0 .1) cornersIn first second (c .before .before .put-corner3 .ensures)
 
 pub put-triangle-spec : {M : Type 1} → statement M
 put-triangle-spec =

@@ -2,7 +2,7 @@
 use Prim.Native.Nat.{_-_}
 use mathlib.Core.List.{[]}
 use Rattle.lists.proofs.Writing.{Copying, copy-begins}
-use Rattle.mesh.specs.Mesh.{threes}
+use Rattle.mesh.specs.Mesh.{cornersIn}
 use Rattle.oneface.proofs.Flat.{row-turn, row-end}
 use borrow.Author.Needs.{needs}
 use native.Mathlib.Omega.{arith}
@@ -10,7 +10,7 @@ use Rattle.oneface.proofs.row_of.Statement.{statement}
 use Rattle.oneface.proofs.row_of.Tie as tie
 
 abbrev Inv-loop : tie.InvT-loop
-Inv-loop face n row₀ k₀ row k = Copying (threes face) row₀ row 0 k
+Inv-loop face n row₀ k₀ row k = Copying (cornersIn face) row₀ row 0 k
 
 abbrev μ-loop : tie.MeasureT-loop
 μ-loop face n row₀ k₀ row k = n - k

@@ -3,14 +3,14 @@ use Prim.Native.Nat.{_-_, _/_}
 use lib.ListN.{length}
 use Rattle.lists.proofs.Writing.{Copying, copy-begins}
 use Rattle.mesh.specs.Limits.{width}
-use Rattle.mesh.specs.Mesh.{threes}
+use Rattle.mesh.specs.Mesh.{cornersIn}
 use Rattle.keys.proofs.Using.{faceColumn, face-turns, face-ends}
 use borrow.Author.Needs.{needs}
 use Rattle.keys.proofs.columns.put_face.Statement.{statement}
 use Rattle.keys.proofs.columns.put_face.Tie as tie
 
 abbrev Inv-loop : tie.InvT-loop
-Inv-loop part face normals which out₀ at n j₀ out j = Copying (faceColumn normals which face (threes part)) out₀ out at j
+Inv-loop part face normals which out₀ at n j₀ out j = Copying (faceColumn normals which face (cornersIn part)) out₀ out at j
 
 abbrev μ-loop : tie.MeasureT-loop
 μ-loop part face normals which out₀ at n j₀ out j = length part / width - j
