@@ -86,7 +86,7 @@ unfolding faces hems key houseWires wiresIn walk compacted renumbered usedPositi
 two-then-one = (refl, refl)
 
 pub other-hems : OtherHems
-unfolding folded faces verdict hems key houseWires wiresIn walk
+unfolding foldedBy faces verdict hems key houseWires wiresIn walk
 other-hems = record {
   both-accepted = touching-accepted;
   both-unfolded = (refl, refl);

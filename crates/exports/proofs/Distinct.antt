@@ -18,7 +18,8 @@ use Rattle.mesh.specs.Limits.{width}
 use Rattle.mesh.specs.Mesh.{Mesh, Ring, position, missing, threes, positionCount}
 use Rattle.mesh.specs.Table.{meshNumber}
 use Rattle.mesh.proofs.Corners.{length-threes, getD-threes}
-use Rattle.folding.specs.Folding.{twice, folded}
+use Rattle.splitting.specs.Splitting.{twice, foldedBy}
+use Rattle.folding.specs.Folding.{folded}
 use Rattle.compaction.specs.Compaction.{firstUses}
 use Rattle.compaction.proofs.Uses.{has-uses, uses-once}
 use Rattle.edges.specs.Runs.{Edged}
@@ -107,7 +108,7 @@ module _ (g : ℕ → ℕ) where
       (twice-renumbered ps (λ i j h k. one i j (in-tail i p ps h) (in-tail j p ps k)))
 
   pub folded-renumbered : (fs : List Ring) → OneToOne g (positionsOf fs) → some folded (rewritten g fs) ≡ some folded fs
-  unfolding folded
+  unfolding foldedBy
   folded-renumbered [] one = refl
   folded-renumbered (f ∷ fs) one =
       ap₂ (λ (a b : Bool). a || b)

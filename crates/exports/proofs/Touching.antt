@@ -3,7 +3,8 @@
 use mathlib.Core.Path.{_≡_, refl, ap, _∙_}
 use Rattle.mesh.specs.Mesh.{faces}
 use Rattle.grouping.specs.Push.{pushed}
-use Rattle.folding.specs.Folding.{folded, trianglePieces, pieces}
+use Rattle.splitting.specs.Splitting.{foldedBy}
+use Rattle.folding.specs.Folding.{trianglePieces, pieces}
 use Rattle.folded.specs.Folded.{removed, unfoldedMesh}
 use Rattle.compaction.specs.Compaction.{firstUses, place, renumber, entries, usedPositions, usedTextures, usedNormals, renumbered, compacted}
 use Rattle.edges.specs.Edges.{key, verdict, hems}
@@ -13,7 +14,7 @@ use Rattle.calls.specs.Begun.{touching, touchingLater}
 use Rattle.exports.specs.Sheets.{OtherHemLines}
 
 left-alone : (unfoldedMesh touching ≡ touching) × (unfoldedMesh touchingLater ≡ touchingLater)
-unfolding unfoldedMesh removed pushed pieces trianglePieces folded faces
+unfolding unfoldedMesh removed pushed pieces trianglePieces foldedBy faces
 left-alone = (refl, refl)
 
 pub other-hem-lines : OtherHemLines
