@@ -16,3 +16,5 @@ pub mod Seeking
 pub mod Writing
 pub mod Others
 pub mod Same
+pub mod FirstUses
+pub mod Places
