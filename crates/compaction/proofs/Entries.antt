@@ -12,12 +12,13 @@ use lib.Dec.{ltb}
 use lib.Ieee.{Float, nan}
 use borrow.Author.Tests.{ltb-true}
 use Rattle.lists.specs.Lists.{every, each, has}
+use Rattle.lists.specs.FirstUses.{place}
 use Rattle.lists.proofs.Bools.{and-left, and-right}
 use Rattle.lists.proofs.Parts.{each-append}
 use Rattle.lists.proofs.Members.{in-head, in-tail}
 use Rattle.lists.proofs.Others.{every-has}
-use Rattle.compaction.specs.Compaction.{place, entryAt, entries}
-use Rattle.compaction.proofs.Places.{place-below, getD-place}
+use Rattle.lists.proofs.Places.{place-below, getD-place}
+use Rattle.compaction.specs.Compaction.{entryAt, entries}
 
 -- ---- an entry is copied by two or three stores
 

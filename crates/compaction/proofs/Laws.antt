@@ -22,7 +22,7 @@ use Rattle.mesh.proofs.Corners.{length-cornersIn, getD-cornersIn, isCorner, cor
 use Rattle.mesh.proofs.Faces.{isRing, rings-are, rings-back, sizes-back, corners-back}
 use Rattle.mesh.proofs.Numbers.{clear, clear-0}
 use Rattle.mesh.proofs.Accepted.{Accepted, accepted, within-back, even-back}
-use Rattle.compaction.specs.Compaction.{firstUses, renumber, entries, usedPositions, usedTextures, usedNormals, renumbered, compacted}
+use Rattle.compaction.specs.Compaction.{usesOf, renumber, entries, usedPositions, usedTextures, usedNormals, renumbered, compacted}
 use Rattle.compaction.specs.Promises.{AcceptedAgain, EveryPositionUsed, EveryTextureUsed, EveryNormalUsed, PositionsFewer, TexturesFewer, NormalsFewer, SameFaces, SecondTimeSame}
 use Rattle.compaction.specs.Working.{column, Pointed}
 use Rattle.compaction.proofs.Uses.{uses-few, uses-below}
@@ -33,28 +33,28 @@ use Rattle.compaction.proofs.Accepting.{pointed-positions, pointed-text
 -- ---- one column
 
 module _ {attrs : List Float} {w : ℕ} {cs : List ℕ} {q : ℕ} (p : Pointed attrs w cs q) where
-  used-few : length (firstUses (column q cs)) ≤ p .count
+  used-few : length (usesOf (column q cs)) ≤ p .count
   used-few = uses-few (p .count) (column q cs) (p .within)
 
-  used-small : length (firstUses (column q cs)) ≤ missing
+  used-small : length (usesOf (column q cs)) ≤ missing
   used-small = omega (arith, used-few, p .few)
 
   -- the entries that the renumbered column uses are those that there are
   entries-twice :
-      (l : List ℕ) → l ≡ map (renumber (firstUses (column q cs))) (column q cs)
-      → entries w (entries w attrs (firstUses (column q cs))) (firstUses l) ≡ entries w attrs (firstUses (column q cs))
+      (l : List ℕ) → l ≡ map (renumber (usesOf (column q cs))) (column q cs)
+      → entries w (entries w attrs (usesOf (column q cs))) (usesOf l) ≡ entries w attrs (usesOf (column q cs))
   entries-twice l e =
-      let us = firstUses (column q cs) in
+      let us = usesOf (column q cs) in
       ap (λ (t : List ℕ). entries w (entries w attrs us) t)
-      (ap firstUses e ∙ uses-again (column q cs) used-small ∙ renumber-uses (column q cs))
+      (ap usesOf e ∙ uses-again (column q cs) used-small ∙ renumber-uses (column q cs))
       ∙ entries-again attrs w (p .count) us (p .whole) (uses-below (p .count) (column q cs) (p .within)) us (λ v h. h)
 
   -- and a corner that is renumbered keeps its number
   number-twice :
-      (l : List ℕ) → l ≡ map (renumber (firstUses (column q cs))) (column q cs) → (i : ℕ) → has i (column q cs) ≡ true
-      → renumber (firstUses l) (renumber (firstUses (column q cs)) i) ≡ renumber (firstUses (column q cs)) i
+      (l : List ℕ) → l ≡ map (renumber (usesOf (column q cs))) (column q cs) → (i : ℕ) → has i (column q cs) ≡ true
+      → renumber (usesOf l) (renumber (usesOf (column q cs)) i) ≡ renumber (usesOf (column q cs)) i
   number-twice l e i h =
-      ap (λ (t : List ℕ). renumber (firstUses t) (renumber (firstUses (column q cs)) i)) e
+      ap (λ (t : List ℕ). renumber (usesOf t) (renumber (usesOf (column q cs)) i)) e
       ∙ renumber-again (column q cs) used-small i h
 
 -- ---- the new corners
@@ -250,21 +250,21 @@ module _ (m : Mesh) (z : meshNumber m ≡ 0) where
   pub positions-in-order : usedPositions (compacted m) ≡ span 0 (positionCount (compacted m))
   unfolding usedPositions
   positions-in-order =
-      ap firstUses (positions-renumbered m)
+      ap usesOf (positions-renumbered m)
       ∙ uses-numbered (map position (cornersIn (m .corners))) (used-small (pointed-positions m z))
       ∙ ap (span 0) (sym positions-counted)
 
   pub textures-in-order : usedTextures (compacted m) ≡ span 0 (textureCount (compacted m))
   unfolding usedTextures
   textures-in-order =
-      ap firstUses (textures-renumbered m)
+      ap usesOf (textures-renumbered m)
       ∙ uses-numbered (map texture (cornersIn (m .corners))) (used-small (pointed-textures m z))
       ∙ ap (span 0) (sym textures-counted)
 
   pub normals-in-order : usedNormals (compacted m) ≡ span 0 (normalCount (compacted m))
   unfolding usedNormals
   normals-in-order =
-      ap firstUses (normals-renumbered m)
+      ap usesOf (normals-renumbered m)
       ∙ uses-numbered (map normal (cornersIn (m .corners))) (used-small (pointed-normals m z))
       ∙ ap (span 0) (sym normals-counted)
 

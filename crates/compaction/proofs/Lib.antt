@@ -1,4 +1,3 @@
-pub mod Places
 pub mod Uses
 pub mod Entries
 pub mod Renumbering

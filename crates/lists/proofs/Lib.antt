@@ -16,5 +16,6 @@ pub mod Seeking
 pub mod Writing
 pub mod Others
 pub mod Same
+pub mod Changing
 pub mod FirstUses
 pub mod Places
