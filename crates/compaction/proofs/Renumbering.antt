@@ -1,10 +1,10 @@
 -- Renumbering one column: it is one-to-one, its numbers are below the count of uses, and the uses of a column whose numbers are
 -- changed one-to-one are the changed uses. Assumes nothing.
-use mathlib.Core.Path.{_≡_, refl, sym, ap, _∙_}
-use mathlib.Core.Bool.{Bool, true, false, not, _&&_}
-use mathlib.Core.List.{List, [], _∷_, map}
-use Prim.Native.Nat.{ℕ, zero, suc, _≤_, _<_}
-use native.Mathlib.Nat.{not-suc-le-zero, le-of-suc-le-suc, zero-add}
+use mathlib.Core.Path.{_≡_, sym, ap, _∙_}
+use mathlib.Core.Bool.{true, false, not, _&&_}
+use mathlib.Core.List.{List, map}
+use Prim.Native.Nat.{ℕ, _≤_, _<_}
+use native.Mathlib.Nat.{zero-add}
 use native.Mathlib.Omega.{arith}
 use lib.ListN.{length, getD, length-map}
 use lib.Seq.{ext-getD}
@@ -12,7 +12,7 @@ use lib.Dec.{eqb, leb}
 use borrow.Author.Tests.{eqb-true, eqb-false, eq-eqb, ne-eqb, lt-leb, not-true}
 use Rattle.lists.specs.Lists.{has, only, span}
 use Rattle.lists.specs.FirstUses.{firstUses, place}
-use Rattle.lists.proofs.Bools.{by-cases, true-false, and-left, and-right, and-false-right}
+use Rattle.lists.proofs.Bools.{by-cases, and-left, and-right, and-false-right}
 use Rattle.lists.proofs.Only.{some-only}
 use Rattle.lists.proofs.Buckets.{length-span, span-at}
 use Rattle.lists.proofs.Mapping.{map-same, only-map}

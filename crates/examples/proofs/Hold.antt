@@ -3,13 +3,14 @@ use lib.Dec.{T}
 use lib.Count.{trailingZeros}
 use lib.Ieee as ieee
 use Rattle.lists.specs.Numbers.{countBelow, seek}
+use Rattle.lists.specs.FirstUses.{firstUses, place}
 use Rattle.mesh.specs.Table.{meshNumber, shapeNumber, overLimits, uneven, misfit, ungrouped, astray, short}
 use Rattle.grouping.specs.Push.{pushed}
 use Rattle.splitting.specs.Splitting.{mateOf, firstMated, foldedBy, splitByIn, splitBy, piecesBy}
 use Rattle.folding.specs.Folding.{trianglePieces, foldOf, quadranglePieces, pieces}
 use Rattle.folded.specs.Folded.{removed}
 use Rattle.folded.specs.Examples.{leaves}
-use Rattle.compaction.specs.Compaction.{firstUses, place, renumber, entries, usedPositions, usedTextures, usedNormals, renumbered, compacted}
+use Rattle.compaction.specs.Compaction.{renumber, entries, usedPositions, usedTextures, usedNormals, renumbered, compacted}
 use Rattle.floating.specs.Limits.{unfit, boundless, far}
 use Rattle.floating.specs.Points.{row}
 use Rattle.floating.specs.Scaling as scaling

@@ -17,5 +17,7 @@ pub mod Writing
 pub mod Others
 pub mod Same
 pub mod Changing
+pub mod Cutting
+pub mod Stores
 pub mod FirstUses
 pub mod Places

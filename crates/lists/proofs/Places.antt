@@ -40,7 +40,11 @@ getD-place (u ∷ us) i h =
     (λ e. rw (place-here u us i e) (sym (eqb-true i u e)))
     (λ e. rw (place-behind u us i e) (getD-place us i (rw e at h)))
 
--- so two that have one place are one
+-- so a number that stands in a list stands at some place
+pub in-at : (x : ℕ) (l : List ℕ) → has x l ≡ true → (q : ℕ) × (q < length l) × (getD l q 0 ≡ x)
+in-at x l h = (place l x, place-below l x h, getD-place l x h)
+
+-- and two that have one place are one
 pub place-one : (us : List ℕ) (i j : ℕ) → has i us ≡ true → has j us ≡ true → place us i ≡ place us j → i ≡ j
 place-one us i j h k e = sym (getD-place us i h) ∙ ap (λ (n : ℕ). getD us n 0) e ∙ getD-place us j k
 

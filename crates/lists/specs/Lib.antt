@@ -2,3 +2,4 @@ pub mod Lists
 pub mod Numbers
 pub mod Same
 pub mod FirstUses
+pub mod Cutting
