@@ -5,5 +5,7 @@ pub mod Turn
 pub mod Loop
 pub mod Accepting
 pub mod Answer
+pub mod Columns
 pub mod Laws
+pub mod Again
 pub mod Using

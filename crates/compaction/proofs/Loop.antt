@@ -3,7 +3,7 @@ use mathlib.Core.Path.{_≡_, refl, sym, ap, _∙_}
 use mathlib.Core.List.{List, [], _∷_, _++_, map, map-append}
 use Prim.Native.Nat.{ℕ, _+_, _*_, _/_, _≤_, _<_}
 use native.Mathlib.Nat.{add-zero}
-use native.Mathlib.Numerals.{add-one, towards-suc}
+use native.Mathlib.Numerals.{add-one}
 use native.Mathlib.Omega.{arith}
 use lib.ListN.{length, getD, take, set, replicate}
 use lib.Seq.{sets, length-sets, take-suc, take-all, length-take-le}
@@ -11,6 +11,7 @@ use lib.Ieee.{Float}
 use Rattle.lists.specs.Lists.{joined}
 use Rattle.lists.specs.FirstUses.{firstUses}
 use Rattle.lists.proofs.Parts.{joined-append}
+use Rattle.lists.proofs.Stores.{three-stores}
 use Rattle.lists.proofs.Writing.{sets-append}
 use Rattle.mesh.specs.Limits.{width, entryLimit}
 use Rattle.mesh.specs.Mesh.{Corner, Ring, missing, cornersIn, cornerAt}
@@ -72,8 +73,8 @@ module _
 
 -- ---- the new corners
 
-three-stores : (l : List ℕ) (a x y z : ℕ) → set (set (set l (a + 0) x) (a + 1) y) (a + 2) z ≡ sets l a (x ∷ y ∷ z ∷ [])
-three-stores l a x y z = simp (add-zero, towards-suc)
+from-first : (l : List ℕ) (a x y z : ℕ) → set (set (set l (a + 0) x) (a + 1) y) (a + 2) z ≡ sets l a (x ∷ y ∷ z ∷ [])
+from-first l a x y z = rw (add-zero a) (three-stores l a x y z)
 
 module _ (cs : List ℕ) where
   length-new : (l : Ring) → length (joined (map (newCorner cs) l)) ≡ width * length l
@@ -111,7 +112,7 @@ module _ (cs : List ℕ) where
       let a : length done ≡ width * length (take k (cornersIn cs)) = length-new (take k (cornersIn cs)) in
       let b : length (take k (cornersIn cs)) ≡ k = length-take-le k (cornersIn cs) (rw (length-cornersIn cs) (omega arith)) in
       omega arith in
-      e3 ∙ rw (e2, e1) (three-stores c0 (width * k) _ _ _)
+      e3 ∙ rw (e2, e1) (from-first c0 (width * k) _ _ _)
       ∙ ap (λ (i : ℕ). sets c0 (width * k)
       (renumber (usesOf (column 0 cs)) (getD cs i 0) ∷ renumber (usesOf (column 1 cs)) (getD cs (width * k + 1) 0) ∷ renumber
       (usesOf (column 2 cs)) (getD cs (width * k + 2) 0) ∷ [])) (add-zero (width * k))

@@ -4,19 +4,16 @@ use mathlib.Core.Path.{_≡_, sym, ap, _∙_}
 use mathlib.Core.Bool.{true, false, not, _&&_}
 use mathlib.Core.List.{List, map}
 use Prim.Native.Nat.{ℕ, _≤_, _<_}
-use native.Mathlib.Nat.{zero-add}
 use native.Mathlib.Omega.{arith}
-use lib.ListN.{length, getD, length-map}
-use lib.Seq.{ext-getD}
+use lib.ListN.{length, getD}
 use lib.Dec.{eqb, leb}
 use borrow.Author.Tests.{eqb-true, eqb-false, eq-eqb, ne-eqb, lt-leb, not-true}
-use Rattle.lists.specs.Lists.{has, only, span}
+use Rattle.lists.specs.Lists.{has, only}
 use Rattle.lists.specs.FirstUses.{firstUses, place}
 use Rattle.lists.proofs.Bools.{by-cases, and-left, and-right, and-false-right}
 use Rattle.lists.proofs.Only.{some-only}
-use Rattle.lists.proofs.Buckets.{length-span, span-at}
 use Rattle.lists.proofs.Mapping.{map-same, only-map}
-use Rattle.lists.proofs.Changing.{map-at, only-same}
+use Rattle.lists.proofs.Changing.{only-same}
 use Rattle.lists.proofs.FirstUses.{has-map, firstUses-map}
 use Rattle.lists.proofs.Places.{place-below, place-one, has-getD, place-getD, place-map}
 use Rattle.mesh.specs.Mesh.{missing}
@@ -141,16 +138,3 @@ renumber-uses l =
     let u = getD us k 0 in
     let j : (not (eqb u missing) && has u l) ≡ true = sym (has-uses u l) ∙ has-getD us k h in
     renumber-present us u (not-true (eqb u missing) (and-left (not (eqb u missing)) (has u l) j)))
-
--- the uses of the renumbered column are 0, 1, 2, ..
-pub uses-numbered :
-    (l : List ℕ) → length (usesOf l) ≤ missing → usesOf (map (renumber (usesOf l)) l) ≡ span 0 (length (usesOf l))
-uses-numbered l few =
-    let us = usesOf l in
-    uses-again l few
-    ∙ renumber-uses l
-    ∙ ext-getD 0 (map (place us) us) (span 0 (length us))
-    (length-map us (place us) ∙ sym (length-span 0 (length us)))
-    (λ k h.
-    let n : k < length us = rw (length-map us (place us)) at h in
-    map-at (place us) 0 0 us k n ∙ place-getD us k (uses-once l) n ∙ sym (span-at 0 (length us) k 0 n ∙ zero-add k))

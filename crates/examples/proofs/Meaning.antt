@@ -26,7 +26,8 @@ use Rattle.panels.specs.Panels.{panels}
 use Rattle.folded.proofs.Examples.{leaves-is}
 use Rattle.compaction.specs.Compaction.{compacted}
 use Rattle.merging.specs.Merging.{mergeNumber, texturePairs, mergedCorners}
-use Rattle.examples.specs.Twelve.{facesBy, tri, triangle, threeFaces, exchanged, touching, sixPositions, threeTextures, verdictNumber, hasVerdict, hasHem, hasPorted, hasHouse, hasPanels, compacts, merges, examples, allHold}
+use Rattle.examples.specs.Twelve.{facesBy, tri, triangle, threeFaces, exchanged, touching, sixPositions, threeTextures}
+use Rattle.examples.specs.Twelve.{verdictNumber, hasVerdict, hasHem, hasPorted, hasHouse, hasPanels, compacts, merges, examples, allHold}
 use Rattle.examples.specs.Meaning.{TestsTell, TwelveHold}
 use Rattle.examples.proofs.Hold.{they-hold}
 

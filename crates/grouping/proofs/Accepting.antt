@@ -99,9 +99,10 @@ module _ (p t n : List Float) (fs : List Ring) (o : Orderly p t n fs) where
           even = even-back m (record { positions = o .whole-positions; textures = o .whole-textures; normals = o .whole-normals; corners = omega arith; adds = sym f });
           fit = sizes-back m (λ k h.
               let z : sized (getD (pushed fs) k []) ≡ true = size-of k h in
-              let y = getD (pushed fs) k [] in
-              (rw (size-at (pushed fs) k) (leb-true 3 (length y) (and-left (leb 3 (length y)) (leb (length y) ringLimit) z)),
-              rw (size-at (pushed fs) k) (leb-true (length y) ringLimit (and-right (leb 3 (length y)) (leb (length y) ringLimit) z))));
+              let y = getD (pushed fs) k [] in (
+                rw (size-at (pushed fs) k) (leb-true 3 (length y) (and-left (leb 3 (length y)) (leb (length y) ringLimit) z)),
+                rw (size-at (pushed fs) k) (leb-true (length y) ringLimit (and-right (leb 3 (length y)) (leb (length y) ringLimit) z)),
+              ));
           grouped = pushed-grouped fs;
         };
         found =

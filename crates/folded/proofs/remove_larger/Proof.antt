@@ -50,8 +50,7 @@ slice-aggregate-push-all-2 c =
 push-all-requires : tie.Need-push-all-requires
 push-all-requires c κs =
     let pre = c .before .before .before .before .before .before .before .before .before .before .before .before .before .before .pre in
-    let put = c .before .before .before .before .before .before .before .all-pieces .ensures in
-    (
+    let put = c .before .before .before .before .before .before .before .all-pieces .ensures in (
       pieces-sound _ _ _ _ _ _ _ _ _ _ pre blank put,
       (pieces-corners _ _ _ _ _ _ _ _ _ _ pre blank put, pieces-sizes _ _ _ _ _ _ _ _ _ _ pre blank put),
     )
