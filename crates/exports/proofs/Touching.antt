@@ -6,7 +6,8 @@ use Rattle.grouping.specs.Push.{pushed}
 use Rattle.splitting.specs.Splitting.{foldedBy}
 use Rattle.folding.specs.Folding.{trianglePieces, pieces}
 use Rattle.folded.specs.Folded.{removed, unfoldedMesh}
-use Rattle.compaction.specs.Compaction.{firstUses, place, renumber, entries, usedPositions, usedTextures, usedNormals, renumbered, compacted}
+use Rattle.lists.specs.FirstUses.{firstUses, place}
+use Rattle.compaction.specs.Compaction.{renumber, entries, usedPositions, usedTextures, usedNormals, renumbered, compacted}
 use Rattle.edges.specs.Edges.{key, verdict, hems}
 use Rattle.house.specs.House.{walk, wiresIn, houseWires}
 use Rattle.sheet.specs.Sheet.{cleaned, foundIn}

@@ -17,3 +17,8 @@ pub mod Seeking
 pub mod Writing
 pub mod Others
 pub mod Same
+pub mod Changing
+pub mod Cutting
+pub mod Stores
+pub mod FirstUses
+pub mod Places

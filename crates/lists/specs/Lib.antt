@@ -1,3 +1,5 @@
 pub mod Lists
 pub mod Numbers
 pub mod Same
+pub mod FirstUses
+pub mod Cutting

@@ -5,3 +5,4 @@ pub mod Narrow
 pub mod Numbers
 pub mod Accepted
 pub mod After
+pub mod Walking

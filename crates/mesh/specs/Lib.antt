@@ -3,3 +3,4 @@ pub mod Mesh
 pub mod Table
 pub mod Face
 pub mod Working
+pub mod Full
