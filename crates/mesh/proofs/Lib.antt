@@ -4,4 +4,5 @@ pub mod Rows
 pub mod Narrow
 pub mod Numbers
 pub mod Accepted
+pub mod Edges
 pub mod After
