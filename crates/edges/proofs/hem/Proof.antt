@@ -56,7 +56,8 @@ same-length-7 c = search needs
 returns : tie.Need-returns
 returns c =
     let far = c .before .before .before .before .before .before .before .before .before .before .before .before .before .before .before .before .before .before in
-    let entry = far .before .before .before .before .before .before .before .before .before .before .before .before .before .before .before .before .before .before .before .before .before .before .before .before in
+    let back = far .before .before .before .before .before .before .before .before .before .before .before .before in
+    let entry = back .before .before .before .before .before .before .before .before .before .before .before .before in
     let gather = far .before .before .before .before .before .before .before .before .before .gather in
     let tally-uses = c .before .before .before .before .before .before .before .before .before .before .before .before .tally-uses in
     let name-of = c .before .before .before .before .before .before .before .before .before .before .before .name-of in
