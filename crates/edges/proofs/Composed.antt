@@ -1,7 +1,7 @@
 -- The steps one after the other: the order groups the uses edge by edge, so the two scans come to the verdict and to the hem edges.
 -- Assumes nothing.
 use mathlib.Core.Path.{_≡_, sym, ap, _∙_, fun-ext}
-use mathlib.Core.Bool.{true, false, cond}
+use mathlib.Core.Bool.{false, cond}
 use mathlib.Core.List.{List, map, map-map}
 use Prim.Native.Nat.{ℕ}
 use native.Mathlib.Nat.{zero-add}

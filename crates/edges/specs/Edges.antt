@@ -1,6 +1,6 @@
 -- Verdict and hem edges, by counting over the list of all edges of a mesh, as document 01, 'Edges, verdict and wires', has them. What an
 -- edge is stands in mesh/specs/Edges.antt and is passed on here. Assumes nothing.
-use mathlib.Core.Bool.{Bool, true, false, cond, not, _&&_, _||_}
+use mathlib.Core.Bool.{Bool, false, cond, not, _&&_, _||_}
 use mathlib.Core.List.{List, [], _∷_, map}
 use Prim.Native.Nat.{ℕ, zero, suc}
 use lib.Dec.{leb, ltb, eqb}

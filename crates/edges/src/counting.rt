@@ -2,8 +2,7 @@
 ghost use mathlib.Core.Path.{_≡_};
 ghost use mathlib.Core.Bool.{true, false, _||_};
 ghost use Prim.Native.Nat.{ℕ, _+_, _<_, _≤_};
-ghost use lib.ListN.{length, getD, drop};
-ghost use lib.Dec.{leb, eqb};
+ghost use lib.ListN.{getD, drop};
 ghost use Rattle.mesh.specs.Limits.{cornerLimit};
 ghost use Rattle.uses.specs.Uses.{Ready};
 ghost use Rattle.edges.specs.Answers.{verdictOf};

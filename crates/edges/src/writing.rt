@@ -1,5 +1,4 @@
 // The scan that writes the hem edges: of each edge with an odd number of uses the last one.
-ghost use mathlib.Core.Path.{_≡_};
 ghost use mathlib.Core.Bool.{false};
 ghost use mathlib.Core.List.{[], _∷_};
 ghost use Prim.Native.Nat.{ℕ, _+_};

@@ -5,7 +5,7 @@
 // uses of one edge stand together in the order of the faces, and the edges ascend.
 ghost use mathlib.Core.Path.{_≡_};
 ghost use mathlib.Core.List.{[], _∷_};
-ghost use Prim.Native.Nat.{ℕ, _+_, _/_, _<_, _≤_};
+ghost use Prim.Native.Nat.{ℕ, _+_, _/_, _<_};
 ghost use lib.ListN.{length, getD, drop};
 ghost use Rattle.mesh.specs.Limits.{width};
 ghost use Rattle.mesh.specs.Mesh.{rings};
