@@ -5,28 +5,20 @@ use mathlib.Core.Option.{Option, none, some}
 use mathlib.Core.Bool.{Bool}
 use mathlib.Core.List.{List, [], _∷_, map}
 use Prim.Native.Nat.{ℕ, zero, suc, _/_, _≤_, _<_}
-use native.Mathlib.Omega.{arith}
 use lib.ListN.{length}
 use lib.Seq.{sets}
 use borrow.Author.Tests.{lt-ltb, le-ltb}
 use Rattle.mesh.specs.Limits.{width}
-use Rattle.mesh.specs.Mesh.{Mesh, faces, rings, positionCount}
+use Rattle.mesh.specs.Mesh.{Mesh, faces, rings}
 use Rattle.mesh.specs.Table.{meshNumber, when, lent, short, after}
 use Rattle.mesh.proofs.Numbers.{first-is, first-on, row-given}
-use Rattle.mesh.proofs.Accepted.{Accepted, accepted}
+pub use Rattle.mesh.proofs.Edges.{edged}
 use Rattle.edges.specs.Edges.{edgesOf, Verdict, verdict, hems}
 use Rattle.edges.specs.Answers.{verdictOf, Answer, answerOf, judged, meshEdgesOf, start, end, hemNumber, HemAnswer, Hemmed}
-use Rattle.edges.specs.Runs.{Edged}
 use Rattle.edges.specs.declared.ShellCondition.{ShellCondition}
 use Rattle.edges.specs.declared.Judged.{Judged}
 use Rattle.edges.specs.declared.Judged.the-variants.{Found, Refused}
 use Rattle.edges.specs.declared.Hems.{Hems}
-
--- an accepted mesh has what the calls between crates ask
-pub edged : (m : Mesh) → meshNumber m ≡ 0 → Edged (m .corners) (m .sizes) (positionCount m)
-edged m h =
-    let a : Accepted m = accepted m h in
-    record { sound = a .sound; few = omega (arith, a .limits .positions); below = λ k l. a .corner k l .position }
 
 -- what a call that answered a number leaves
 module _ {A : Type 0} (new old : A) where
@@ -88,11 +80,18 @@ module _ (m : Mesh) (starts ends : List ℕ) where
     -- a list is too short
     pub hem-starts-short : n ≡ 0 → length starts < length (m .corners) / width → 9 ≡ hemNumber m (length starts) (length ends)
     unfolding hemNumber short
-    hem-starts-short z l = sym (first-on (meshNumber m) (when (tight m (length starts) (length ends)) 9 ∷ []) (sym e ∙ z) ∙ row-given (tight m (length starts) (length ends)) 8 [] (rw (lt-ltb (length starts) (length (m .corners) / width) l)))
+    hem-starts-short z l =
+        sym
+        (first-on (meshNumber m) (when (tight m (length starts) (length ends)) 9 ∷ []) (sym e ∙ z)
+        ∙ row-given (tight m (length starts) (length ends)) 8 [] (rw (lt-ltb (length starts) (length (m .corners) / width) l)))
 
     pub hem-ends-short : n ≡ 0 → length (m .corners) / width ≤ length starts → length ends < length (m .corners) / width → 9 ≡ hemNumber m (length starts) (length ends)
     unfolding hemNumber short
-    hem-ends-short z g l = sym (first-on (meshNumber m) (when (tight m (length starts) (length ends)) 9 ∷ []) (sym e ∙ z) ∙ row-given (tight m (length starts) (length ends)) 8 [] (rw (le-ltb (length starts) (length (m .corners) / width) g, lt-ltb (length ends) (length (m .corners) / width) l)))
+    hem-ends-short z g l =
+        sym
+        (first-on (meshNumber m) (when (tight m (length starts) (length ends)) 9 ∷ []) (sym e ∙ z)
+        ∙ row-given (tight m (length starts) (length ends)) 8 []
+        (rw (le-ltb (length starts) (length (m .corners) / width) g, lt-ltb (length ends) (length (m .corners) / width) l)))
 
     -- neither
     pub hem-done :

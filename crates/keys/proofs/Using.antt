@@ -15,13 +15,13 @@ use Rattle.lists.specs.Lists.{span, sum}
 use Rattle.lists.proofs.Writing.{sets-append, Copying, copy-turns, copy-ends}
 use Rattle.lists.proofs.Copies.{sets-whole}
 use Rattle.lists.proofs.Buckets.{lt-or-ge, table-at, table-ext}
-use Rattle.mesh.specs.Limits.{width, entryLimit, cornerNumbers}
+use Rattle.mesh.specs.Limits.{width, cornerNumbers}
 use Rattle.mesh.specs.Mesh.{Corner, Ring, missing, cornersIn, rings, cornerAt}
 use Rattle.mesh.specs.Face.{offsetOf, faceOf, Sound}
 use Rattle.mesh.proofs.Corners.{length-cornersIn, getD-cornersIn}
 use Rattle.mesh.proofs.Faces.{face-length, face-fits, offset-step, length-rings, getD-rings}
-use Rattle.edges.specs.Edges.{runEdges, ringEdges}
-use Rattle.edges.proofs.Uses.{length-ring}
+use Rattle.mesh.specs.Edges.{runEdges, ringEdges}
+use Rattle.mesh.proofs.Edges.{length-ring}
 use Rattle.keys.specs.Keys.{Key, keyOf, faceKeys, Use, usesFrom}
 use Rattle.keys.specs.Columns.{normalDigit, chosen, entryOf, column, nextOf, edgeAt, faceUses, FaceRoom}
 
@@ -238,15 +238,15 @@ chosen-face (suc (suc (suc zero))) lower higher n m face a b c d = absurd (d ref
 chosen-face (suc (suc (suc (suc which)))) lower higher n m face a b c d = refl
 
 -- a normal that is not looked at, that is missing, that is there
-pub digit-off : (normals : Bool) (n : ℕ) → normals ≡ false → 0 ≡ normalDigit (cond normals n 0)
+pub digit-off : (normals : Bool) (n : ℕ) → normals ≡ false → 1 ≡ normalDigit (cond normals n 0)
 unfolding normalDigit
 digit-off normals n e = rw e
 
-pub digit-missing : (normals : Bool) (n : ℕ) → normals ≡ true → n ≡ missing → entryLimit ≡ normalDigit (cond normals n 0)
+pub digit-missing : (normals : Bool) (n : ℕ) → normals ≡ true → n ≡ missing → 0 ≡ normalDigit (cond normals n 0)
 unfolding normalDigit
 digit-missing normals n e h = rw (e, eq-eqb n missing h)
 
-pub digit-there : (normals : Bool) (n : ℕ) → normals ≡ true → (n ≡ missing → ⊥) → n ≡ normalDigit (cond normals n 0)
+pub digit-there : (normals : Bool) (n : ℕ) → normals ≡ true → (n ≡ missing → ⊥) → n + 1 ≡ normalDigit (cond normals n 0)
 unfolding normalDigit
 digit-there normals n e h = rw (e, ne-eqb n missing h)
 

@@ -17,13 +17,9 @@ pub record Keyable (cs s : List ℕ) : Type 0 where
   pub position : (k : ℕ) → k < length cs / width → getD cs (width * k) 0 < entryLimit
   pub normal : (k : ℕ) → k < length cs / width → (getD cs (width * k + 2) 0 ≡ missing → ⊥) → getD cs (width * k + 2) 0 < entryLimit
 
--- how many digits a normal has: one for each index, one where it is missing
-abbrev pub normalDigits : ℕ
-normalDigits = entryLimit + 1
-
--- a normal index as a digit: missing is one more than any other
+-- a normal index as a digit: missing is 0, and any other is one more than its index
 unfoldable pub normalDigit : ℕ → ℕ
-normalDigit n = cond (eqb n missing) entryLimit n
+normalDigit n = cond (eqb n missing) 0 (n + 1)
 
 -- the columns: 0 the lower position, 1 the higher, 2 and 3 the normals there, 4 the face
 unfoldable pub chosen : ℕ → ℕ → ℕ → ℕ → ℕ → ℕ → ℕ

@@ -11,8 +11,10 @@ ghost use Rattle.mesh.specs.Mesh.{rings, cornersIn};
 ghost use Rattle.keys.specs.Keys.{keyOf};
 ghost use Rattle.keys.specs.Columns.{normalDigit, chosen, entryOf, nextOf, edgeAt, faceUses, column, AtCorner, FaceRoom, ColumnRoom, DigitRoom, Digits};
 
-// The digit of a missing normal, behind those of all that are there.
-const NO_NORMAL: u32 = mesh::ENTRIES as u32;
+// The digit of a missing normal, and that of the first one: a normal's digit is one more than its index.
+const NO_NORMAL: u32 = 0;
+
+const FIRST_NORMAL: u32 = 1;
 
 pub const LOWER: u32 = 0;
 
@@ -98,17 +100,17 @@ fn behind(n: usize, j: usize) -> usize
     if j + 1 < n { j + 1 } else { 0 }
 }
 
-// A normal index as a digit; without the normals setting it is not looked at.
+// A normal index as a digit; without the normals setting it is not looked at, and all count as the first.
 fn normal_digit(normal: u32, normals: bool) -> u32
     ensures { λ r. ⌜ r ≡ normalDigit (cond normals normal 0) ⌝ }
 {
     if !normals {
-        return 0;
+        return FIRST_NORMAL;
     }
     if normal == mesh::MISSING {
         return NO_NORMAL;
     }
-    normal
+    normal + 1
 }
 
 fn choose(which: u32, lower: u32, higher: u32, n: u32, m: u32, face: u32) -> u32

@@ -4,10 +4,6 @@
 // The uses are columns of numbers (columns.rt). A stable sort puts uses of one key together, the first one first (firsts.rt). All
 // of it is linear: no use is looked for.
 ghost use mathlib.Core.Path.{_≡_};
-ghost use Prim.Native.Nat.{_≤_};
-ghost use lib.ListN.{length};
-ghost use Rattle.lists.specs.Lists.{span};
-ghost use Rattle.mesh.specs.Limits.{cornerNumbers};
 ghost use Rattle.mesh.specs.Mesh.{rings};
 ghost use Rattle.keys.specs.Keys.{usesFrom, useFaces, FirstUses};
 ghost use Rattle.keys.specs.Columns.{ColumnRoom, FirstRoom, KeyRows};
@@ -55,7 +51,7 @@ fn first_uses_in(
     ensures { λ _. ⌜ FirstUses (usesFrom normals 0 (rings (now (sizes .entry)) (now (corners .entry)))) (now (firsts .exit)) ⌝ }
 {
     columns::put_digits(corners, sizes, normals, lower, higher, n, m);
-    firsts::put_firsts(lower, higher, n, m, order, firsts);
+    firsts::put_firsts(lower, higher, n, m, normals, order, firsts);
 }
 
 // The face of each use.
@@ -64,18 +60,6 @@ pub fn put_faces(corners: &[u32], sizes: &[u32], out: &mut [u32])
     ensures { λ _. ⌜ now (out .exit) ≡ useFaces (rings (now (sizes .entry)) (now (corners .entry))) ⌝ }
 {
     columns::put_column(corners, sizes, false, columns::FACE, out);
-}
-
-// 0, 1, 2, ..
-pub fn count_up(out: &mut [u32])
-    requires { ⌜ length (now out) ≤ cornerNumbers ⌝ }
-    ensures { λ _. ⌜ now (out .exit) ≡ span 0 (length (now (out .entry))) ⌝ }
-{
-    let mut i: usize = 0;
-    while i < out.len() {
-        out[i] = i as u32;
-        i += 1;
-    }
 }
 
 pub fn wide(x: u32) -> usize

@@ -4,5 +4,6 @@ pub mod Rows
 pub mod Narrow
 pub mod Numbers
 pub mod Accepted
+pub mod Edges
 pub mod After
 pub mod Walking

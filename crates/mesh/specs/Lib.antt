@@ -2,5 +2,6 @@ pub mod Limits
 pub mod Mesh
 pub mod Table
 pub mod Face
+pub mod Edges
 pub mod Working
 pub mod Full

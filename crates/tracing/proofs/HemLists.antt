@@ -20,8 +20,7 @@ use Rattle.edges.specs.Runs.{Edged}
 use Rattle.edges.specs.Answers.{Hemmed}
 use Rattle.edges.specs.declared.Hems.{Hems}
 use Rattle.edges.proofs.OfHems.{hems-few, hems-every}
-use Rattle.edges.proofs.Grouped.{inside}
-use Rattle.edges.proofs.Uses.{length-uses, uses-inside}
+use Rattle.uses.proofs.Sides.{inside, length-uses, uses-inside}
 use Rattle.tracing.specs.Answers.{cornerCount}
 use Rattle.tracing.proofs.Balance.{hems-balanced}
 use Rattle.tracing.proofs.Tables.{startsOf, endsOf, pairs-of}
