@@ -21,7 +21,7 @@ use Rattle.grouping.specs.Push.{pushed, cornerCount, Placed}
 use Rattle.grouping.proofs.Placing.{length-flat}
 use Rattle.grouping.proofs.Pushed.{every-pushed}
 use Rattle.grouping.proofs.Accepting.{cornersIn-flat, accepted-faces}
-use Rattle.panelfile.specs.declared.Progress.{Progress}
+use Rattle.steps.specs.declared.Progress.{Progress}
 use Rattle.panelfile.specs.declared.MeshRead.{MeshRead}
 use Rattle.panelfile.specs.Reading.{Drawn, Reader, readAll, meshDrawn, finish, fullRoom, roomOf, readingNumber, panelMesh}
 use Rattle.panelfile.specs.Promises.{ReadIsAccepted}
@@ -35,45 +35,52 @@ unfolding finish
 stands s z zero h e = absurd (h refl)
 stands s z (suc k) h e = rw e
 
-module _ (file : List ℕ) (x : Progress) (p t n : List Float) (c s : List ℕ) (d : Drawing file x p t n c s) where
+module _ (file : List ℕ) (x : Progress) (l : Mesh) (d : Drawing file x l) where
   abbrev drawn : Drawn
   drawn = readAll file .drawn
 
   -- the fronts of the reader's own lists are as long as the counts say
-  pub front-positions : length (take (3 * x .positions) p) ≡ 3 * x .positions
-  front-positions = length-take-le (3 * x .positions) p (omega (arith, d .within .positions, d .long .positions))
+  pub front-positions : length (take (3 * x .positions) (l .positions)) ≡ 3 * x .positions
+  front-positions = length-take-le (3 * x .positions) (l .positions) (omega (arith, d .within .positions, d .long .positions))
 
-  pub front-textures : length (take (2 * x .textures) t) ≡ 2 * x .textures
-  front-textures = length-take-le (2 * x .textures) t (omega (arith, d .within .textures, d .long .textures))
+  pub front-textures : length (take (2 * x .textures) (l .textures)) ≡ 2 * x .textures
+  front-textures = length-take-le (2 * x .textures) (l .textures) (omega (arith, d .within .textures, d .long .textures))
 
-  pub front-normals : length (take (3 * x .normals) n) ≡ 3 * x .normals
-  front-normals = length-take-le (3 * x .normals) n (omega (arith, d .within .normals, d .long .normals))
+  pub front-normals : length (take (3 * x .normals) (l .normals)) ≡ 3 * x .normals
+  front-normals = length-take-le (3 * x .normals) (l .normals) (omega (arith, d .within .normals, d .long .normals))
 
-  pub front-corners : length (take (width * x .corners) c) ≡ width * x .corners
-  front-corners = length-take-le (width * x .corners) c (omega (arith, d .within .corners, d .long .corners))
+  pub front-corners : length (take (width * x .corners) (l .corners)) ≡ width * x .corners
+  front-corners = length-take-le (width * x .corners) (l .corners) (omega (arith, d .within .corners, d .long .corners))
 
-  pub front-sizes : length (take (x .faces) s) ≡ x .faces
-  front-sizes = length-take-le (x .faces) s (omega (arith, d .within .faces, d .within .corners, d .long .sizes))
+  pub front-sizes : length (take (x .faces) (l .sizes)) ≡ x .faces
+  front-sizes = length-take-le (x .faces) (l .sizes) (omega (arith, d .within .faces, d .within .corners, d .long .sizes))
 
-  pub own-sound : Sound (take (width * x .corners) c) (take (x .faces) s)
+  pub own-sound : Sound (take (width * x .corners) (l .corners)) (take (x .faces) (l .sizes))
   own-sound =
-      let e : sum (take (x .faces) s) ≡ x .corners = ap sum (d .holds .sizes) ∙ sym (d .holds .counted) in
+      let e : sum (take (x .faces) (l .sizes)) ≡ x .corners = ap sum (d .holds .sizes) ∙ sym (d .holds .counted) in
       record {
         few = omega (arith, front-sizes, d .within .faces, d .within .corners);
         fits = omega (arith, front-corners, d .within .corners);
         adds = omega (arith, front-corners);
       }
 
-  pub own-rings : rings (take (x .faces) s) (take (width * x .corners) c) ≡ drawn .faces
+  pub own-rings : rings (take (x .faces) (l .sizes)) (take (width * x .corners) (l .corners)) ≡ drawn .faces
   own-rings =
-      ap (λ (l : List ℕ). rings l (take (width * x .corners) c)) (d .holds .sizes)
+      ap (λ (ns : List ℕ). rings ns (take (width * x .corners) (l .corners))) (d .holds .sizes)
       ∙ ap (rings (map length (drawn .faces))) (d .holds .corners)
       ∙ rings-back (drawn .faces) (all-sane file .drawn .are-rings)
 
+  -- the fronts of the five lists, as a mesh whose faces are not grouped
+  abbrev pub fronts : Mesh
+  fronts =
+      meshOf (take (3 * x .positions) (l .positions)) (take (2 * x .textures) (l .textures)) (take (3 * x .normals) (l .normals))
+      (take (width * x .corners) (l .corners)) (take (x .faces) (l .sizes))
+
   -- the indices, over the corners of all faces that are kept
-  pub own-astray : astray (meshOf (take (3 * x .positions) p) (take (2 * x .textures) t) (take (3 * x .normals) n) (take (width * x .corners) c) (take (x .faces) s)) ≡ some (astrayAt (meshDrawn drawn)) (joined (drawn .faces))
+  pub own-astray : astray fronts ≡ some (astrayAt (meshDrawn drawn)) (joined (drawn .faces))
   unfolding astray meshDrawn
-  own-astray = rw (d .holds .positions, d .holds .textures, d .holds .normals, d .holds .corners, cornersIn-flat (drawn .faces) (all-sane file .drawn .are-rings))
+  own-astray =
+      rw (d .holds .positions, d .holds .textures, d .holds .normals, d .holds .corners, cornersIn-flat (drawn .faces) (all-sane file .drawn .are-rings))
 
   -- ---- the number at the end
   pub end-refused : (x .number ≡ 0 → ⊥) → x .number ≡ finish file (readAll file)
@@ -83,19 +90,23 @@ module _ (file : List ℕ) (x : Progress) (p t n : List Float) (c s : List ℕ) 
   unfolding finish
   end-follows h l = rw (sym (d .holds .refusal) ∙ h, ← d .holds .place, lt-ltb (x .at) (length file) l)
 
-  pub end-astray : x .number ≡ 0 → length file ≤ x .at → some (astrayAt (meshDrawn drawn)) (joined (drawn .faces)) ≡ true → 5 ≡ finish file (readAll file)
+  pub end-astray :
+      x .number ≡ 0 → length file ≤ x .at → some (astrayAt (meshDrawn drawn)) (joined (drawn .faces)) ≡ true
+      → 5 ≡ finish file (readAll file)
   unfolding finish
   end-astray h l e = rw (sym (d .holds .refusal) ∙ h, ← d .holds .place, le-ltb (x .at) (length file) l, e)
 
-  pub end-well : x .number ≡ 0 → length file ≤ x .at → some (astrayAt (meshDrawn drawn)) (joined (drawn .faces)) ≡ false → 0 ≡ finish file (readAll file)
+  pub end-well :
+      x .number ≡ 0 → length file ≤ x .at → some (astrayAt (meshDrawn drawn)) (joined (drawn .faces)) ≡ false
+      → 0 ≡ finish file (readAll file)
   unfolding finish
   end-well h l e = rw (sym (d .holds .refusal) ∙ h, ← d .holds .place, le-ltb (x .at) (length file) l, e)
 
   -- ---- the mesh that is handed over
   pub handed :
       (p1 p2 t1 t2 n1 n2 : List Float) (c1 c2 s1 s2 : List ℕ) (fc ff : ℕ)
-      → p2 ≡ sets p1 0 (take (3 * x .positions) p) → t2 ≡ sets t1 0 (take (2 * x .textures) t) → n2 ≡ sets n1 0 (take (3 * x .normals) n)
-      → Placed (pushed (rings (take (x .faces) s) (take (width * x .corners) c))) c1 c2 s1 s2 0 0 fc ff
+      → p2 ≡ sets p1 0 (take (3 * x .positions) (l .positions)) → t2 ≡ sets t1 0 (take (2 * x .textures) (l .textures)) → n2 ≡ sets n1 0 (take (3 * x .normals) (l .normals))
+      → Placed (pushed (rings (take (x .faces) (l .sizes)) (take (width * x .corners) (l .corners)))) c1 c2 s1 s2 0 0 fc ff
       → Handed (panelMesh file) (meshOf p1 t1 n1 c1 s1) (meshOf p2 t2 n2 c2 s2)
       (record { number = 0; positions = x .positions; textures = x .textures; normals = x .normals; corners = fc; faces = ff })
   unfolding panelMesh meshDrawn
@@ -184,22 +195,22 @@ read-accepted file e =
     accepted-faces (z .drawn .positions) (z .drawn .textures) (z .drawn .normals) (z .drawn .faces) (all-sane file .drawn) (when-not b 4 (first-head (when b 5) [] e2))
 
 -- before lists that are not short are at the full limits at least
-pub not-short : (p t n : List Float) (c s : List ℕ) → short (fullRoom (length p) (length t) (length n) (length c) (length s)) ≡ false → Full p t n c s
+pub not-short : (l : Mesh) → short (roomOf l) ≡ false → Full l
 unfolding short fullRoom
-not-short p t n c s e =
-    let a = ltb (length p) pointNumbers in
-    let b = ltb (length t) texelNumbers in
-    let d = ltb (length n) pointNumbers in
-    let f = ltb (length c) cornerNumbers in
-    let g = ltb (length s) faceLimit in
+not-short l e =
+    let a = ltb (length (l .positions)) pointNumbers in
+    let b = ltb (length (l .textures)) texelNumbers in
+    let d = ltb (length (l .normals)) pointNumbers in
+    let f = ltb (length (l .corners)) cornerNumbers in
+    let g = ltb (length (l .sizes)) faceLimit in
     let e1 : (b || (d || (f || (g || false)))) ≡ false = or-false-right a (b || (d || (f || (g || false)))) e in
     let e2 : (d || (f || (g || false))) ≡ false = or-false-right b (d || (f || (g || false))) e1 in
     let e3 : (f || (g || false)) ≡ false = or-false-right d (f || (g || false)) e2 in
     let e4 : (g || false) ≡ false = or-false-right f (g || false) e3 in
     record {
-      positions = ltb-false (length p) pointNumbers (or-false-left a (b || (d || (f || (g || false)))) e);
-      textures = ltb-false (length t) texelNumbers (or-false-left b (d || (f || (g || false))) e1);
-      normals = ltb-false (length n) pointNumbers (or-false-left d (f || (g || false)) e2);
-      corners = ltb-false (length c) cornerNumbers (or-false-left f (g || false) e3);
-      sizes = ltb-false (length s) faceLimit (or-false-left g false e4);
+      positions = ltb-false (length (l .positions)) pointNumbers (or-false-left a (b || (d || (f || (g || false)))) e);
+      textures = ltb-false (length (l .textures)) texelNumbers (or-false-left b (d || (f || (g || false))) e1);
+      normals = ltb-false (length (l .normals)) pointNumbers (or-false-left d (f || (g || false)) e2);
+      corners = ltb-false (length (l .corners)) cornerNumbers (or-false-left f (g || false) e3);
+      sizes = ltb-false (length (l .sizes)) faceLimit (or-false-left g false e4);
     }

@@ -1,0 +1,7 @@
+pub mod Ready
+pub mod Stopping
+pub mod Attributes
+pub mod Ends
+pub mod Rings
+pub mod Cases
+pub mod Known
