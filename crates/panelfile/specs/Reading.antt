@@ -11,7 +11,8 @@ use Rattle.mesh.specs.Mesh.{Mesh, meshOf}
 use Rattle.mesh.specs.Table.{when, firstOf, astrayAt, Lent, lent, short}
 use Rattle.grouping.specs.Push.{pushed}
 use Rattle.records.specs.Records.{recordFrom}
-unfoldable pub use Rattle.steps.specs.Taking.{Drawn, nothing, Reader, reader, limited, withPosition, withTexture, withNormal, withFace, takeFace, takeRecord}
+pub use Rattle.steps.specs.Taking.{Drawn, nothing, Reader, reader, limited, withPosition, withTexture, withNormal, withFace, takeFace}
+unfoldable pub use Rattle.steps.specs.Taking.{takeRecord}
 
 -- the reading goes on until a refusal or the end record
 abbrev pub going : Reader → Bool
