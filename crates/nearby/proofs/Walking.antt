@@ -7,7 +7,8 @@ use native.Mathlib.Omega.{arith}
 use lib.ListN.{length, getD, set, length-set}
 use Rattle.nearby.specs.Engine.{fresh, Next}
 use Rattle.nearby.proofs.Fresh.{fresh-near, fresh-new, fresh-not}
-use Rattle.nearby.proofs.Frames.{Good, work, frame-goes, frame-goes-less, next-small, room-left, depth-under, frame-comes, frame-comes-less}
+use Rattle.nearby.proofs.Frames.{Good, work}
+use Rattle.nearby.proofs.Depth.{frame-goes, frame-goes-less, next-small, room-left, depth-under, frame-comes, frame-comes-less}
 
 module _
     {r : ℕ → ℕ → Bool} {n : ℕ} {before : List ℕ} {start : ℕ} {order : List ℕ} {seen : List Bool} {node left : List ℕ} {taken depth next : ℕ}

@@ -12,7 +12,9 @@ use borrow.Author.Needs.{needs}
 use Rattle.nearby.specs.Walk.{groupFrom}
 use Rattle.nearby.specs.Engine.{nearBy}
 use Rattle.nearby.proofs.Flags.{room}
-use Rattle.nearby.proofs.Frames.{Good, work, started, ended, depth-in, node-in, left-in}
+use Rattle.nearby.proofs.Frames.{Good, work, ended}
+use Rattle.nearby.proofs.FirstFrame.{started}
+use Rattle.nearby.proofs.Depth.{depth-in, node-in, left-in}
 use Rattle.nearby.proofs.Walking.{goes, goes-less, next-in, taken-in, deeper-in, comes, comes-less, Long, long-begins, long-turns}
 use Rattle.nearby.proofs.create_component.Statement.{statement}
 use Rattle.nearby.proofs.create_component.Tie as tie
