@@ -33,13 +33,24 @@ pub struct Bounds {
     pub greatest: Point,
 }
 
+// The bits of an f64: its sign above all, then its exponent, then its fraction. The bit that a fraction leaves out stands for 1 where the
+// exponent is EXPONENT_OF_ONE; at EXPONENT_OF_WHOLE a number is just its bits; INFINITY is the greatest that are no NaN's.
+const SIGN: u64 = 0x8000_0000_0000_0000;
+const INFINITY: u64 = 0x7ff0_0000_0000_0000;
+const LEADING: u64 = 0x10_0000_0000_0000;
+const EXPONENT_OF_ONE: u64 = 1023;
+const EXPONENT_OF_WHOLE: u64 = 1075;
+
+// 2^53: what a quotient stays below.
+const QUOTIENT_LIMIT: u64 = 0x20_0000_0000_0000;
+
 // ---- bits
 
 // The f64 that 64 bits stand for; each pattern of a NaN gives the one NaN.
 pub fn of_bits(n: u64) -> f64
     ensures { λ r. ⌜ r ≡ ofBits binary64 n ⌝ }
 {
-    if n % 0x8000_0000_0000_0000 > 0x7ff0_0000_0000_0000 {
+    if n % SIGN > INFINITY {
         0.0 / 0.0
     } else {
         f64::from_bits(n)
@@ -285,14 +296,14 @@ fn whole_of_bits(b: u64) -> u64
     requires { ⌜ T (not (nanBits binary64 b)) ⌝ }
     ensures { λ r. ⌜ r ≡ wholeOf (ofBits binary64 b) ⌝ }
 {
-    let e = b % 0x8000_0000_0000_0000 / 0x10_0000_0000_0000;
-    let t = b % 0x10_0000_0000_0000;
-    if e < 1023 {
+    let e = b % SIGN / LEADING;
+    let t = b % LEADING;
+    if e < EXPONENT_OF_ONE {
         0
-    } else if e <= 1075 {
-        (0x10_0000_0000_0000 + t) >> (1075 - e)
+    } else if e <= EXPONENT_OF_WHOLE {
+        (LEADING + t) >> (EXPONENT_OF_WHOLE - e)
     } else {
-        0x20_0000_0000_0000
+        QUOTIENT_LIMIT
     }
 }
 
@@ -303,9 +314,9 @@ pub fn cell_of(q: f64) -> u64
 {
     let b = f64::to_bits(q);
     let n = whole_of_bits(b);
-    if b < 0x8000_0000_0000_0000 {
-        0x20_0000_0000_0000 + n
+    if b < SIGN {
+        QUOTIENT_LIMIT + n
     } else {
-        0x20_0000_0000_0000 - n
+        QUOTIENT_LIMIT - n
     }
 }

@@ -16,6 +16,7 @@ use Rattle.floating.specs.declared.Point.{Point}
 use Rattle.floating.specs.declared.Texel.{Texel}
 use Rattle.floating.specs.Points.{coordinates}
 use Rattle.records.specs.declared.Record.the-variants.{Position, Texture, Normal}
+use Rattle.records.specs.Lengths.{pointRecord, texelRecord}
 use Rattle.steps.specs.declared.Progress.{Progress}
 use Rattle.steps.specs.Taking.{Reader, reader, limited, takeRecord, withPosition, withTexture, withNormal}
 use Rattle.steps.specs.Working.{stoppedWith, Able, Holds, Stepped}
@@ -25,7 +26,7 @@ use Rattle.steps.proofs.Stopping.{stepped-stop, over-limit, length-of}
 
 abbrev pub atPosition : Progress → Progress
 atPosition x = record {
-  at = x .at + 28;
+  at = x .at + pointRecord;
   number = x .number;
   ended = x .ended;
   positions = x .positions + 1;
@@ -67,10 +68,10 @@ module _ (file : List ℕ) (x : Progress) (pt : Point) (l : Mesh) (a : Able (len
         let d = z .drawn .positions in
         let n : length d ≡ 3 * x .positions = length-of (3 * x .positions) (l .positions) d (omega arith) (k .positions) in
         let e : ltb pointNumbers (length d + 3) ≡ false = le-ltb pointNumbers (length d + 3) (omega arith) in
-        let drawn = reader (z .at + 28) 0 false (withPosition (coordinates pt) (z .drawn)) in
+        let drawn = reader (z .at + pointRecord) 0 false (withPosition (coordinates pt) (z .drawn)) in
         subst⁻¹ (λ (b : Bool). Holds (limited b z drawn) (atPosition x) with-position) e
         (record {
-          place = ap (λ (i : ℕ). i + 28) (k .place);
+          place = ap (λ (i : ℕ). i + pointRecord) (k .place);
           refusal = a .unrefused;
           end = a .unended;
           positions =
@@ -88,7 +89,7 @@ module _ (file : List ℕ) (x : Progress) (pt : Point) (l : Mesh) (a : Able (len
 
 abbrev pub atTexture : Progress → Progress
 atTexture x = record {
-  at = x .at + 20;
+  at = x .at + texelRecord;
   number = x .number;
   ended = x .ended;
   positions = x .positions;
@@ -130,10 +131,10 @@ module _ (file : List ℕ) (x : Progress) (tx : Texel) (l : Mesh) (a : Able (len
         let d = z .drawn .textures in
         let n : length d ≡ 2 * x .textures = length-of (2 * x .textures) (l .textures) d (omega arith) (k .textures) in
         let e : ltb texelNumbers (length d + 2) ≡ false = le-ltb texelNumbers (length d + 2) (omega arith) in
-        let drawn = reader (z .at + 20) 0 false (withTexture (tx .u ∷ tx .v ∷ []) (z .drawn)) in
+        let drawn = reader (z .at + texelRecord) 0 false (withTexture (tx .u ∷ tx .v ∷ []) (z .drawn)) in
         subst⁻¹ (λ (b : Bool). Holds (limited b z drawn) (atTexture x) with-texture) e
         (record {
-          place = ap (λ (i : ℕ). i + 20) (k .place);
+          place = ap (λ (i : ℕ). i + texelRecord) (k .place);
           refusal = a .unrefused;
           end = a .unended;
           positions = k .positions;
@@ -151,7 +152,7 @@ module _ (file : List ℕ) (x : Progress) (tx : Texel) (l : Mesh) (a : Able (len
 
 abbrev pub atNormal : Progress → Progress
 atNormal x = record {
-  at = x .at + 28;
+  at = x .at + pointRecord;
   number = x .number;
   ended = x .ended;
   positions = x .positions;
@@ -193,10 +194,10 @@ module _ (file : List ℕ) (x : Progress) (pt : Point) (l : Mesh) (a : Able (len
         let d = z .drawn .normals in
         let n : length d ≡ 3 * x .normals = length-of (3 * x .normals) (l .normals) d (omega arith) (k .normals) in
         let e : ltb pointNumbers (length d + 3) ≡ false = le-ltb pointNumbers (length d + 3) (omega arith) in
-        let drawn = reader (z .at + 28) 0 false (withNormal (coordinates pt) (z .drawn)) in
+        let drawn = reader (z .at + pointRecord) 0 false (withNormal (coordinates pt) (z .drawn)) in
         subst⁻¹ (λ (b : Bool). Holds (limited b z drawn) (atNormal x) with-normal) e
         (record {
-          place = ap (λ (i : ℕ). i + 28) (k .place);
+          place = ap (λ (i : ℕ). i + pointRecord) (k .place);
           refusal = a .unrefused;
           end = a .unended;
           positions = k .positions;

@@ -7,6 +7,7 @@ use native.Mathlib.Omega.{arith}
 use lib.ListN.{length}
 use Rattle.mesh.specs.Mesh.{Mesh}
 use Rattle.records.specs.declared.Record.the-variants.{End, Refused}
+use Rattle.records.specs.Lengths.{headerLength}
 use Rattle.steps.specs.declared.Progress.{Progress}
 use Rattle.steps.specs.Taking.{takeRecord}
 use Rattle.steps.specs.Working.{stoppedWith, Able, Stepped}
@@ -14,7 +15,7 @@ use Rattle.steps.proofs.Stopping.{stepped-stop}
 
 abbrev pub atEnd : Progress → Progress
 atEnd x = record {
-  at = x .at + 4;
+  at = x .at + headerLength;
   number = x .number;
   ended = true;
   positions = x .positions;
@@ -38,7 +39,7 @@ end-taken file x l a = record {
   moved = λ e i. omega arith;
   taken = λ z k.
       record {
-        place = ap (λ (i : ℕ). i + 4) (k .place);
+        place = ap (λ (i : ℕ). i + headerLength) (k .place);
         refusal = a .unrefused;
         end = refl;
         positions = k .positions;

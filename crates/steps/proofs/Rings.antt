@@ -16,6 +16,7 @@ use Rattle.mesh.specs.Mesh.{Mesh, Ring, meshOf}
 use Rattle.grouping.specs.Push.{cornerCount}
 use Rattle.grouping.proofs.Placing.{count-append}
 use Rattle.records.specs.declared.Record.the-variants.{Face}
+use Rattle.records.specs.Lengths.{cornerLength}
 use Rattle.records.specs.Records.{ringFrom}
 use Rattle.records.proofs.Ringing.{ring-flat, ring-length}
 use Rattle.steps.specs.declared.Progress.{Progress}
@@ -25,7 +26,7 @@ use Rattle.steps.proofs.Stopping.{stepped-stop, over-limit}
 
 abbrev pub pastFace : Progress → ℕ → ℕ → Progress
 pastFace x a n = record {
-  at = a + 12 * n;
+  at = a + cornerLength * n;
   number = x .number;
   ended = x .ended;
   positions = x .positions;
@@ -37,7 +38,7 @@ pastFace x a n = record {
 
 abbrev pub atFace : Progress → ℕ → ℕ → Progress
 atFace x a n = record {
-  at = a + 12 * n;
+  at = a + cornerLength * n;
   number = x .number;
   ended = x .ended;
   positions = x .positions;
@@ -118,7 +119,7 @@ module _ (file : List ℕ) (x : Progress) (i m : ℕ) (l : Mesh) (a : Able (leng
     taken = λ z k.
         let fs = z .drawn .faces in
         let u : ltb cornerLimit (cornerCount fs + m) ≡ false = le-ltb cornerLimit (cornerCount fs + m) (omega (arith, k .counted)) in
-        let drawn = reader (i + 12 * m) 0 false (withFace ring (z .drawn)) in
+        let drawn = reader (i + cornerLength * m) 0 false (withFace ring (z .drawn)) in
         subst⁻¹ (λ (b : Bool). Holds (takeFace b file i m z) (atFace x i m) with-face) (le-ltb m 3 g)
         (subst⁻¹ (λ (b : Bool). Holds (limited b z drawn) (atFace x i m) with-face) u
         (record {

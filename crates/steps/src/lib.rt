@@ -49,7 +49,7 @@ pub fn step(
         return refused(x, 1);
     }
     floating::put_point(p, positions, k);
-    let next = at + 28;
+    let next = at + records::POINT_RECORD;
     let more = k + 1;
     let mut y = x;
     y.at = next;
@@ -85,7 +85,7 @@ fn step_texture(
     let b = 2 * k;
     textures[b] = t.u;
     textures[b + 1] = t.v;
-    let next = at + 20;
+    let next = at + records::TEXEL_RECORD;
     let more = k + 1;
     let mut y = x;
     y.at = next;
@@ -117,7 +117,7 @@ fn step_normal(
         return refused(x, 1);
     }
     floating::put_point(p, normals, k);
-    let next = at + 28;
+    let next = at + records::POINT_RECORD;
     let more = k + 1;
     let mut y = x;
     y.at = next;
@@ -144,7 +144,7 @@ fn step_face(
     let m = n as usize;
     let c = x.corners;
     let f = x.faces;
-    let next = a + 12 * m;
+    let next = a + records::CORNER_LENGTH * m;
     let more = c + m;
     let mut y = x;
     y.at = next;
@@ -171,7 +171,7 @@ fn step_end(r: Record, x: Progress, size: usize) -> Progress
         return refused(x, records::number_of(r));
     };
     let at = x.at;
-    let next = at + 4;
+    let next = at + records::HEADER_LENGTH;
     let mut y = x;
     y.at = next;
     y.ended = true;
