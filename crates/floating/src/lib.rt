@@ -41,7 +41,12 @@ const LEADING: u64 = 0x10_0000_0000_0000;
 const EXPONENT_OF_ONE: u64 = 1023;
 const EXPONENT_OF_WHOLE: u64 = 1075;
 
-// 2^53: what a quotient stays below.
+// The least tolerance, 2^-30, and the greatest; the greatest magnitude of a coordinate, 2^60; what that of a quotient stays below, 2^53, as
+// a number and among the cells.
+const LEAST_TOLERANCE: f64 = 0.000000000931322574615478515625;
+const GREATEST_TOLERANCE: f64 = 1.0;
+const COORDINATE_MOST: f64 = 1152921504606846976.0;
+const QUOTIENT_EDGE: f64 = 9007199254740992.0;
 const QUOTIENT_LIMIT: u64 = 0x20_0000_0000_0000;
 
 // ---- bits
@@ -63,8 +68,8 @@ pub fn of_bits(n: u64) -> f64
 pub fn is_unfit(t: f64) -> bool
     ensures { λ r. ⌜ r ≡ unfit t ⌝ }
 {
-    if 0.000000000931322574615478515625 <= t {
-        if t <= 1.0 {
+    if LEAST_TOLERANCE <= t {
+        if t <= GREATEST_TOLERANCE {
             return false;
         }
     }
@@ -75,8 +80,8 @@ pub fn is_unfit(t: f64) -> bool
 pub fn is_boundless(x: f64) -> bool
     ensures { λ r. ⌜ r ≡ boundless x ⌝ }
 {
-    if -1152921504606846976.0 <= x {
-        if x <= 1152921504606846976.0 {
+    if -COORDINATE_MOST <= x {
+        if x <= COORDINATE_MOST {
             return false;
         }
     }
@@ -88,8 +93,8 @@ pub fn is_distant(t: f64, x: f64) -> bool
     ensures { λ r. ⌜ r ≡ distant t x ⌝ }
 {
     let q = x / t;
-    if -9007199254740992.0 < q {
-        if q < 9007199254740992.0 {
+    if -QUOTIENT_EDGE < q {
+        if q < QUOTIENT_EDGE {
             return false;
         }
     }

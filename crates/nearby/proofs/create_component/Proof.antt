@@ -1,4 +1,4 @@
--- `nearby::create_component` meets its contract, by the laws of `Flags`, `Frames` and `Walking`. Assumes nothing.
+-- `nearby::create_component` meets its contract, by the laws of `Flags`, `FirstFrame`, `Depth` and `Walking`. Assumes nothing.
 use mathlib.Core.Bool.{true}
 use mathlib.Core.Path.{sym, ap, _∙_, subst}
 use mathlib.Core.List.{List, _++_}
@@ -20,7 +20,8 @@ use Rattle.nearby.proofs.create_component.Statement.{statement}
 use Rattle.nearby.proofs.create_component.Tie as tie
 
 abbrev Inv-loop : tie.InvT-loop
-Inv-loop s w t cells n start done order₀ seen₀ node₀ left₀ taken₀ depth₀ order seen node left taken depth = Good (nearBy t w s cells) n (take done order₀) start order seen node left taken depth × Long order₀ seen₀ node₀ left₀ order seen node left
+Inv-loop s w t cells n start done order₀ seen₀ node₀ left₀ taken₀ depth₀ order seen node left taken depth =
+    Good (nearBy t w s cells) n (take done order₀) start order seen node left taken depth × Long order₀ seen₀ node₀ left₀ order seen node left
 
 abbrev μ-loop : tie.MeasureT-loop
 μ-loop s w t cells n start done order₀ seen₀ node₀ left₀ taken₀ depth₀ order seen node left taken depth = work n left taken depth
@@ -51,13 +52,18 @@ add-taken c =
 
 loop-holds : tie.Need-loop-holds Inv-loop μ-loop
 loop-holds c =
-    let args = c .before .before .before .before .before .before .args in
-    let pre = c .before .before .before .before .before .before .pre in (
-      subst (λ (b : List ℕ). Good (nearBy (args .t) (args .w) (now (args .s)) (now (args .cells))) (args .n) b (args .start) (set (now (args .order)) (args .done)
-          (args .start)) (set (now (args .seen)) (args .start) true) (set (now (args .node)) 0 (args .start)) (set (now (args .left)) 0 (args .n)) (args .done + 1) 1)
-          (sym (take-set-le (args .done) (now (args .order)) (args .done) (args .start) (le-refl (args .done)))) (started _ _ (now (args .order)) (now (args .seen)) (now
-          (args .node)) (now (args .left)) _ _ (pre .taken) (pre .node-room) (pre .left-room) (pre .inside) (pre .new) (pre .lowest)),
-      long-begins (set (now (args .order)) (args .done) (args .start)) (set (now (args .seen)) (args .start) true) (set (now (args .node)) 0 (args .start)) (set (now (args .left)) 0 (args .n)),
+    let start = c .before .before .before .before .before .before in
+    let args = start .args in
+    let pre = start .pre in
+    let order = now (args .order) in
+    let order' = set order (args .done) (args .start) in
+    let seen' = set (now (args .seen)) (args .start) true in
+    let node' = set (now (args .node)) 0 (args .start) in
+    let left' = set (now (args .left)) 0 (args .n) in (
+      subst (λ (b : List ℕ). Good (nearBy (args .t) (args .w) (now (args .s)) (now (args .cells))) (args .n) b (args .start) order' seen' node' left' (args .done + 1) 1)
+      (sym (take-set-le (args .done) order (args .done) (args .start) (le-refl (args .done))))
+      (started _ _ order (now (args .seen)) (now (args .node)) (now (args .left)) _ _ (pre .taken) (pre .node-room) (pre .left-room) (pre .inside) (pre .new) (pre .lowest)),
+      long-begins order' seen' node' left',
     )
 
 sub-top : tie.Need-sub-top Inv-loop μ-loop
@@ -321,8 +327,10 @@ returns c =
     record {
       taken = loop .inv .0 .held;
       lowest = loop .inv .0 .lowest;
-      list = ended (loop .inv .0) (omega (arith, test .left)) ∙ ap (λ (b : List ℕ). b ++ groupFrom (nearBy (args .t) (args .w) (now (args .s)) (now (args .cells)))
-          (args .n) b (args .start)) (take-set-le (args .done) (now (args .order)) (args .done) (args .start) (le-refl (args .done)));
+      list =
+          ended (loop .inv .0) (omega (arith, test .left))
+          ∙ ap (λ (b : List ℕ). b ++ groupFrom (nearBy (args .t) (args .w) (now (args .s)) (now (args .cells))) (args .n) b (args .start))
+          (take-set-le (args .done) (now (args .order)) (args .done) (args .start) (le-refl (args .done)));
     }
 
 pub create-component-spec : {M : Type 1} → statement M
