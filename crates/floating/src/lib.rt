@@ -36,17 +36,25 @@ pub struct Bounds {
 // The bits of an f64: its sign above all, then its exponent, then its fraction. The bit that a fraction leaves out stands for 1 where the
 // exponent is EXPONENT_OF_ONE; at EXPONENT_OF_WHOLE a number is just its bits; INFINITY is the greatest that are no NaN's.
 const SIGN: u64 = 0x8000_0000_0000_0000;
+
 const INFINITY: u64 = 0x7ff0_0000_0000_0000;
+
 const LEADING: u64 = 0x10_0000_0000_0000;
+
 const EXPONENT_OF_ONE: u64 = 1023;
+
 const EXPONENT_OF_WHOLE: u64 = 1075;
 
 // The least tolerance, 2^-30, and the greatest; the greatest magnitude of a coordinate, 2^60; what that of a quotient stays below, 2^53, as
 // a number and among the cells.
 const LEAST_TOLERANCE: f64 = 0.000000000931322574615478515625;
+
 const GREATEST_TOLERANCE: f64 = 1.0;
+
 const COORDINATE_MOST: f64 = 1152921504606846976.0;
+
 const QUOTIENT_EDGE: f64 = 9007199254740992.0;
+
 const QUOTIENT_LIMIT: u64 = 0x20_0000_0000_0000;
 
 // ---- bits

@@ -8,7 +8,9 @@ ghost use Rattle.little.specs.Little as little;
 
 // How many values a byte, two bytes and four bytes have.
 const BYTE_VALUES: u32 = 256;
+
 const HALF_VALUES: u32 = BYTE_VALUES * BYTE_VALUES;
+
 const WORD_VALUES: u64 = 4294967296;
 
 // ---- reading

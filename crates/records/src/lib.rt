@@ -20,14 +20,20 @@ use floating::Texel;
 // How many bytes a header has, a coordinate and a corner; the body of a position or a normal, of a texture point, and the longest of a face,
 // whose count is one byte.
 pub const HEADER_LENGTH: usize = 4;
+
 const COORDINATE_LENGTH: usize = 8;
+
 pub const CORNER_LENGTH: usize = 12;
+
 const POINT_LENGTH: usize = 3 * COORDINATE_LENGTH;
+
 const TEXEL_LENGTH: usize = 2 * COORDINATE_LENGTH;
+
 const LONGEST_FACE: usize = 1 + CORNER_LENGTH * 255;
 
 // How many bytes the records have: that of a position or a normal, and that of a texture point.
 pub const POINT_RECORD: usize = HEADER_LENGTH + POINT_LENGTH;
+
 pub const TEXEL_RECORD: usize = HEADER_LENGTH + TEXEL_LENGTH;
 
 // The last of the kinds, that of a face.

@@ -61,8 +61,8 @@ loop-holds c =
     let node' = set (now (args .node)) 0 (args .start) in
     let left' = set (now (args .left)) 0 (args .n) in (
       subst (λ (b : List ℕ). Good (nearBy (args .t) (args .w) (now (args .s)) (now (args .cells))) (args .n) b (args .start) order' seen' node' left' (args .done + 1) 1)
-      (sym (take-set-le (args .done) order (args .done) (args .start) (le-refl (args .done))))
-      (started _ _ order (now (args .seen)) (now (args .node)) (now (args .left)) _ _ (pre .taken) (pre .node-room) (pre .left-room) (pre .inside) (pre .new) (pre .lowest)),
+          (sym (take-set-le (args .done) order (args .done) (args .start) (le-refl (args .done))))
+          (started _ _ order (now (args .seen)) (now (args .node)) (now (args .left)) _ _ (pre .taken) (pre .node-room) (pre .left-room) (pre .inside) (pre .new) (pre .lowest)),
       long-begins order' seen' node' left',
     )
 

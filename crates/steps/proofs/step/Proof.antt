@@ -23,9 +23,10 @@ step-texture-requires c κs =
     let at-match = c .before .before .before .before in
     let start = at-match .before .before .before .before .before .before .before .before in
     let record-at = at-match .before .record-at in
-    let long = start .pre .long in
-    (able _ _ _ _ (start .pre) (record-at .ensures),
-    (after-position (record-at .result) (at-match .match .keys2), (long .textures, (long .normals, (long .corners, long .sizes)))))
+    let long = start .pre .long in (
+      able _ _ _ _ (start .pre) (record-at .ensures),
+      (after-position (record-at .result) (at-match .match .keys2), (long .textures, (long .normals, (long .corners, long .sizes)))),
+    )
 
 same-length : tie.Need-same-length
 same-length c = search needs

@@ -66,9 +66,10 @@ push-all-requires c κs =
     let start = on20 .before .before .before .before .before .before .before .before .before .before .before in
     let drawing = start .pre .0 in
     let full = start .pre .1 in
-    let w = drawing .within in
-    (own-sound _ _ _ drawing,
-    (omega (arith, front-corners _ _ _ drawing, w .corners, full .corners), omega (arith, front-sizes _ _ _ drawing, w .faces, w .corners, full .sizes)))
+    let w = drawing .within in (
+      own-sound _ _ _ drawing,
+      (omega (arith, front-corners _ _ _ drawing, w .corners, full .corners), omega (arith, front-sizes _ _ _ drawing, w .faces, w .corners, full .sizes)),
+    )
 
 same-length : tie.Need-same-length
 same-length c = search needs
