@@ -15,7 +15,7 @@ use Rattle.nearby.proofs.Flags.{room}
 use Rattle.nearby.proofs.Frames.{Good, work, ended}
 use Rattle.nearby.proofs.FirstFrame.{started}
 use Rattle.nearby.proofs.Depth.{depth-in, node-in, left-in}
-use Rattle.nearby.proofs.Walking.{goes, goes-less, next-in, taken-in, deeper-in, comes, comes-less, Long, long-begins, long-turns}
+use Rattle.nearby.proofs.Walking.{goes, goes-less, Inside, comes-inside, comes, comes-less, Long, long-begins, long-turns}
 use Rattle.nearby.proofs.create_component.Statement.{statement}
 use Rattle.nearby.proofs.create_component.Tie as tie
 
@@ -116,194 +116,63 @@ loop-again c =
 sub-j : tie.Need-sub-j Inv-loop μ-loop
 sub-j c = omega (arith, c .if1 .left)
 
+-- where a frame comes
+inside :
+    (c : tie.Else1 Inv-loop μ-loop) →
+    let at-loop = c .before .before .before .before .before .before in
+    let start = at-loop .before .before .before .before .before .before .before in
+    let loop = at-loop .loop in
+    Inside (start .args .n) (loop .taken) (loop .depth) (c .before .next-near .result) (loop .order) (loop .seen) (loop .node) (loop .left)
+inside c =
+    let at-test = c .before .before .before .before .before in
+    let start = at-test .before .before .before .before .before .before .before .before in
+    comes-inside (at-test .before .loop .inv .0) (at-test .loop-test .taken) (c .before .next-near .ensures) (c .if1 .left) (start .pre .listed .points .few)
+
 mul-left : tie.Need-mul-left Inv-loop μ-loop
-mul-left c =
-    let pre = c .before .before .before .before .before .before .before .before .before .before .before .before .before .pre in
-    let loop = c .before .before .before .before .before .before .loop in
-    let test = c .before .before .before .before .before .loop-test in
-    let next-near = c .before .next-near in
-    let if1 = c .if1 in
-    omega (
-      arith,
-      deeper-in (loop .inv .0) (test .taken) (next-near .ensures) (if1 .left),
-      taken-in (loop .inv .0) (test .taken) (next-near .ensures) (if1 .left),
-      next-in (loop .inv .0) (test .taken) (next-near .ensures) (if1 .left),
-      pre .listed .points .few,
-    )
+mul-left c = let i = inside c in omega (arith, i .point, i .place, i .frame, i .few)
 
 slice-write-left-2 : tie.Need-slice-write-left-2 Inv-loop μ-loop
-slice-write-left-2 c =
-    let pre = c .before .before .before .before .before .before .before .before .before .before .before .before .before .pre in
-    let loop = c .before .before .before .before .before .before .loop in
-    let test = c .before .before .before .before .before .loop-test in
-    let next-near = c .before .next-near in
-    let if1 = c .if1 in
-    omega (
-      arith,
-      deeper-in (loop .inv .0) (test .taken) (next-near .ensures) (if1 .left),
-      taken-in (loop .inv .0) (test .taken) (next-near .ensures) (if1 .left),
-      next-in (loop .inv .0) (test .taken) (next-near .ensures) (if1 .left),
-      pre .listed .points .few,
-      loop .inv .0 .left-room,
-    )
+slice-write-left-2 c = let i = inside c in omega (arith, i .point, i .place, i .frame, i .few, i .left-room)
 
 mul-order-2 : tie.Need-mul-order-2 Inv-loop μ-loop
-mul-order-2 c =
-    let pre = c .before .before .before .before .before .before .before .before .before .before .before .before .before .pre in
-    let loop = c .before .before .before .before .before .before .loop in
-    let test = c .before .before .before .before .before .loop-test in
-    let next-near = c .before .next-near in
-    let if1 = c .if1 in
-    omega (
-      arith,
-      deeper-in (loop .inv .0) (test .taken) (next-near .ensures) (if1 .left),
-      taken-in (loop .inv .0) (test .taken) (next-near .ensures) (if1 .left),
-      next-in (loop .inv .0) (test .taken) (next-near .ensures) (if1 .left),
-      pre .listed .points .few,
-    )
+mul-order-2 c = let i = inside c in omega (arith, i .point, i .place, i .frame, i .few)
 
 slice-write-order-2 : tie.Need-slice-write-order-2 Inv-loop μ-loop
-slice-write-order-2 c =
-    let pre = c .before .before .before .before .before .before .before .before .before .before .before .before .before .pre in
-    let loop = c .before .before .before .before .before .before .loop in
-    let test = c .before .before .before .before .before .loop-test in
-    let next-near = c .before .next-near in
-    let if1 = c .if1 in
-    omega (
-      arith,
-      deeper-in (loop .inv .0) (test .taken) (next-near .ensures) (if1 .left),
-      taken-in (loop .inv .0) (test .taken) (next-near .ensures) (if1 .left),
-      next-in (loop .inv .0) (test .taken) (next-near .ensures) (if1 .left),
-      pre .listed .points .few,
-      loop .inv .0 .held .order-room,
-    )
+slice-write-order-2 c = let i = inside c in omega (arith, i .point, i .place, i .frame, i .few, i .order-room)
 
 slice-write-seen-2 : tie.Need-slice-write-seen-2 Inv-loop μ-loop
-slice-write-seen-2 c =
-    let pre = c .before .before .before .before .before .before .before .before .before .before .before .before .before .pre in
-    let loop = c .before .before .before .before .before .before .loop in
-    let test = c .before .before .before .before .before .loop-test in
-    let next-near = c .before .next-near in
-    let if1 = c .if1 in
-    omega (
-      arith,
-      deeper-in (loop .inv .0) (test .taken) (next-near .ensures) (if1 .left),
-      taken-in (loop .inv .0) (test .taken) (next-near .ensures) (if1 .left),
-      next-in (loop .inv .0) (test .taken) (next-near .ensures) (if1 .left),
-      pre .listed .points .few,
-      loop .inv .0 .held .seen-room,
-    )
+slice-write-seen-2 c = let i = inside c in omega (arith, i .point, i .place, i .frame, i .few, i .seen-room)
 
 mul-node : tie.Need-mul-node Inv-loop μ-loop
-mul-node c =
-    let pre = c .before .before .before .before .before .before .before .before .before .before .before .before .before .pre in
-    let loop = c .before .before .before .before .before .before .loop in
-    let test = c .before .before .before .before .before .loop-test in
-    let next-near = c .before .next-near in
-    let if1 = c .if1 in
-    omega (
-      arith,
-      deeper-in (loop .inv .0) (test .taken) (next-near .ensures) (if1 .left),
-      taken-in (loop .inv .0) (test .taken) (next-near .ensures) (if1 .left),
-      next-in (loop .inv .0) (test .taken) (next-near .ensures) (if1 .left),
-      pre .listed .points .few,
-    )
+mul-node c = let i = inside c in omega (arith, i .point, i .place, i .frame, i .few)
 
 slice-write-node-2 : tie.Need-slice-write-node-2 Inv-loop μ-loop
-slice-write-node-2 c =
-    let pre = c .before .before .before .before .before .before .before .before .before .before .before .before .before .pre in
-    let loop = c .before .before .before .before .before .before .loop in
-    let test = c .before .before .before .before .before .loop-test in
-    let next-near = c .before .next-near in
-    let if1 = c .if1 in
-    omega (
-      arith,
-      deeper-in (loop .inv .0) (test .taken) (next-near .ensures) (if1 .left),
-      taken-in (loop .inv .0) (test .taken) (next-near .ensures) (if1 .left),
-      next-in (loop .inv .0) (test .taken) (next-near .ensures) (if1 .left),
-      pre .listed .points .few,
-      loop .inv .0 .node-room,
-    )
+slice-write-node-2 c = let i = inside c in omega (arith, i .point, i .place, i .frame, i .few, i .node-room)
 
 mul-left-2 : tie.Need-mul-left-2 Inv-loop μ-loop
-mul-left-2 c =
-    let pre = c .before .before .before .before .before .before .before .before .before .before .before .before .before .pre in
-    let loop = c .before .before .before .before .before .before .loop in
-    let test = c .before .before .before .before .before .loop-test in
-    let next-near = c .before .next-near in
-    let if1 = c .if1 in
-    omega (
-      arith,
-      deeper-in (loop .inv .0) (test .taken) (next-near .ensures) (if1 .left),
-      taken-in (loop .inv .0) (test .taken) (next-near .ensures) (if1 .left),
-      next-in (loop .inv .0) (test .taken) (next-near .ensures) (if1 .left),
-      pre .listed .points .few,
-    )
+mul-left-2 c = let i = inside c in omega (arith, i .point, i .place, i .frame, i .few)
 
 slice-write-left-3 : tie.Need-slice-write-left-3 Inv-loop μ-loop
-slice-write-left-3 c =
-    let pre = c .before .before .before .before .before .before .before .before .before .before .before .before .before .pre in
-    let loop = c .before .before .before .before .before .before .loop in
-    let test = c .before .before .before .before .before .loop-test in
-    let next-near = c .before .next-near in
-    let if1 = c .if1 in
-    simp length-set
-    (omega (
-      arith,
-      deeper-in (loop .inv .0) (test .taken) (next-near .ensures) (if1 .left),
-      taken-in (loop .inv .0) (test .taken) (next-near .ensures)
-          (if1 .left),
-      next-in (loop .inv .0) (test .taken) (next-near .ensures) (if1 .left),
-      pre .listed .points .few,
-      loop .inv .0 .left-room,
-    ))
+slice-write-left-3 c = let i = inside c in simp length-set (omega (arith, i .point, i .place, i .frame, i .few, i .left-room))
 
 add-taken-2 : tie.Need-add-taken-2 Inv-loop μ-loop
-add-taken-2 c =
-    let pre = c .before .before .before .before .before .before .before .before .before .before .before .before .before .pre in
-    let loop = c .before .before .before .before .before .before .loop in
-    let test = c .before .before .before .before .before .loop-test in
-    let next-near = c .before .next-near in
-    let if1 = c .if1 in
-    omega (
-      arith,
-      deeper-in (loop .inv .0) (test .taken) (next-near .ensures) (if1 .left),
-      taken-in (loop .inv .0) (test .taken) (next-near .ensures) (if1 .left),
-      next-in (loop .inv .0) (test .taken) (next-near .ensures) (if1 .left),
-      pre .listed .points .few,
-    )
+add-taken-2 c = let i = inside c in omega (arith, i .point, i .place, i .frame, i .few)
 
 add-depth : tie.Need-add-depth Inv-loop μ-loop
-add-depth c =
-    let pre = c .before .before .before .before .before .before .before .before .before .before .before .before .before .pre in
-    let loop = c .before .before .before .before .before .before .loop in
-    let test = c .before .before .before .before .before .loop-test in
-    let next-near = c .before .next-near in
-    let if1 = c .if1 in
-    omega (
-      arith,
-      deeper-in (loop .inv .0) (test .taken) (next-near .ensures) (if1 .left),
-      taken-in (loop .inv .0) (test .taken) (next-near .ensures) (if1 .left),
-      next-in (loop .inv .0) (test .taken) (next-near .ensures) (if1 .left),
-      pre .listed .points .few,
-    )
+add-depth c = let i = inside c in omega (arith, i .point, i .place, i .frame, i .few)
 
 loop-less-2 : tie.Need-loop-less-2 Inv-loop μ-loop
 loop-less-2 c =
-    let loop = c .before .before .before .before .before .before .loop in
-    let test = c .before .before .before .before .before .loop-test in
-    let next-near = c .before .next-near in
-    let if1 = c .if1 in
-    comes-less (loop .inv .0) (test .taken) (next-near .ensures) (if1 .left)
+    let at-test = c .before .before .before .before .before in
+    comes-less (at-test .before .loop .inv .0) (at-test .loop-test .taken) (c .before .next-near .ensures) (c .if1 .left)
 
 loop-again-2 : tie.Need-loop-again-2 Inv-loop μ-loop
 loop-again-2 c =
-    let args = c .before .before .before .before .before .before .before .before .before .before .before .before .before .args in
-    let loop = c .before .before .before .before .before .before .loop in
-    let test = c .before .before .before .before .before .loop-test in
-    let next-near = c .before .next-near in
-    let if1 = c .if1 in (
-      comes (loop .inv .0) (test .taken) (next-near .ensures) (if1 .left),
+    let at-test = c .before .before .before .before .before in
+    let loop = at-test .before .loop in
+    let args = at-test .before .before .before .before .before .before .before .before .args in
+    let next-near = c .before .next-near in (
+      comes (loop .inv .0) (at-test .loop-test .taken) (next-near .ensures) (c .if1 .left),
       long-turns _ _ _ _ (loop .order) (loop .seen) (loop .node) (loop .left) (loop .taken) (next-near .result - 1) (loop .depth - 1) (loop .depth) (args .n) (loop .inv .1),
     )
 
