@@ -3,7 +3,7 @@
 use mathlib.Core.Path.{_≡_, refl, sym, ap, _∙_, subst}
 use mathlib.Core.Bool.{Bool, true, false, not, _&&_, _||_}
 use Prim.Native.Nat.{ℕ, suc, _+_, _*_, _/_, _^_, _≤_, _<_}
-use native.Mathlib.Nat.{mul-pos, mul-le-mul-right, mul-le-mul, mul-lt-mul-of-pos-right, le-of-mul-le-mul-right, lt-of-mul-lt-mul-right, mul-div-cancel}
+use native.Mathlib.Nat.{le-trans, mul-pos, mul-le-mul-right, mul-le-mul, mul-lt-mul-of-pos-right, le-of-mul-le-mul-right, lt-of-mul-lt-mul-right, mul-div-cancel}
 use native.Mathlib.Omega.{arith}
 use lib.IntN.{ℤ, pos, negsuc}
 use lib.Dec.{T, ltb, eqb}
@@ -19,6 +19,7 @@ use Rattle.floating.specs.Scaling.{lesser, greater}
 use Rattle.floating.proofs.Units.{Held, held, round-value, round-upto}
 use Rattle.floating.proofs.Heights.{height, over, lt-height}
 use Rattle.floating.proofs.Roundings.{power-exact}
+use Rattle.floating.proofs.Middle.{middle}
 use Rattle.floating.proofs.Within.{Scaled, scaled}
 
 -- ---- a float's sign and its number of units
@@ -187,5 +188,6 @@ module _ (f : Format) where
         → tall p ≤ tall g
         → Scaled f (mul f (power (pos 1)) (div f (sub f p (add f l (div f (sub f g l) (power (pos 1))))) (greater (sub f g l) (power (pos 0)))))
     axis l p g a b c h k =
-        scaled f M B fine (omega arith) (omega arith) l p g (signOf l) (signOf p) (signOf g) (unitsOf l) (unitsOf p) (unitsOf g)
-        (a .value) (b .value) (c .value) (a .exact) (c .exact) (a .small) (b .small) (c .small) h k
+        scaled f M B fine (omega arith) (omega arith) l p g (signOf p) (unitsOf p) (b .value) (b .small) (tall l) (tall g) h k
+        (middle f M B fine (omega arith) l g (signOf l) (signOf g) (unitsOf l) (unitsOf g)
+        (a .value) (c .value) (a .exact) (c .exact) (a .small) (c .small) (le-trans h k))

@@ -8,6 +8,7 @@ pub mod Boxes
 pub mod Units
 pub mod Heights
 pub mod Roundings
+pub mod Middle
 pub mod Within
 pub mod Upto
 pub mod Bounded

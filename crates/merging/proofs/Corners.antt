@@ -14,7 +14,7 @@ use Rattle.lists.specs.Lists.{joined}
 use Rattle.lists.proofs.Bools.{by-cases}
 use Rattle.lists.proofs.Parts.{joined-append}
 use Rattle.lists.proofs.Writing.{sets-append}
-use Rattle.mesh.specs.Limits.{width}
+use Rattle.mesh.specs.Limits.{width, cornerNumbers}
 use Rattle.mesh.specs.Mesh.{Corner, missing, cornersIn, cornerAt}
 use Rattle.mesh.proofs.Corners.{length-cornersIn, getD-cornersIn}
 use Rattle.merging.specs.Merging.{unlessMissing}
@@ -39,6 +39,20 @@ pub record Writing (cs p t n out out' : List ℕ) (k : ℕ) : Type 0 where
   pub within : k ≤ length cs / width
   pub written : out' ≡ sets out 0 (joined (map (sentCorner p t n) (take k (cornersIn cs))))
   pub long : length out' ≡ length out
+
+-- corner k has its numbers in the list cs, and its places in the list out
+pub record Inside (cs out : List ℕ) (k : ℕ) : Type 0 where
+  pub few : length cs ≤ cornerNumbers
+  pub read : width * k + width ≤ length cs
+  pub write : width * k + width ≤ length out
+
+pub write-inside :
+    (cs p t n out out' : List ℕ) (k : ℕ) → Indexed cs p t n out → k < length cs / width → Writing cs p t n out out' k → Inside cs out' k
+write-inside cs p t n out out' k i h g = record {
+  few = i .few;
+  read = omega (arith, i .even);
+  write = omega (arith, i .even, i .room, g .long);
+}
 
 module _ (cs p t n out : List ℕ) where
   pub write-begins : Writing cs p t n out out 0

@@ -1,3 +1,6 @@
 pub mod Sane
 pub mod Looping
+pub mod Fronts
 pub mod Ending
+pub mod Handing
+pub mod Calling

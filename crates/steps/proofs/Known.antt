@@ -20,7 +20,9 @@ use Rattle.records.specs.Records.{ringFrom, numberOf}
 use Rattle.records.proofs.Record.{the-type}
 use Rattle.steps.specs.declared.Progress.{Progress}
 use Rattle.steps.specs.Working.{caseOf, stoppedWith, Able, Stepped}
-use Rattle.steps.proofs.Attributes.{atPosition, position-over, position-taken, atTexture, texture-over, texture-taken, atNormal, normal-over, normal-taken}
+use Rattle.steps.proofs.Positions.{atPosition, position-over, position-taken}
+use Rattle.steps.proofs.Textures.{atTexture, texture-over, texture-taken}
+use Rattle.steps.proofs.Normals.{atNormal, normal-over, normal-taken}
 use Rattle.steps.proofs.Ends.{atEnd, end-taken, refusal-taken}
 use Rattle.steps.proofs.Rings.{pastFace, atFace, face-dropped, face-over, face-taken}
 use Rattle.steps.proofs.Cases.{not-end}

@@ -1,6 +1,8 @@
 pub mod Ready
 pub mod Stopping
-pub mod Attributes
+pub mod Positions
+pub mod Textures
+pub mod Normals
 pub mod Ends
 pub mod Rings
 pub mod Cases

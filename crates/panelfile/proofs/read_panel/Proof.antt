@@ -1,6 +1,6 @@
 -- `panelfile::read_panel` meets its contract: rooms first, then the number at the end, then the mesh. Assumes nothing.
 use mathlib.Core.Path.{sym, _∙_}
-use Rattle.panelfile.proofs.Ending.{call-short, call-refused, call-done, not-short}
+use Rattle.panelfile.proofs.Calling.{call-short, call-refused, call-done, not-short}
 use borrow.Author.Needs.{needs}
 use Rattle.panelfile.proofs.read_panel.Statement.{statement}
 use Rattle.panelfile.proofs.read_panel.Tie as tie

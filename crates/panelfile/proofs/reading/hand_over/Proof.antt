@@ -1,6 +1,7 @@
 -- `panelfile::reading::hand_over` meets its contract: the fronts of the reader's own lists are what was drawn, and the faces are grouped. Assumes nothing.
 use mathlib.Core.Path.{sym}
-use Rattle.panelfile.proofs.Ending.{front-positions, front-textures, front-normals, front-corners, front-sizes, own-sound, handed}
+use Rattle.panelfile.proofs.Fronts.{front-positions, front-textures, front-normals, front-corners, front-sizes, own-sound}
+use Rattle.panelfile.proofs.Handing.{handed}
 use native.Mathlib.Omega.{arith}
 use borrow.Author.Needs.{needs}
 use Rattle.panelfile.proofs.reading.hand_over.Statement.{statement}

@@ -1,6 +1,7 @@
 -- `panelfile::reading::number_at_end` meets its contract: row by row; the indices are looked at over the corners of all faces that are kept. Assumes nothing.
 use mathlib.Core.Path.{sym, _∙_}
-use Rattle.panelfile.proofs.Ending.{front-positions, front-textures, front-normals, front-corners, front-sizes, own-astray, end-refused, end-follows, end-astray, end-well}
+use Rattle.panelfile.proofs.Fronts.{front-positions, front-textures, front-normals, front-corners, front-sizes, own-astray}
+use Rattle.panelfile.proofs.Ending.{end-refused, end-follows, end-astray, end-well}
 use native.Mathlib.Omega.{arith}
 use Rattle.panelfile.proofs.reading.number_at_end.Statement.{statement}
 use Rattle.panelfile.proofs.reading.number_at_end.Tie as tie
