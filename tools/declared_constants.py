@@ -53,8 +53,8 @@ NUMBER_ROWS = {
     ("QUOTIENT", "Quotient"): (MERGING, r"when \(anyDistant m t\) (\d+)"),
     ("ROOM", "Room"): (COMPACTION, r"when \(tooShort m r\) (\d+)"),
     ("NO_HOUSE_WIRES", "NoHouseWires"): (HOUSE, r"when \(unwired m\) (\d+)"),
-    ("FILE_CUT", "FileCut"): (RECORDS, r"when \(ltb \(length s - at\) 4\) (\d+)"),
-    ("RECORD", "Record"): (RECORDS, r"when \(ltb 4 kind\) (\d+)"),
+    ("FILE_CUT", "FileCut"): (RECORDS, r"when \(ltb \(length s - at\) headerLength\) (\d+)"),
+    ("RECORD", "Record"): (RECORDS, r"when \(ltb lastKind kind\) (\d+)"),
     ("AFTER_END", "AfterEnd"): (READING, r"when \(ltb \(x \.at\) \(length s\)\) (\d+)"),
 }
 VERDICTS = ("Irregular", "Regular", "Oriented", "Closed")

@@ -18,9 +18,9 @@ pub taken : {A : Type 0} (P : A → Type 0) (a b : A) → b ≡ a → P a → P 
 taken P a b e h = subst P (sym e) h
 
 pub merged :
-    (m : Mesh) (t : Float) (before afterwards : List ℕ) (a b : Merged) → b ≡ a → PutTogether m t before a afterwards
-    → PutTogether m t before b afterwards
-merged m t before afterwards a b e h = taken (λ (x : Merged). PutTogether m t before x afterwards) a b e h
+    (m : Mesh) (t : Float) (before afterwards : List ℕ) (a b : Merged) → b ≡ a → PutTogether m t before afterwards a
+    → PutTogether m t before afterwards b
+merged m t before afterwards a b e h = taken (λ (x : Merged). PutTogether m t before afterwards x) a b e h
 
 -- wires of either kind
 pub wired :

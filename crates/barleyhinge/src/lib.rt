@@ -141,7 +141,7 @@ pub extern "C" fn bh_put_together_same_attrs(
     texturepairs: &mut usize,
     normalpairs: &mut usize,
 ) -> u32
-    ensures { λ r. ⌜ PutTogether (meshOf (now (positions .entry)) (now (textures .entry)) (now (normals .entry)) (now (corners .entry)) (now (sizes .entry))) tolerance (now (newcorners .entry)) (answer.mergedBy r (now (positionpairs .exit)) (now (texturepairs .exit)) (now (normalpairs .exit))) (now (newcorners .exit)) ⌝ }
+    ensures { λ r. ⌜ PutTogether (meshOf (now (positions .entry)) (now (textures .entry)) (now (normals .entry)) (now (corners .entry)) (now (sizes .entry))) tolerance (now (newcorners .entry)) (now (newcorners .exit)) (answer.mergedBy r (now (positionpairs .exit)) (now (texturepairs .exit)) (now (normalpairs .exit))) ⌝ }
 {
     let merged = merging::put_together_same_attrs(
         positions,

@@ -80,7 +80,7 @@ abbrev pub mergingCall : Call
 mergingCall = record {
   Given = Mesh × Float × List ℕ;
   Result = Merged × List ℕ;
-  Allows = λ g r. PutTogether (g .0) (g .1) (g .2) (r .0) (r .1);
+  Allows = λ g r. PutTogether (g .0) (g .1) (g .2) (r .1) (r .0);
 }
 
 -- `edges::shell_condition`

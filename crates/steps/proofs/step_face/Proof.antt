@@ -1,14 +1,15 @@
--- `panelfile::steps::step_face` meets its contract: a face is dropped, stops at the limit or is drawn; every other case is the next function's. Assumes nothing.
+-- `steps::step_face` meets its contract: a face is dropped, stops at the limit or is drawn; every other case is the next function's. Assumes nothing.
 use mathlib.Core.Path.{refl, subst}
 use Prim.Native.Nat.{_≤_}
 use lib.ListN.{length}
 use Rattle.records.specs.declared.Record.{Record}
 use Rattle.records.specs.Records.{endOf, Placed}
-use Rattle.panelfile.proofs.Stepping.{after-face, face-drop, face-stop, face-step}
+use Rattle.steps.proofs.Cases.{after-face}
+use Rattle.steps.proofs.Known.{face-drop, face-stop, face-step}
 use native.Mathlib.Omega.{arith}
 use borrow.Author.Needs.{needs}
-use Rattle.panelfile.proofs.steps.step_face.Statement.{statement}
-use Rattle.panelfile.proofs.steps.step_face.Tie as tie
+use Rattle.steps.proofs.step_face.Statement.{statement}
+use Rattle.steps.proofs.step_face.Tie as tie
 
 enum-known-r : tie.Need-enum-known-r
 enum-known-r c = search needs
@@ -17,7 +18,7 @@ step-end-requires : tie.Need-step-end-requires
 step-end-requires c κs = (c .before .before .before .before .pre .0, after-face (c .before .before .before .before .args .r) (c .before .before .before .before .pre .1 .0) (c .match .keys2))
 
 returns : tie.Need-returns
-returns c = λ p t n. c .step-end .ensures _ p t n _ _ refl
+returns c = λ p t n. c .step-end .ensures _ _ refl
 
 cast-m : tie.Need-cast-m
 cast-m c = search needs
@@ -38,7 +39,7 @@ add-more c =
     omega (arith, start .pre .0 .within .corners, subst (λ (r : Record). Placed ((start .args .x) .at) r) (at-r .r .given .1) (start .pre .0 .placed) .1)
 
 returns-2 : tie.Need-returns-2
-returns-2 c = λ p t n. face-drop _ _ _ p t n _ _ (c .before .before .before .before .before .before .before .pre .0) _ _ (c .before .before .r .given .1) (c .if1 .taken)
+returns-2 c = λ p t n. face-drop _ _ _ _ (c .before .before .before .before .before .before .before .pre .0) _ _ (c .before .before .r .given .1) (c .if1 .taken)
 
 refused-requires : tie.Need-refused-requires
 refused-requires c κs = search needs
@@ -48,7 +49,7 @@ returns-3 c =
     let at-if2 = c .before in
     let at-r = at-if2 .before .before .before in
     let start = at-r .before .before .before .before .before in
-    λ p t n. face-stop _ _ _ p t n _ _ (start .pre .0) _ _ (at-r .r .given .1) (at-if2 .before .if1 .left) (at-if2 .if2 .taken) _ (c .refused .ensures)
+    λ p t n. face-stop _ _ _ _ (start .pre .0) _ _ (at-r .r .given .1) (at-if2 .before .if1 .left) (at-if2 .if2 .taken) _ (c .refused .ensures)
 
 put-ring-requires : tie.Need-put-ring-requires
 put-ring-requires c κs =
@@ -83,7 +84,9 @@ returns-4 c =
     let at-if2 = at-put-ring .before .before in
     let at-r = at-if2 .before .before .before in
     let start = at-r .before .before .before .before .before in
-    λ p t n. face-step _ _ _ p t n _ _ (start .pre .0) _ _ (at-r .r .given .1) (at-if2 .before .if1 .left) (at-if2 .if2 .left) (start .pre .1 .1 .0) (start .pre .1 .1 .1) _ (at-put-ring .put-ring .ensures)
+    λ p t n.
+    face-step _ _ _ _ (start .pre .0) _ _ (at-r .r .given .1) (at-if2 .before .if1 .left) (at-if2 .if2 .left)
+    (start .pre .1 .1 .0) (start .pre .1 .1 .1) _ (at-put-ring .put-ring .ensures)
 
 pub step-face-spec : {M : Type 1} → statement M
 step-face-spec =

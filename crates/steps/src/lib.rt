@@ -1,15 +1,28 @@
-// One step of the reader: the record at its place is taken apart, case by case; a refusal stops the reading there, with its number.
+// One step of the reader of the panel file: the record at its place is taken apart, case by case, and drawn into lists of the reader's own;
+// a refusal stops the reading there, with its number. The definitions that a caller cites stand in specs/Taking.antt.
 ghost use mathlib.Core.Path.{_≡_};
-ghost use mathlib.Core.Bool.{false};
 ghost use mathlib.Core.List.{List};
 ghost use Prim.Native.Nat.{ℕ, _+_, _*_, _≤_, _<_};
 ghost use lib.ListN.{length};
 ghost use lib.Ieee.{Float};
 ghost use Rattle.mesh.specs.Limits.{faceLimit, pointNumbers, texelNumbers, cornerNumbers};
+ghost use Rattle.mesh.specs.Mesh.{Mesh, meshOf};
 ghost use Rattle.records.specs.Records.{recordFrom};
-ghost use Rattle.panelfile.specs.Working.{caseOf, stoppedWith, Within, Able, Long, Stepped};
-use crate::Progress;
+ghost use Rattle.steps.specs.Working.{caseOf, stoppedWith, Able, Ready, Stepped};
 use records::Record;
+
+// How far the reading is: the next record's place, the number of a refusal, whether the end record was met, and how many
+// positions, texture points, normals, corners and faces are drawn.
+pub struct Progress {
+    pub at: usize,
+    pub number: u32,
+    pub ended: bool,
+    pub positions: usize,
+    pub textures: usize,
+    pub normals: usize,
+    pub corners: usize,
+    pub faces: usize,
+}
 
 // The record at the reader's place.
 pub fn step(
@@ -21,8 +34,10 @@ pub fn step(
     sizes: &mut [u32],
     x: Progress,
 ) -> Progress
-    requires { ⌜ Within (length (now file)) x × ((x .number ≡ 0) × ((x .ended ≡ false) × Long (now positions) (now textures) (now normals) (now corners) (now sizes))) ⌝ }
-    ensures { λ y. ⌜ Stepped (now (file .entry)) (recordFrom (now (file .entry)) (x .at)) x y (now (positions .entry)) (now (positions .exit)) (now (textures .entry)) (now (textures .exit)) (now (normals .entry)) (now (normals .exit)) (now (corners .entry)) (now (corners .exit)) (now (sizes .entry)) (now (sizes .exit)) ⌝ }
+    requires { ⌜ Ready (length (now file)) x (meshOf (now positions) (now textures) (now normals) (now corners) (now sizes)) ⌝ }
+    ensures { λ y. ⌜ Stepped (now (file .entry)) (recordFrom (now (file .entry)) (x .at)) x y
+        (meshOf (now (positions .entry)) (now (textures .entry)) (now (normals .entry)) (now (corners .entry)) (now (sizes .entry)))
+        (meshOf (now (positions .exit)) (now (textures .exit)) (now (normals .exit)) (now (corners .exit)) (now (sizes .exit))) ⌝ }
 {
     let at = x.at;
     let r = records::record_at(file, at);
@@ -34,7 +49,7 @@ pub fn step(
         return refused(x, 1);
     }
     floating::put_point(p, positions, k);
-    let next = at + 28;
+    let next = at + records::POINT_RECORD;
     let more = k + 1;
     let mut y = x;
     y.at = next;
@@ -52,8 +67,12 @@ fn step_texture(
     sizes: &mut [u32],
     x: Progress,
 ) -> Progress
-    requires { ⌜ Able (length (now file)) r x × ((1 ≤ caseOf r) × ((length (now textures) ≡ texelNumbers) × ((length (now normals) ≡ pointNumbers) × ((length (now corners) ≡ cornerNumbers) × (length (now sizes) ≡ faceLimit))))) ⌝ }
-    ensures { λ y. ⌜ ((p : List Float) → Stepped (now (file .entry)) r x y p p (now (textures .entry)) (now (textures .exit)) (now (normals .entry)) (now (normals .exit)) (now (corners .entry)) (now (corners .exit)) (now (sizes .entry)) (now (sizes .exit))) ⌝ }
+    requires { ⌜ Able (length (now file)) r x × ((1 ≤ caseOf r)
+        × ((length (now textures) ≡ texelNumbers) × ((length (now normals) ≡ pointNumbers)
+        × ((length (now corners) ≡ cornerNumbers) × (length (now sizes) ≡ faceLimit))))) ⌝ }
+    ensures { λ y. ⌜ ((p : List Float) → Stepped (now (file .entry)) r x y
+        (meshOf p (now (textures .entry)) (now (normals .entry)) (now (corners .entry)) (now (sizes .entry)))
+        (meshOf p (now (textures .exit)) (now (normals .exit)) (now (corners .exit)) (now (sizes .exit)))) ⌝ }
 {
     let Record::Texture(t) = r else {
         return step_normal(file, r, normals, corners, sizes, x);
@@ -66,7 +85,7 @@ fn step_texture(
     let b = 2 * k;
     textures[b] = t.u;
     textures[b + 1] = t.v;
-    let next = at + 20;
+    let next = at + records::TEXEL_RECORD;
     let more = k + 1;
     let mut y = x;
     y.at = next;
@@ -83,8 +102,11 @@ fn step_normal(
     sizes: &mut [u32],
     x: Progress,
 ) -> Progress
-    requires { ⌜ Able (length (now file)) r x × ((2 ≤ caseOf r) × ((length (now normals) ≡ pointNumbers) × ((length (now corners) ≡ cornerNumbers) × (length (now sizes) ≡ faceLimit)))) ⌝ }
-    ensures { λ y. ⌜ ((p t : List Float) → Stepped (now (file .entry)) r x y p p t t (now (normals .entry)) (now (normals .exit)) (now (corners .entry)) (now (corners .exit)) (now (sizes .entry)) (now (sizes .exit))) ⌝ }
+    requires { ⌜ Able (length (now file)) r x × ((2 ≤ caseOf r) × ((length (now normals) ≡ pointNumbers)
+        × ((length (now corners) ≡ cornerNumbers) × (length (now sizes) ≡ faceLimit)))) ⌝ }
+    ensures { λ y. ⌜ ((p t : List Float) → Stepped (now (file .entry)) r x y
+        (meshOf p t (now (normals .entry)) (now (corners .entry)) (now (sizes .entry)))
+        (meshOf p t (now (normals .exit)) (now (corners .exit)) (now (sizes .exit)))) ⌝ }
 {
     let Record::Normal(p) = r else {
         return step_face(file, r, corners, sizes, x);
@@ -95,7 +117,7 @@ fn step_normal(
         return refused(x, 1);
     }
     floating::put_point(p, normals, k);
-    let next = at + 28;
+    let next = at + records::POINT_RECORD;
     let more = k + 1;
     let mut y = x;
     y.at = next;
@@ -112,7 +134,9 @@ fn step_face(
     x: Progress,
 ) -> Progress
     requires { ⌜ Able (length (now file)) r x × ((3 ≤ caseOf r) × ((length (now corners) ≡ cornerNumbers) × (length (now sizes) ≡ faceLimit))) ⌝ }
-    ensures { λ y. ⌜ ((p t n : List Float) → Stepped (now (file .entry)) r x y p p t t n n (now (corners .entry)) (now (corners .exit)) (now (sizes .entry)) (now (sizes .exit))) ⌝ }
+    ensures { λ y. ⌜ ((p t n : List Float) → Stepped (now (file .entry)) r x y
+        (meshOf p t n (now (corners .entry)) (now (sizes .entry)))
+        (meshOf p t n (now (corners .exit)) (now (sizes .exit)))) ⌝ }
 {
     let Record::Face(a, n) = r else {
         return step_end(r, x, file.len());
@@ -120,7 +144,7 @@ fn step_face(
     let m = n as usize;
     let c = x.corners;
     let f = x.faces;
-    let next = a + 12 * m;
+    let next = a + records::CORNER_LENGTH * m;
     let more = c + m;
     let mut y = x;
     y.at = next;
@@ -141,13 +165,13 @@ fn step_face(
 // The end record, or a refusal: the reading stops there, with its number.
 fn step_end(r: Record, x: Progress, size: usize) -> Progress
     requires { ⌜ Able size r x × (4 ≤ caseOf r) ⌝ }
-    ensures { λ y. ⌜ ((file : List ℕ) (p t n : List Float) (c s : List ℕ) → length file ≡ size → Stepped file r x y p p t t n n c c s s) ⌝ }
+    ensures { λ y. ⌜ ((file : List ℕ) (l : Mesh) → length file ≡ size → Stepped file r x y l l) ⌝ }
 {
     let Record::End = r else {
         return refused(x, records::number_of(r));
     };
     let at = x.at;
-    let next = at + 4;
+    let next = at + records::HEADER_LENGTH;
     let mut y = x;
     y.at = next;
     y.ended = true;

@@ -1,14 +1,15 @@
--- `panelfile::steps::step_texture` meets its contract: a texture point is drawn or stops at the limit; every other case is the next function's. Assumes nothing.
+-- `steps::step_texture` meets its contract: a texture point is drawn or stops at the limit; every other case is the next function's. Assumes nothing.
 use mathlib.Core.Path.{subst}
 use Prim.Native.Nat.{_≤_}
 use lib.ListN.{length, length-set}
 use Rattle.records.specs.declared.Record.{Record}
 use Rattle.records.specs.Records.{endOf}
-use Rattle.panelfile.proofs.Stepping.{after-texture, texture-stop, texture-step}
+use Rattle.steps.proofs.Cases.{after-texture}
+use Rattle.steps.proofs.Known.{texture-stop, texture-step}
 use native.Mathlib.Omega.{arith}
 use borrow.Author.Needs.{needs}
-use Rattle.panelfile.proofs.steps.step_texture.Statement.{statement}
-use Rattle.panelfile.proofs.steps.step_texture.Tie as tie
+use Rattle.steps.proofs.step_texture.Statement.{statement}
+use Rattle.steps.proofs.step_texture.Tie as tie
 
 enum-known-r : tie.Need-enum-known-r
 enum-known-r c = search needs
@@ -39,7 +40,7 @@ returns-2 c =
     let at-if1 = c .before in
     let at-r = at-if1 .before .before in
     let start = at-r .before .before .before .before .before .before .before in
-    λ p. texture-stop _ _ _ p _ _ _ _ (start .pre .0) _ (at-r .r .given .1) (start .pre .1 .1 .0) (at-if1 .if1 .taken) _ (c .refused .ensures)
+    λ p. texture-stop _ _ _ _ (start .pre .0) _ (at-r .r .given .1) (start .pre .1 .1 .0) (at-if1 .if1 .taken) _ (c .refused .ensures)
 
 mul-b : tie.Need-mul-b
 mul-b c = search needs
@@ -75,7 +76,7 @@ returns-3 : tie.Need-returns-3
 returns-3 c =
     let at-r = c .before .before in
     let start = at-r .before .before .before .before .before .before .before in
-    λ p. texture-step _ _ _ p _ _ _ _ (start .pre .0) _ (at-r .r .given .1) (start .pre .1 .1 .0) (c .if1 .left)
+    λ p. texture-step _ _ _ _ (start .pre .0) _ (at-r .r .given .1) (start .pre .1 .1 .0) (c .if1 .left)
 
 pub step-texture-spec : {M : Type 1} → statement M
 step-texture-spec =

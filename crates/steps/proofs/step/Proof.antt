@@ -1,15 +1,16 @@
--- `panelfile::steps::step` meets its contract: a position is drawn or stops at the limit; every other case is the next function's. Assumes nothing.
-use Rattle.panelfile.proofs.Stepping.{stepped-at, after-position, position-stop, position-step}
+-- `steps::step` meets its contract: a position is drawn or stops at the limit; every other case is the next function's. Assumes nothing.
 use mathlib.Core.Path.{subst}
 use Prim.Native.Nat.{_≤_}
 use lib.ListN.{length}
 use Rattle.records.specs.declared.Record.{Record}
 use Rattle.records.specs.Records.{endOf}
-use Rattle.panelfile.proofs.Taking.{able}
+use Rattle.steps.proofs.Ready.{able}
+use Rattle.steps.proofs.Cases.{after-position}
+use Rattle.steps.proofs.Known.{stepped-at, position-stop, position-step}
 use native.Mathlib.Omega.{arith}
 use borrow.Author.Needs.{needs}
-use Rattle.panelfile.proofs.steps.step.Statement.{statement}
-use Rattle.panelfile.proofs.steps.step.Tie as tie
+use Rattle.steps.proofs.step.Statement.{statement}
+use Rattle.steps.proofs.step.Tie as tie
 
 record-at-requires : tie.Need-record-at-requires
 record-at-requires c κs = search needs
@@ -21,7 +22,11 @@ step-texture-requires : tie.Need-step-texture-requires
 step-texture-requires c κs =
     let at-match = c .before .before .before .before in
     let start = at-match .before .before .before .before .before .before .before .before in
-    (able _ _ _ (start .pre .0) (start .pre .1 .0) (start .pre .1 .1 .0) (at-match .before .record-at .ensures), (after-position (at-match .before .record-at .result) (at-match .match .keys2), (start .pre .1 .1 .1 .textures, (start .pre .1 .1 .1 .normals, (start .pre .1 .1 .1 .corners, start .pre .1 .1 .1 .sizes)))))
+    let record-at = at-match .before .record-at in
+    let long = start .pre .long in (
+      able _ _ _ _ (start .pre) (record-at .ensures),
+      (after-position (record-at .result) (at-match .match .keys2), (long .textures, (long .normals, (long .corners, long .sizes)))),
+    )
 
 same-length : tie.Need-same-length
 same-length c = search needs
@@ -39,7 +44,7 @@ returns : tie.Need-returns
 returns c =
     let at-step-texture = c .before .before .before .before .before .before .before .before in
     let at-record-at = at-step-texture .before .before .before .before .before .before in
-    stepped-at _ _ _ _ _ _ _ _ _ _ _ _ _ _ _ (at-record-at .record-at .ensures) (at-step-texture .step-texture .ensures _)
+    stepped-at _ _ _ _ _ _ _ (at-record-at .record-at .ensures) (at-step-texture .step-texture .ensures _)
 
 refused-requires : tie.Need-refused-requires
 refused-requires c κs = search needs
@@ -50,17 +55,20 @@ returns-2 c =
     let at-r = at-if1 .before .before in
     let at-record-at = at-r .before .before in
     let start = at-record-at .before .before .before .before .before .before .before in
-    stepped-at _ _ _ _ _ _ _ _ _ _ _ _ _ _ _ (at-record-at .record-at .ensures) (position-stop _ _ _ _ _ _ _ _ (able _ _ _ (start .pre .0) (start .pre .1 .0) (start .pre .1 .1 .0) (at-record-at .record-at .ensures)) _ (at-r .r .given .1) (start .pre .1 .1 .1 .positions) (at-if1 .if1 .taken) _ (c .refused .ensures))
+    let is = at-record-at .record-at .ensures in
+    stepped-at _ _ _ _ _ _ _ is
+    (position-stop _ _ _ _ (able _ _ _ _ (start .pre) is) _ (at-r .r .given .1) (start .pre .long .positions) (at-if1 .if1 .taken) _ (c .refused .ensures))
 
 put-point-requires : tie.Need-put-point-requires
-put-point-requires c κs = omega (arith, c .before .before .before .before .before .before .before .before .before .before .before .before .pre .1 .1 .1 .positions, c .before .if1 .left)
+put-point-requires c κs = omega (arith, c .before .before .before .before .before .before .before .before .before .before .before .before .pre .long .positions, c .before .if1 .left)
 
 add-next : tie.Need-add-next
 add-next c =
     let at-r = c .before .before .before .before .before .before in
     let at-record-at = at-r .before .before in
     let start = at-record-at .before .before .before .before .before .before .before in
-    omega (arith, subst (λ (r : Record). endOf ((start .args .x) .at) r ≤ length (start .args .file .now)) (at-r .r .given .1) (able _ _ _ (start .pre .0) (start .pre .1 .0) (start .pre .1 .1 .0) (at-record-at .record-at .ensures) .fits))
+    let fits = able _ _ _ _ (start .pre) (at-record-at .record-at .ensures) .fits in
+    omega (arith, subst (λ (r : Record). endOf ((start .args .x) .at) r ≤ length (start .args .file .now)) (at-r .r .given .1) fits)
 
 add-more : tie.Need-add-more
 add-more c = search needs
@@ -75,7 +83,10 @@ returns-3 c =
     let at-r = at-if1 .before .before in
     let at-record-at = at-r .before .before in
     let start = at-record-at .before .before .before .before .before .before .before in
-    stepped-at _ _ _ _ _ _ _ _ _ _ _ _ _ _ _ (at-record-at .record-at .ensures) (position-step _ _ _ _ _ _ _ _ (able _ _ _ (start .pre .0) (start .pre .1 .0) (start .pre .1 .1 .0) (at-record-at .record-at .ensures)) _ (at-r .r .given .1) (start .pre .1 .1 .1 .positions) (at-if1 .if1 .left) _ (at-put-point .put-point .ensures))
+    let is = at-record-at .record-at .ensures in
+    stepped-at _ _ _ _ _ _ _ is
+    (position-step _ _ _ _ (able _ _ _ _ (start .pre) is) _ (at-r .r .given .1) (start .pre .long .positions) (at-if1 .if1 .left) _
+    (at-put-point .put-point .ensures))
 
 pub step-spec : {M : Type 1} → statement M
 step-spec =

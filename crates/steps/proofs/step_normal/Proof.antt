@@ -1,14 +1,15 @@
--- `panelfile::steps::step_normal` meets its contract: a normal is drawn or stops at the limit; every other case is the next function's. Assumes nothing.
+-- `steps::step_normal` meets its contract: a normal is drawn or stops at the limit; every other case is the next function's. Assumes nothing.
 use mathlib.Core.Path.{subst}
 use Prim.Native.Nat.{_≤_}
 use lib.ListN.{length}
 use Rattle.records.specs.declared.Record.{Record}
 use Rattle.records.specs.Records.{endOf}
-use Rattle.panelfile.proofs.Stepping.{after-normal, normal-stop, normal-step}
+use Rattle.steps.proofs.Cases.{after-normal}
+use Rattle.steps.proofs.Known.{normal-stop, normal-step}
 use native.Mathlib.Omega.{arith}
 use borrow.Author.Needs.{needs}
-use Rattle.panelfile.proofs.steps.step_normal.Statement.{statement}
-use Rattle.panelfile.proofs.steps.step_normal.Tie as tie
+use Rattle.steps.proofs.step_normal.Statement.{statement}
+use Rattle.steps.proofs.step_normal.Tie as tie
 
 enum-known-r : tie.Need-enum-known-r
 enum-known-r c = search needs
@@ -36,7 +37,7 @@ returns-2 c =
     let at-if1 = c .before in
     let at-r = at-if1 .before .before in
     let start = at-r .before .before .before .before .before .before in
-    λ p t. normal-stop _ _ _ p t _ _ _ (start .pre .0) _ (at-r .r .given .1) (start .pre .1 .1 .0) (at-if1 .if1 .taken) _ (c .refused .ensures)
+    λ p t. normal-stop _ _ _ _ (start .pre .0) _ (at-r .r .given .1) (start .pre .1 .1 .0) (at-if1 .if1 .taken) _ (c .refused .ensures)
 
 put-point-requires : tie.Need-put-point-requires
 put-point-requires c κs = omega (arith, c .before .before .before .before .before .before .before .before .before .pre .1 .1 .0, c .before .if1 .left)
@@ -59,7 +60,7 @@ returns-3 c =
     let at-if1 = at-put-point .before .before in
     let at-r = at-if1 .before .before in
     let start = at-r .before .before .before .before .before .before in
-    λ p t. normal-step _ _ _ p t _ _ _ (start .pre .0) _ (at-r .r .given .1) (start .pre .1 .1 .0) (at-if1 .if1 .left) _ (at-put-point .put-point .ensures)
+    λ p t. normal-step _ _ _ _ (start .pre .0) _ (at-r .r .given .1) (start .pre .1 .1 .0) (at-if1 .if1 .left) _ (at-put-point .put-point .ensures)
 
 pub step-normal-spec : {M : Type 1} → statement M
 step-normal-spec =
