@@ -6,6 +6,7 @@ pub mod Chains
 pub mod Classes
 pub mod Copies
 pub mod Counting
+pub mod Fronts
 pub mod Growing
 pub mod Mapping
 pub mod Members
