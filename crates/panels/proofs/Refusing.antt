@@ -58,11 +58,11 @@ module _ (m : Mesh) (normals : Bool) (flat lengths : List ℕ) where
         refusal 9 (sym (first-on (meshNumber m) (when tight 9 ∷ []) z ∙ row-given tight 8 [] t)) (λ q. omega arith) r
 
     pub refused-flat :
-        meshNumber m ≡ 0 → length flat < room → answer ≡ refusedBy 9
+        (k : ℕ) → k ≡ meshNumber m → k ≡ 0 → length flat < room → answer ≡ refusedBy 9
         → PanelsAnswer m normals (listedOf flat lengths) (listedOf flat lengths) answer
-    refused-flat z h r = refused-room z (first-short (length flat) room _ _ h) r
+    refused-flat k e z h r = refused-room (sym e ∙ z) (first-short (length flat) room (length lengths) room h) r
 
     pub refused-lengths :
-        meshNumber m ≡ 0 → room ≤ length flat → length lengths < room → answer ≡ refusedBy 9
+        (k : ℕ) → k ≡ meshNumber m → k ≡ 0 → room ≤ length flat → length lengths < room → answer ≡ refusedBy 9
         → PanelsAnswer m normals (listedOf flat lengths) (listedOf flat lengths) answer
-    refused-lengths z g h r = refused-room z (second-short (length flat) room (length lengths) room g h) r
+    refused-lengths k e z g h r = refused-room (sym e ∙ z) (second-short (length flat) room (length lengths) room g h) r

@@ -11,7 +11,7 @@ use lib.Seq.{sets, length-take-le}
 use borrow.Author.Tests.{ltb-true}
 use Rattle.lists.specs.Lists.{joined, sum}
 use Rattle.lists.proofs.Parts.{every-at}
-use Rattle.lists.proofs.Fronts.{front}
+use Rattle.lists.proofs.Fronts.{Front, front}
 use Rattle.mesh.specs.Limits.{width, cornerLimit}
 use Rattle.mesh.specs.Mesh.{Mesh, Ring, rings, faces}
 use Rattle.mesh.specs.Listed.{listedOf}
@@ -74,7 +74,9 @@ module _ (normals : Bool) (cs s flat lengths : List ℕ) (k : PanelRoom cs s fla
     row-counts g = sym (length-take-le n row′ (row-inside g))
 
     row-is : take n row′ ≡ flatRow
-    row-is = front row (w .written) (omega (arith, w .behind)) (omega (arith, w .behind, row-few)) .is
+    row-is =
+        let f : Front row′ flatRow n = front row (w .written) (omega (arith, w .behind)) (omega (arith, w .behind, row-few)) in
+        f .is
 
     pub row-divides : Divisible (take n row′) (length s) flat lengths
     row-divides =
@@ -122,12 +124,12 @@ module _ (m : Mesh) (a : Accepted m) (flat lengths : List ℕ) (g : length (m .c
       record { keyable = keyable m a; faces-room = omega arith; panels-room = omega arith }
 
   pub answered :
-      (normals : Bool) (f p : ℕ) (flat′ lengths′ : List ℕ) → meshNumber m ≡ 0
+      (normals : Bool) (k f p : ℕ) (flat′ lengths′ : List ℕ) → k ≡ meshNumber m → k ≡ 0
       → Parted (panels normals (rings (m .sizes) (m .corners))) flat lengths flat′ lengths′ f p
       → PanelsAnswer m normals (listedOf flat lengths) (listedOf flat′ lengths′) (record { number = 0; faces = f; panels = p })
   unfolding faces
-  answered normals f p flat′ lengths′ z r = record {
-    number = number-0 m normals flat lengths z g l;
+  answered normals k f p flat′ lengths′ e z r = record {
+    number = number-0 m normals flat lengths (sym e ∙ z) g l;
     face-count = r .faces-are;
     panel-count = r .count-is;
     flat = r .flat-is;

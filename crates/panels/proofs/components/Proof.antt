@@ -31,7 +31,7 @@ returns-2 c =
     let zero = c .before .before .if1 .left in
     let given = c .before .before .before .before .before .before .before .before .before .before .before .args in
     let mesh = meshOf (given .positions .now) (given .textures .now) (given .normals .now) (given .corners .now) (given .sizes .now) in
-    refused-flat mesh (given .use-normal) _ _ _ (sym (number .ensures) ∙ zero) (c .before .if2 .taken) (c .refused2 .ensures)
+    refused-flat mesh (given .use-normal) _ _ _ _ (number .ensures) zero (c .before .if2 .taken) (c .refused2 .ensures)
 
 refused-requires-3 : tie.Need-refused-requires-3
 refused-requires-3 c κs = search needs
@@ -42,7 +42,7 @@ returns-3 c =
     let zero = c .before .before .before .if1 .left in
     let given = c .before .before .before .before .before .before .before .before .before .before .before .before .args in
     let mesh = meshOf (given .positions .now) (given .textures .now) (given .normals .now) (given .corners .now) (given .sizes .now) in
-    refused-lengths mesh (given .use-normal) _ _ _ (sym (number .ensures) ∙ zero) (c .before .before .if2 .left) (c .before .if3 .taken)
+    refused-lengths mesh (given .use-normal) _ _ _ _ (number .ensures) zero (c .before .before .if2 .left) (c .before .if3 .taken)
     (c .refused3 .ensures)
 
 components-of-requires : tie.Need-components-of-requires
@@ -66,9 +66,8 @@ returns-4 c =
     let zero = c .before .before .before .before .before .before .before .before .before .if1 .left in
     let given = c .before .before .before .before .before .before .before .before .before .before .before .before .before .before .before .before .before .before .args in
     let mesh = meshOf (given .positions .now) (given .textures .now) (given .normals .now) (given .corners .now) (given .sizes .now) in
-    let clear = sym (number .ensures) ∙ zero in
-    answered mesh (accepted mesh clear) _ _ (c .before .before .before .before .before .before .before .before .if2 .left)
-    (c .before .before .before .before .before .before .before .if3 .left) (given .use-normal) _ _ _ _ clear (parted .ensures)
+    answered mesh (accepted mesh (sym (number .ensures) ∙ zero)) _ _ (c .before .before .before .before .before .before .before .before .if2 .left)
+    (c .before .before .before .before .before .before .before .if3 .left) (given .use-normal) _ _ _ _ _ (number .ensures) zero (parted .ensures)
 
 pub components-spec : {M : Type 1} → statement M
 components-spec =
