@@ -142,8 +142,8 @@ def rooms_of_rule(text, name):
     for behind in re.split(r"\blent ", found[1])[1:]:
         _, rest = term(behind)
         room, _ = term(rest)
-        room = re.sub(r"\b(?:length|cornerCount) \(m \.(\w+)\)", lambda w: f"({w[1]} / width)" if "cornerCount" in w[0] else w[1], room)
-        rooms.append(re.sub(r"\blength ([cs])\b", lambda w: {"c": "corners", "s": "sizes"}[w[1]], room))
+        list_of = r"\b(?:length|cornerCount) \((?:m|given) \.(\w+)\)"
+        rooms.append(re.sub(list_of, lambda w: f"({w[1]} / width)" if "cornerCount" in w[0] else w[1], room))
     return rooms
 
 

@@ -7,6 +7,7 @@ pub mod Classes
 pub mod Copies
 pub mod Counting
 pub mod CountingUp
+pub mod Fronts
 pub mod Growing
 pub mod Mapping
 pub mod Members

@@ -13,8 +13,9 @@ use Rattle.lists.proofs.Alike.{some-alike, some-map}
 use Rattle.mesh.specs.Mesh.{Ring}
 use Rattle.edges.specs.Edges.{ringEdges}
 use Rattle.keys.specs.Keys.{Key, sameKey, keyOf, faceKeys}
-use Rattle.panels.specs.Panels.{panels, together}
+use Rattle.panels.specs.Panels.{panels}
 use Rattle.lists.proofs.Chains.{Reach, here, step, reach-one}
+use Rattle.lists.proofs.Classes.{together}
 use Rattle.panels.specs.Promises.{keyIn, Share}
 use Rattle.panels.proofs.Sharing.{sameKey-refl, key-below}
 use Rattle.panels.proofs.Panelled.{together-share, share-together}

@@ -7,9 +7,10 @@ use lib.Dec.{eqb}
 use lib.ListN.{length, getD}
 use Rattle.lists.specs.Lists.{has, some, joined, count}
 use Rattle.lists.proofs.Chains.{Reach}
+use Rattle.lists.proofs.Classes.{together}
 use Rattle.mesh.specs.Mesh.{Ring}
 use Rattle.keys.specs.Keys.{Key, sameKey, faceKeys}
-use Rattle.panels.specs.Panels.{panels, together}
+use Rattle.panels.specs.Panels.{panels}
 
 -- each face stands in exactly one panel, once
 abbrev pub EachFaceOnce : Bool → List Ring → Type 0

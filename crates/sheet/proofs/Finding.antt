@@ -15,6 +15,7 @@ use Rattle.lists.proofs.Bools.{by-cases}
 use Rattle.lists.proofs.Parts.{length-joined}
 use Rattle.mesh.specs.Limits.{width, cornerLimit, faceLimit}
 use Rattle.mesh.specs.Mesh.{Mesh, faces, positionCount, textureCount, normalCount}
+use Rattle.mesh.specs.Listed.{listedOf}
 use Rattle.mesh.specs.Table.{after, short, when}
 use Rattle.mesh.proofs.Accepted.{Accepted, accepted}
 use Rattle.mesh.proofs.After.{after-done, after-refused}
@@ -44,8 +45,8 @@ after-length (suc n) l xs = refl
 
 module _ {m : Mesh} {flat flat₁ flat₂ lengths lengths₁ lengths₂ out : List ℕ} {pn pf panel number numbers wires : ℕ}
     (room : WireRoom m flat lengths out)
-    (parted : panelling.Answered m false flat lengths pn pf panel flat₁ lengths₁)
-    (traced : HouseAnswer m flat₁ lengths₁ flat₂ lengths₂ number numbers wires) where
+    (parted : panelling.PanelsAnswer m false (listedOf flat lengths) (listedOf flat₁ lengths₁) (record { number = pn; faces = pf; panels = panel }))
+    (traced : HouseAnswer m (listedOf flat₁ lengths₁) (listedOf flat₂ lengths₂) (record { number = number; flat = numbers; wires = wires })) where
   abbrev a : Accepted m
   a = accepted m (room .ready .accepted)
 
@@ -57,7 +58,7 @@ module _ {m : Mesh} {flat flat₁ flat₂ lengths lengths₁ lengths₂ out : Li
       rw (parted .number, room .ready .accepted, le-ltb (length flat) (length (m .corners) / width) (omega (arith, room .numbers, a .limits .corners)), le-ltb (length lengths) (length (m .corners) / width) (omega (arith, room .wires, a .limits .corners)))
 
   parts-count : panel ≡ length (panels false (faces m))
-  parts-count = parted .panels ∙ after-done _ _ _ parts-done
+  parts-count = parted .panel-count ∙ after-done _ _ _ parts-done
 
   pub parts-few : panel ≤ faceLimit
   unfolding panels faces
