@@ -116,7 +116,7 @@ sheet-room f flat lengths out n h r =
             length-append (mesh ++ verdict) panels,
             length-append mesh verdict,
             line-long "mesh" (f .positions ∷ f .textures ∷ f .normals ∷ f .faces ∷ [])
-            (four-small (f .positions) (f .textures) (f .normals) (f .faces) (n .positions) (n .textures) (n .normals) (n .faces)),
+                (four-small (f .positions) (f .textures) (f .normals) (f .faces) (n .positions) (n .textures) (n .normals) (n .faces)),
             verdict-long (verdictOf (f .verdict)),
             line-long "panels" (f .panels ∷ []) (one-small (f .panels) (n .panels)),
             lines-long (f .number) lengths flat h,
