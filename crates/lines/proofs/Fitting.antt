@@ -13,7 +13,7 @@ use Rattle.text.specs.Text.{bytes, decimal, decimalIn, spaced, line, Room, Writ
 use Rattle.text.proofs.Decimals.{few-digits}
 use Rattle.text.proofs.Putting.{numberText, spaced-numbers, room-first, room-then, written-then}
 use Rattle.lines.specs.declared.Findings.{Findings}
-use Rattle.lines.specs.Lines.{meshLine, verdictLine, panelsLine, hemLine, hemLines, sheetText, refusal}
+use Rattle.lines.specs.Lines.{meshLine, verdictLine, panelsLine, hemLine, hemLines, sheetText, sheetRoom, refusal}
 use Rattle.lines.specs.Working.{parts, wiresBy, foundBy, Ready, Sheeted}
 
 -- a text that is written from the front of a list that has room for it
@@ -115,14 +115,15 @@ sheet-room f flat lengths out n h r =
             length-append (mesh ++ verdict ++ panels) hems,
             length-append (mesh ++ verdict) panels,
             length-append mesh verdict,
-            line-long "mesh" (f .positions ∷ f .textures ∷ f .normals ∷ f .faces ∷ []) (four-small (f .positions) (f .textures) (f .normals) (f .faces) (n .positions) (n .textures) (n .normals) (n .faces)),
+            line-long "mesh" (f .positions ∷ f .textures ∷ f .normals ∷ f .faces ∷ [])
+                (four-small (f .positions) (f .textures) (f .normals) (f .faces) (n .positions) (n .textures) (n .normals) (n .faces)),
             verdict-long (verdictOf (f .verdict)),
             line-long "panels" (f .panels ∷ []) (one-small (f .panels) (n .panels)),
             lines-long (f .number) lengths flat h,
           );
     }
 
-pub refusal-room : (n : ℕ) (out : List ℕ) → n < 4294967296 → 65536 ≤ length out → Room (refusal n) out 0
+pub refusal-room : (n : ℕ) (out : List ℕ) → n < 4294967296 → sheetRoom ≤ length out → Room (refusal n) out 0
 unfolding refusal
 refusal-room n out h r = record { fits = omega (arith, line-long "refused" (n ∷ []) (one-small n h)) }
 

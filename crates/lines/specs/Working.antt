@@ -1,4 +1,4 @@
--- What the functions of the crate hand to one another; a caller needs none of it. Assumes nothing.
+-- The steps of the code, and no rules of document 01: what its functions hand to one another. Assumes nothing.
 use Prim.Native.Nat.{ℕ, _≤_}
 use mathlib.Core.Path.{_≡_}
 use mathlib.Core.Option.{Option, none, some}
@@ -11,7 +11,7 @@ use Rattle.mesh.specs.Table.{after}
 use Rattle.edges.specs.Answers.{verdictOf}
 use Rattle.text.specs.Text.{Room}
 use Rattle.lines.specs.declared.Findings.{Findings}
-use Rattle.lines.specs.Lines.{Found, hemLines}
+use Rattle.lines.specs.Lines.{Found, hemLines, sheetRoom}
 
 -- the wires of a flat list: each takes as many numbers as its length says
 abbrev pub parts : List ℕ → List ℕ → List (List ℕ)
@@ -44,7 +44,7 @@ pub record Ready (flat lengths out : List ℕ) : Type 0 where
   pub within : sum lengths ≤ length flat
   pub few : length flat ≤ cornerLimit
   pub few-wires : length lengths ≤ cornerLimit
-  pub room : 65536 ≤ length out
+  pub room : sheetRoom ≤ length out
 
 -- the text stands at the front of the list, n bytes long, and fits in it
 pub record Sheeted (text out out′ : List ℕ) (n : ℕ) : Type 0 where

@@ -8,7 +8,7 @@ ghost use Prim.Native.Nat.{_≤_};
 ghost use lib.ListN.{length};
 ghost use Rattle.edges.specs.Answers.{verdictOf};
 ghost use Rattle.text.specs.Text.{Room, Written};
-ghost use Rattle.lines.specs.Lines.{meshLine, verdictLine, panelsLine, hemLine, hemLines, sheetText, refusal};
+ghost use Rattle.lines.specs.Lines.{meshLine, verdictLine, panelsLine, hemLine, hemLines, sheetText, sheetRoom, refusal};
 ghost use Rattle.lines.specs.Working.{parts, wiresBy, foundBy, Wired, Ready, Sheeted};
 use edges::ShellCondition;
 
@@ -45,7 +45,7 @@ pub fn put_sheet(found: Findings, flat: &[u32], lengths: &[u32], out: &mut [u8])
 
 // The whole sheet of a refused file.
 pub fn put_refusal(number: u32, out: &mut [u8]) -> usize
-    requires { ⌜ 65536 ≤ length (now out) ⌝ }
+    requires { ⌜ sheetRoom ≤ length (now out) ⌝ }
     ensures { λ r. ⌜ Sheeted (refusal number) (now (out .entry)) (now (out .exit)) r ⌝ }
 {
     let answer = [number];
