@@ -1,38 +1,21 @@
 // The list of answers, as words of 32 bits, the lowest byte first; `at` is a word's number. README.md has the format.
 //
-// Nothing is taken on trust: a word past the list's end reads as 0, and every place stays below BEYOND, so that a list that is
+// Nothing is taken on trust: what is past the list's end reads as 0, and every place stays below BEYOND, so that a list that is
 // damaged gives an answer that is wrong and not a program that fails.
-ghost use Prim.Native.Nat.{_<_, _≤_};
+ghost use Prim.Native.Nat.{_≤_};
 
 // No list has so many words.
 const BEYOND: usize = 1000000;
 
-// A byte, in room for more.
-pub(crate) fn wide(b: u8) -> u32
-    ensures { λ r. ⌜ r < 256 ⌝ }
-{
-    b as u32
-}
-
-// A word, as an index, and in room for two.
+// A word, as an index.
 fn index(w: u32) -> usize {
     w as usize
-}
-
-fn double(w: u32) -> u64
-    ensures { λ r. ⌜ r < 4294967296 ⌝ }
-{
-    w as u64
 }
 
 // The word with this number.
 pub(crate) fn word(list: &[u8], at: usize) -> u32 {
     if at < list.len() / 4 {
-        let i = 4 * at;
-        return wide(list[i])
-            + 256 * wide(list[i + 1])
-            + 65536 * wide(list[i + 2])
-            + 16777216 * wide(list[i + 3]);
+        return little::word(list, 4 * at);
     }
     0
 }
@@ -44,7 +27,13 @@ pub(crate) fn count(list: &[u8], at: usize) -> usize {
 
 // Two words, the lower first.
 pub(crate) fn long(list: &[u8], at: usize) -> u64 {
-    double(word(list, at)) + 4294967296 * double(word(list, plus(at, 1)))
+    let end = list.len() / 4;
+    if at < end {
+        if 1 < end - at {
+            return little::long(list, 4 * at);
+        }
+    }
+    0
 }
 
 // A place so many words on.

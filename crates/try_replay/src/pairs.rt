@@ -1,4 +1,4 @@
-// Cases of the calls that lend two lists of u32: removal, hem edges, wires of both kinds, panels.
+// Cases of the calls that lend two lists of u32: removal, hem edges, wires of both kinds, panels, and faces in any order.
 use crate::calls;
 use crate::calls::Outcome;
 use crate::calls::Said;
@@ -14,7 +14,9 @@ pub const PORTED: u32 = 8;
 
 pub const HOUSE: u32 = 9;
 
-// A call by its kind; any other kind than these four is panels. It answers so many counts.
+pub const PUSH: u32 = 13;
+
+// A call by its kind; any other kind than these five is panels. It answers so many counts.
 pub(crate) fn two_lists(
     list: &[u8],
     at: usize,
@@ -120,6 +122,10 @@ fn call_two(
     if kind == HOUSE {
         let r = house::house_wires(positions, textures, normals, corners, sizes, a, b);
         return calls::saying(r.number, r.flat, r.wires);
+    }
+    if kind == PUSH {
+        let r = faces::push(corners, sizes, a, b);
+        return calls::saying(r.number, r.corners, r.faces);
     }
     let r = panels::components(
         positions,
