@@ -90,8 +90,13 @@ pub(crate) fn float_in(list: &[u8], at: usize, i: usize) -> f64 {
     floating::of_bits(long(list, plus(plus(plus(at, 2), p), p)))
 }
 
-// Writes a list of u32 to the front of `out`, as far as there is room.
-pub(crate) fn copy_words(list: &[u8], at: usize, out: &mut [u32]) {
+// Reads a list of u32 to the front of `all`, as far as there is room, and answers it.
+pub(crate) fn words<'a>(list: &[u8], at: usize, all: &'a mut [u32]) -> &'a mut [u32] {
+    copy_words(list, at, all);
+    front(all, count(list, at))
+}
+
+fn copy_words(list: &[u8], at: usize, out: &mut [u32]) {
     let n = lesser(count(list, at), out.len());
     let mut i = 0;
     while i < n {
@@ -101,13 +106,41 @@ pub(crate) fn copy_words(list: &[u8], at: usize, out: &mut [u32]) {
 }
 
 // The same of f64.
-pub(crate) fn copy_floats(list: &[u8], at: usize, out: &mut [f64]) {
+pub(crate) fn floats<'a>(list: &[u8], at: usize, all: &'a mut [f64]) -> &'a mut [f64] {
+    copy_floats(list, at, all);
+    front_of_floats(all, count(list, at))
+}
+
+fn copy_floats(list: &[u8], at: usize, out: &mut [f64]) {
     let n = lesser(count(list, at), out.len());
     let mut i = 0;
     while i < n {
         out[i] = float_in(list, at, i);
         i += 1;
     }
+}
+
+// ---- fronts of lists: the first n, or all where there are fewer
+
+pub(crate) fn front(all: &mut [u32], n: usize) -> &mut [u32] {
+    if n <= all.len() {
+        return &mut all[0..n];
+    }
+    all
+}
+
+pub(crate) fn front_of_floats(all: &mut [f64], n: usize) -> &mut [f64] {
+    if n <= all.len() {
+        return &mut all[0..n];
+    }
+    all
+}
+
+pub(crate) fn front_of_bytes(all: &[u8], n: usize) -> &[u8] {
+    if n <= all.len() {
+        return &all[0..n];
+    }
+    all
 }
 
 pub(crate) fn lesser(a: usize, b: usize) -> usize
