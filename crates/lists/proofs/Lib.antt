@@ -16,3 +16,4 @@ pub mod Seeking
 pub mod Writing
 pub mod Others
 pub mod Same
+pub mod Listing
