@@ -7,7 +7,7 @@ ghost use mathlib.Core.Option.{some, none};
 ghost use Prim.Native.Nat.{_≤_};
 ghost use lib.ListN.{length};
 ghost use Rattle.edges.specs.Answers.{verdictOf};
-ghost use Rattle.text.specs.Text.{Room, Written};
+ghost use Rattle.lists.specs.Putting.{Room, Written};
 ghost use Rattle.lines.specs.Lines.{meshLine, verdictLine, panelsLine, hemLine, hemLines, sheetText, sheetRoom, refusal};
 ghost use Rattle.lines.specs.Working.{parts, wiresBy, foundBy, Wired, Ready, Sheeted};
 use edges::ShellCondition;

@@ -23,3 +23,4 @@ pub mod Cutting
 pub mod Stores
 pub mod FirstUses
 pub mod Places
+pub mod Listing
