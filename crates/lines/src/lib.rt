@@ -112,7 +112,7 @@ fn put_hems(flat: &[u32], lengths: &[u32], out: &mut [u8], at: usize) -> usize
     let mut from: usize = 0;
     let mut k: usize = 0;
     while k < lengths.len() {
-        let end = from + wide(lengths[k]);
+        let end = from + lists::wide(lengths[k]);
         to = put_hem(&flat[from..end], out, to);
         from = end;
         k += 1;
@@ -126,10 +126,4 @@ fn put_hem(wire: &[u32], out: &mut [u8], at: usize) -> usize
     ensures { λ r. ⌜ Written (hemLine (now (wire .entry))) (now (out .entry)) (now (out .exit)) at r ⌝ }
 {
     text::put_line(b"hem", wire, out, at)
-}
-
-fn wide(x: u32) -> usize
-    ensures { λ r. ⌜ r ≡ x ⌝ }
-{
-    x as usize
 }

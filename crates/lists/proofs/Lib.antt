@@ -6,7 +6,6 @@ pub mod Chains
 pub mod Classes
 pub mod Copies
 pub mod Counting
-pub mod CountingUp
 pub mod Fronts
 pub mod Growing
 pub mod Mapping
