@@ -99,9 +99,3 @@ pub fn put_faces(corners: &[u32], sizes: &[u32], out: &mut [u32])
 {
     columns::put_column(corners, sizes, false, columns::FACE, out);
 }
-
-pub fn wide(x: u32) -> usize
-    ensures { λ r. ⌜ r ≡ x ⌝ }
-{
-    x as usize
-}
