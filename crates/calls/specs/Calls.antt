@@ -18,7 +18,7 @@ use Rattle.tracing.specs.Hems.{pairs}
 use Rattle.tracing.specs.declared.Wires.{Wires}
 use Rattle.ported.specs.Answers.{PortedAnswer}
 use Rattle.house.specs.Answers.{HouseAnswer}
-use Rattle.lines.specs.Working.{parts}
+use Rattle.lists.specs.Cutting.{parts}
 use Rattle.panels.specs.Contract.{PanelsAnswer}
 use Rattle.panels.specs.declared.Answer.{Answer}
 
