@@ -1,7 +1,8 @@
 """The constants of the library's C interface: what the rules and the code say each one is, and what the Rust wrapper says.
 
-Read by check_declarations. A limit is read from mesh's constants and from the rules beside them, a number of the table from the row of the
-rules that gives it, a verdict's number from the rules of what a call answers in C, and a stated room from the rule of number 9 of its call.
+Read by check_declarations. A limit is read from the constants of mesh and sheet and from the rules beside them, a number of the table from
+the row of the rules that gives it, a verdict's number from the rules of what a call answers in C, and a stated room from the rule of number
+9 of its call.
 """
 import re
 
@@ -15,13 +16,18 @@ PORTED = "crates/ported/specs/Answers.antt"
 HOUSE = "crates/house/specs/Answers.antt"
 RECORDS = "crates/records/specs/Records.antt"
 READING = "crates/panelfile/specs/Reading.antt"
+LINES = "crates/lines/specs/Lines.antt"
 SHEET = "crates/sheet/specs/Sheet.antt"
+SHEET_CONSTS = "crates/sheet/src/lib.rt"
 ANSWERS = "crates/answers/specs/Answers.antt"
 FACES = "crates/faces/specs/Faces.antt"
 FOLDED = "crates/folded/specs/Folded.antt"
 EDGES = "crates/edges/specs/Answers.antt"
 PANELS = "crates/panels/specs/Contract.antt"
-SOURCES = (LIMITS, CONSTS, MESH, TABLE, COMPACTION, MERGING, PORTED, HOUSE, RECORDS, READING, SHEET, ANSWERS, FACES, FOLDED, EDGES, PANELS)
+SOURCES = (
+    LIMITS, CONSTS, MESH, TABLE, COMPACTION, MERGING, PORTED, HOUSE, RECORDS, READING, LINES, SHEET, SHEET_CONSTS, ANSWERS, FACES, FOLDED,
+    EDGES, PANELS,
+)
 
 
 class Unreadable(Exception):
@@ -37,8 +43,8 @@ LIMIT_PLACES = {
     "MAX_CORNERS": ((LIMITS, r"^cornerLimit = (\d+)$"), (CONSTS, r"const CORNERS: usize = (\d+);")),
     "MAX_FACES": ((LIMITS, r"^faceLimit = (\d+)$"), (CONSTS, r"const FACES: usize = (\d+);")),
     "MAX_FACE_CORNERS": ((LIMITS, r"^ringLimit = (\d+)$"), (CONSTS, r"const RING: usize = (\d+);")),
-    "MAX_FILE": ((SHEET, r"when \(ltb (\d+) \(length file\)\) 1\b"),),
-    "SHEET_ROOM": ((SHEET, r"short \(lent room (\d+) ∷ \[\]\)"),),
+    "MAX_FILE": ((SHEET, r"^fileLimit = (\d+)$"), (SHEET_CONSTS, r"const FILE: usize = (\d+);")),
+    "SHEET_ROOM": ((LINES, r"^sheetRoom = (\d+)$"), (SHEET_CONSTS, r"const ROOM: usize = (\d+);")),
 }
 
 # A number of the table: its name behind BH_, its name in the wrapper, and the row that gives it.
@@ -53,8 +59,8 @@ NUMBER_ROWS = {
     ("QUOTIENT", "Quotient"): (MERGING, r"when \(anyDistant m t\) (\d+)"),
     ("ROOM", "Room"): (COMPACTION, r"when \(tooShort m r\) (\d+)"),
     ("NO_HOUSE_WIRES", "NoHouseWires"): (HOUSE, r"when \(unwired m\) (\d+)"),
-    ("FILE_CUT", "FileCut"): (RECORDS, r"when \(ltb \(length s - at\) 4\) (\d+)"),
-    ("RECORD", "Record"): (RECORDS, r"when \(ltb 4 kind\) (\d+)"),
+    ("FILE_CUT", "FileCut"): (RECORDS, r"when \(ltb \(length s - at\) headerLength\) (\d+)"),
+    ("RECORD", "Record"): (RECORDS, r"when \(ltb lastKind kind\) (\d+)"),
     ("AFTER_END", "AfterEnd"): (READING, r"when \(ltb \(x \.at\) \(length s\)\) (\d+)"),
 }
 VERDICTS = ("Irregular", "Regular", "Oriented", "Closed")
@@ -142,8 +148,8 @@ def rooms_of_rule(text, name):
     for behind in re.split(r"\blent ", found[1])[1:]:
         _, rest = term(behind)
         room, _ = term(rest)
-        room = re.sub(r"\b(?:length|cornerCount) \(m \.(\w+)\)", lambda w: f"({w[1]} / width)" if "cornerCount" in w[0] else w[1], room)
-        rooms.append(re.sub(r"\blength ([cs])\b", lambda w: {"c": "corners", "s": "sizes"}[w[1]], room))
+        list_of = r"\b(?:length|cornerCount) \((?:m|given) \.(\w+)\)"
+        rooms.append(re.sub(list_of, lambda w: f"({w[1]} / width)" if "cornerCount" in w[0] else w[1], room))
     return rooms
 
 

@@ -26,7 +26,9 @@ pub fn part(
     start: &mut usize,
     len: &mut usize,
 )
-    ensures { λ _. ⌜ want.PartAnswer (meshOf (now (positions .entry)) (now (textures .entry)) (now (normals .entry)) (now (corners .entry)) (now (sizes .entry))) k (now (start .exit)) (now (len .exit)) ⌝ }
+    ensures { λ _. ⌜ want.PartAnswer
+        (meshOf (now (positions .entry)) (now (textures .entry)) (now (normals .entry)) (now (corners .entry)) (now (sizes .entry)))
+        k (now (start .exit)) (now (len .exit)) ⌝ }
 {
     let part = mesh::face(positions, textures, normals, corners, sizes, k);
     let n = part.len();

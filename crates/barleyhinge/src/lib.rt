@@ -6,15 +6,16 @@
 // include/barleyhinge.h has the same for a C program.
 ghost use mathlib.Core.Path.{_≡_};
 ghost use Rattle.mesh.specs.Mesh.{meshOf};
+ghost use Rattle.mesh.specs.Listed.{listedOf};
 ghost use Rattle.mesh.specs.Table.{meshNumber};
-ghost use Rattle.faces.specs.Faces.{Grouped};
+ghost use Rattle.faces.specs.Faces.{facesOf, Grouped};
 ghost use Rattle.compaction.specs.Compaction as compacting;
 ghost use Rattle.folded.specs.Folded as folding;
-ghost use Rattle.edges.specs.Answers.{HemAnswer};
+ghost use Rattle.edges.specs.Answers.{hemsIn, HemAnswer};
 ghost use Rattle.merging.specs.Merging.{PutTogether};
 ghost use Rattle.ported.specs.Answers.{PortedAnswer};
 ghost use Rattle.house.specs.Answers.{HouseAnswer};
-ghost use Rattle.panels.specs.Contract as paneling;
+ghost use Rattle.panels.specs.Contract.{PanelsAnswer};
 ghost use Rattle.panelfile.specs.Answer.{PanelRead};
 ghost use Rattle.sheet.specs.Sheet.{Printed};
 ghost use Rattle.answers.specs.Answers as answer;
@@ -30,7 +31,8 @@ pub extern "C" fn bh_mesh_number(
     corners: &[u32],
     sizes: &[u32],
 ) -> u32
-    ensures { λ r. ⌜ r ≡ meshNumber (meshOf (now (positions .entry)) (now (textures .entry)) (now (normals .entry)) (now (corners .entry)) (now (sizes .entry))) ⌝ }
+    ensures { λ r. ⌜ r ≡ meshNumber
+        (meshOf (now (positions .entry)) (now (textures .entry)) (now (normals .entry)) (now (corners .entry)) (now (sizes .entry))) ⌝ }
 {
     mesh::number(positions, textures, normals, corners, sizes)
 }
@@ -47,7 +49,9 @@ pub extern "C" fn bh_face(
     start: &mut usize,
     len: &mut usize,
 )
-    ensures { λ _. ⌜ answer.PartAnswer (meshOf (now (positions .entry)) (now (textures .entry)) (now (normals .entry)) (now (corners .entry)) (now (sizes .entry))) k (now (start .exit)) (now (len .exit)) ⌝ }
+    ensures { λ _. ⌜ answer.PartAnswer
+        (meshOf (now (positions .entry)) (now (textures .entry)) (now (normals .entry)) (now (corners .entry)) (now (sizes .entry)))
+        k (now (start .exit)) (now (len .exit)) ⌝ }
 {
     answers::part(positions, textures, normals, corners, sizes, k, start, len)
 }
@@ -62,7 +66,11 @@ pub extern "C" fn bh_push(
     cornercount: &mut usize,
     facecount: &mut usize,
 ) -> u32
-    ensures { λ r. ⌜ Grouped (now (corners .entry)) (now (sizes .entry)) (now (newcorners .entry)) (now (newsizes .entry)) (now (newcorners .exit)) (now (newsizes .exit)) (answer.pushedBy r (now (cornercount .exit)) (now (facecount .exit))) ⌝ }
+    ensures { λ r. ⌜ Grouped
+        (facesOf (now (corners .entry)) (now (sizes .entry)))
+        (facesOf (now (newcorners .entry)) (now (newsizes .entry)))
+        (facesOf (now (newcorners .exit)) (now (newsizes .exit)))
+        (answer.pushedBy r (now (cornercount .exit)) (now (facecount .exit))) ⌝ }
 {
     let pushed = faces::push(corners, sizes, newcorners, newsizes);
     answers::pushed(pushed, cornercount, facecount)
@@ -84,7 +92,11 @@ pub extern "C" fn bh_remove_unused_attrs(
     texturecount: &mut usize,
     normalcount: &mut usize,
 ) -> u32
-    ensures { λ r. ⌜ compacting.Compaction (meshOf (now (positions .entry)) (now (textures .entry)) (now (normals .entry)) (now (corners .entry)) (now (sizes .entry))) (compacting.resultOf (now (newcorners .entry)) (now (newpositions .entry)) (now (newtextures .entry)) (now (newnormals .entry))) (compacting.resultOf (now (newcorners .exit)) (now (newpositions .exit)) (now (newtextures .exit)) (now (newnormals .exit))) (answer.compactedBy r (now (positioncount .exit)) (now (texturecount .exit)) (now (normalcount .exit))) ⌝ }
+    ensures { λ r. ⌜ compacting.Compaction
+        (meshOf (now (positions .entry)) (now (textures .entry)) (now (normals .entry)) (now (corners .entry)) (now (sizes .entry)))
+        (compacting.resultOf (now (newcorners .entry)) (now (newpositions .entry)) (now (newtextures .entry)) (now (newnormals .entry)))
+        (compacting.resultOf (now (newcorners .exit)) (now (newpositions .exit)) (now (newtextures .exit)) (now (newnormals .exit)))
+        (answer.compactedBy r (now (positioncount .exit)) (now (texturecount .exit)) (now (normalcount .exit))) ⌝ }
 {
     let made = compaction::remove_unused_attrs(
         positions,
@@ -113,7 +125,11 @@ pub extern "C" fn bh_remove_degenerate_faces(
     cornercount: &mut usize,
     facecount: &mut usize,
 ) -> u32
-    ensures { λ r. ⌜ folding.Removal (meshOf (now (positions .entry)) (now (textures .entry)) (now (normals .entry)) (now (corners .entry)) (now (sizes .entry))) (folding.resultOf (now (newcorners .entry)) (now (newsizes .entry))) (folding.resultOf (now (newcorners .exit)) (now (newsizes .exit))) (answer.removedBy r (now (cornercount .exit)) (now (facecount .exit))) ⌝ }
+    ensures { λ r. ⌜ folding.Removal
+        (meshOf (now (positions .entry)) (now (textures .entry)) (now (normals .entry)) (now (corners .entry)) (now (sizes .entry)))
+        (folding.resultOf (now (newcorners .entry)) (now (newsizes .entry)))
+        (folding.resultOf (now (newcorners .exit)) (now (newsizes .exit)))
+        (answer.removedBy r (now (cornercount .exit)) (now (facecount .exit))) ⌝ }
 {
     let left = folded::remove_degenerate_faces(
         positions,
@@ -141,7 +157,11 @@ pub extern "C" fn bh_put_together_same_attrs(
     texturepairs: &mut usize,
     normalpairs: &mut usize,
 ) -> u32
-    ensures { λ r. ⌜ PutTogether (meshOf (now (positions .entry)) (now (textures .entry)) (now (normals .entry)) (now (corners .entry)) (now (sizes .entry))) tolerance (now (newcorners .entry)) (answer.mergedBy r (now (positionpairs .exit)) (now (texturepairs .exit)) (now (normalpairs .exit))) (now (newcorners .exit)) ⌝ }
+    ensures { λ r. ⌜ PutTogether
+        (meshOf (now (positions .entry)) (now (textures .entry)) (now (normals .entry)) (now (corners .entry)) (now (sizes .entry))) tolerance
+        (now (newcorners .entry))
+        (now (newcorners .exit))
+        (answer.mergedBy r (now (positionpairs .exit)) (now (texturepairs .exit)) (now (normalpairs .exit))) ⌝ }
 {
     let merged = merging::put_together_same_attrs(
         positions,
@@ -165,7 +185,9 @@ pub extern "C" fn bh_shell_condition(
     sizes: &[u32],
     verdict: &mut u32,
 ) -> u32
-    ensures { λ r. ⌜ call.VerdictAnswer (meshOf (now (positions .entry)) (now (textures .entry)) (now (normals .entry)) (now (corners .entry)) (now (sizes .entry))) (now (verdict .entry)) (now (verdict .exit)) r ⌝ }
+    ensures { λ r. ⌜ call.VerdictAnswer
+        (meshOf (now (positions .entry)) (now (textures .entry)) (now (normals .entry)) (now (corners .entry)) (now (sizes .entry)))
+        (now (verdict .entry)) (now (verdict .exit)) r ⌝ }
 {
     let judged = edges::shell_condition(positions, textures, normals, corners, sizes);
     match judged {
@@ -189,7 +211,11 @@ pub extern "C" fn bh_hem_edges(
     ends: &mut [u32],
     count: &mut usize,
 ) -> u32
-    ensures { λ r. ⌜ HemAnswer (meshOf (now (positions .entry)) (now (textures .entry)) (now (normals .entry)) (now (corners .entry)) (now (sizes .entry))) (now (starts .entry)) (now (ends .entry)) (now (starts .exit)) (now (ends .exit)) (answer.hemmedBy r (now (count .exit))) ⌝ }
+    ensures { λ r. ⌜ HemAnswer
+        (meshOf (now (positions .entry)) (now (textures .entry)) (now (normals .entry)) (now (corners .entry)) (now (sizes .entry)))
+        (hemsIn (now (starts .entry)) (now (ends .entry)))
+        (hemsIn (now (starts .exit)) (now (ends .exit)))
+        (answer.hemmedBy r (now (count .exit))) ⌝ }
 {
     let hems = edges::hem_edges(positions, textures, normals, corners, sizes, starts, ends);
     answers::hemmed(hems, count)
@@ -208,7 +234,11 @@ pub extern "C" fn bh_extract_boundaries(
     flatcount: &mut usize,
     wirecount: &mut usize,
 ) -> u32
-    ensures { λ r. ⌜ PortedAnswer (meshOf (now (positions .entry)) (now (textures .entry)) (now (normals .entry)) (now (corners .entry)) (now (sizes .entry))) (now (flat .entry)) (now (lengths .entry)) (now (flat .exit)) (now (lengths .exit)) r (now (flatcount .exit)) (now (wirecount .exit)) ⌝ }
+    ensures { λ r. ⌜ PortedAnswer
+        (meshOf (now (positions .entry)) (now (textures .entry)) (now (normals .entry)) (now (corners .entry)) (now (sizes .entry)))
+        (listedOf (now (flat .entry)) (now (lengths .entry)))
+        (listedOf (now (flat .exit)) (now (lengths .exit)))
+        (answer.wiredBy r (now (flatcount .exit)) (now (wirecount .exit))) ⌝ }
 {
     let ported = ported::extract_boundaries(
         positions,
@@ -235,7 +265,11 @@ pub extern "C" fn bh_house_wires(
     flatcount: &mut usize,
     wirecount: &mut usize,
 ) -> u32
-    ensures { λ r. ⌜ HouseAnswer (meshOf (now (positions .entry)) (now (textures .entry)) (now (normals .entry)) (now (corners .entry)) (now (sizes .entry))) (now (flat .entry)) (now (lengths .entry)) (now (flat .exit)) (now (lengths .exit)) r (now (flatcount .exit)) (now (wirecount .exit)) ⌝ }
+    ensures { λ r. ⌜ HouseAnswer
+        (meshOf (now (positions .entry)) (now (textures .entry)) (now (normals .entry)) (now (corners .entry)) (now (sizes .entry)))
+        (listedOf (now (flat .entry)) (now (lengths .entry)))
+        (listedOf (now (flat .exit)) (now (lengths .exit)))
+        (answer.wiredBy r (now (flatcount .exit)) (now (wirecount .exit))) ⌝ }
 {
     let house = house::house_wires(positions, textures, normals, corners, sizes, flat, lengths);
     answers::wired(house, flatcount, wirecount)
@@ -255,7 +289,11 @@ pub extern "C" fn bh_components(
     flatcount: &mut usize,
     panelcount: &mut usize,
 ) -> u32
-    ensures { λ r. ⌜ paneling.Answered (meshOf (now (positions .entry)) (now (textures .entry)) (now (normals .entry)) (now (corners .entry)) (now (sizes .entry))) «use_normal» (now (flat .entry)) (now (lengths .entry)) r (now (flatcount .exit)) (now (panelcount .exit)) (now (flat .exit)) (now (lengths .exit)) ⌝ }
+    ensures { λ r. ⌜ PanelsAnswer
+        (meshOf (now (positions .entry)) (now (textures .entry)) (now (normals .entry)) (now (corners .entry)) (now (sizes .entry))) «use_normal»
+        (listedOf (now (flat .entry)) (now (lengths .entry)))
+        (listedOf (now (flat .exit)) (now (lengths .exit)))
+        (answer.panelledBy r (now (flatcount .exit)) (now (panelcount .exit))) ⌝ }
 {
     let found = panels::components(
         positions,

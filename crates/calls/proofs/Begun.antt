@@ -8,13 +8,14 @@ use native.Mathlib.Omega.{arith}
 use lib.ListN.{length, length-map}
 use Rattle.lists.specs.Lists.{some}
 use Rattle.lists.specs.Numbers.{seek}
+use Rattle.lists.specs.FirstUses.{firstUses, place}
 use Rattle.mesh.specs.Mesh.{Mesh, position, faces}
 use Rattle.mesh.specs.Table.{overLimits, uneven, misfit, ungrouped, astray, shapeNumber, meshNumber}
 use Rattle.grouping.specs.Push.{pushed}
 use Rattle.splitting.specs.Splitting.{mateOf, firstMated, foldedBy, splitByIn, splitBy, piecesBy}
 use Rattle.folding.specs.Folding.{folded, trianglePieces, foldOf, quadranglePieces, pieces}
 use Rattle.folded.specs.Folded.{removed}
-use Rattle.compaction.specs.Compaction.{firstUses, place, renumber, entries, usedPositions, usedTextures, usedNormals, renumbered, compacted}
+use Rattle.compaction.specs.Compaction.{renumber, entries, usedPositions, usedTextures, usedNormals, renumbered, compacted}
 use Rattle.edges.specs.Edges.{key, verdict, hems}
 use Rattle.house.specs.House.{walk, wiresIn, houseWires}
 use Rattle.order.specs.Same.{Same, none, face, swap}

@@ -1,10 +1,11 @@
 -- What a call that answers 0 leaves at the front of a lent list, and what it counts, are the result. Assumes nothing.
-use mathlib.Core.Path.{_≡_, refl, ap₂, _∙_}
+use mathlib.Core.Path.{_≡_, sym, _∙_}
 use mathlib.Core.List.{List}
 use Prim.Native.Nat.{ℕ, _≤_}
+use native.Mathlib.Omega.{arith}
 use lib.ListN.{length, take}
 use lib.Seq.{sets}
-use Rattle.lists.proofs.Copies.{take-written}
+use Rattle.lists.proofs.Fronts as fronts
 use Rattle.mesh.specs.Table.{after}
 use Rattle.mesh.proofs.After.{after-done}
 
@@ -13,7 +14,8 @@ pub front :
     → length vs ≤ length l
     → take k l′ ≡ vs
 front l l′ vs i j k z e c n h =
-    ap₂ take (c ∙ after-done i j 0 z ∙ n) (e ∙ after-done i (sets l 0 vs) l z) ∙ take-written l vs (length vs) refl h
+    let w : k ≡ length vs = c ∙ after-done i j 0 z ∙ n in
+    fronts.front l (e ∙ after-done i (sets l 0 vs) l z) (sym w) (omega arith) .is
 
 -- two counts are one where the counted are as many
 pub as-many : (i i′ j j′ k k′ : ℕ) → i ≡ 0 → i′ ≡ 0 → k ≡ after i j 0 → k′ ≡ after i′ j′ 0 → j ≡ j′ → k ≡ k′

@@ -5,13 +5,13 @@ use mathlib.Core.List.{List, map}
 use Prim.Native.Nat.{ℕ}
 use native.Mathlib.Omega.{arith}
 use lib.ListN.{length, take, length-map}
-use Rattle.lists.specs.Lists.{joined}
+use Rattle.lists.specs.Lists.{joined, together}
 use Rattle.mesh.specs.Mesh.{Mesh, faces}
 use Rattle.mesh.specs.Table.{meshNumber}
-use Rattle.panels.specs.Panels.{panels, together}
+use Rattle.panels.specs.Panels.{panels}
 use Rattle.panels.specs.Contract.{componentsNumber, panelsOf}
-use Rattle.lines.specs.Working.{parts}
-use Rattle.lines.proofs.Wiring.{parts-back}
+use Rattle.lists.specs.Cutting.{parts}
+use Rattle.lists.proofs.Cutting.{parts-back}
 use Rattle.panels.proofs.Panelled.{panels-length, panels-count}
 use Rattle.order.specs.Same.{Matching}
 use Rattle.order.specs.Demand.{SameTogether}
@@ -28,19 +28,21 @@ module _ (normals : Bool) (m : Mesh) (z : meshNumber m ≡ 0) (r : PanelCall nor
   unfolding componentsNumber
   done-is =
       r .contract .number
-      ∙ roomy-zero (meshNumber m) (length (r .flat)) (cornersOf m) (length (r .lengths)) (cornersOf m) z (r .flat-room) (r .lengths-room)
+      ∙ roomy-zero (meshNumber m) (length (r .before .flat)) (cornersOf m) (length (r .before .lengths)) (cornersOf m) z (r .flat-room) (r .lengths-room)
 
-  flat-front : take (r .answer .faces) (r .flat′) ≡ joined (panelsOf normals m)
+  flat-front : take (r .answer .faces) (r .afterwards .flat) ≡ joined (panelsOf normals m)
   flat-front =
-      front (r .flat) (r .flat′) (joined (panelsOf normals m)) (r .answer .number) (length (joined (panelsOf normals m))) (r .answer .faces) done-is
-      (r .contract .flat) (r .contract .faces) refl
+      front (r .before .flat) (r .afterwards .flat) (joined (panelsOf normals m))
+      (r .answer .number) (length (joined (panelsOf normals m))) (r .answer .faces) done-is
+      (r .contract .flat) (r .contract .face-count) refl
       (omega (arith, panels-length normals (faces m), faces-few m z, r .flat-room))
 
-  lengths-front : take (r .answer .panels) (r .lengths′) ≡ map length (panelsOf normals m)
+  lengths-front : take (r .answer .panels) (r .afterwards .lengths) ≡ map length (panelsOf normals m)
   lengths-front =
       let k : length (map (length {A = ℕ}) (panelsOf normals m)) ≡ length (panelsOf normals m) = length-map (panelsOf normals m) (length {A = ℕ}) in
-      front (r .lengths) (r .lengths′) (map length (panelsOf normals m)) (r .answer .number) (length (panelsOf normals m)) (r .answer .panels) done-is
-      (r .contract .lengths) (r .contract .panels) (sym k)
+      front (r .before .lengths) (r .afterwards .lengths) (map length (panelsOf normals m))
+      (r .answer .number) (length (panelsOf normals m)) (r .answer .panels) done-is
+      (r .contract .lengths) (r .contract .panel-count) (sym k)
       (omega (arith, panels-count normals (faces m), faces-few m z, r .lengths-room))
 
   written : panelsWritten r ≡ panelsOf normals m
@@ -56,11 +58,11 @@ panels-agree {A} {fs} {gs} match m n a b lf lg s normals d r q = record {
   done = (done-is normals m a r, done-is normals n b q);
   as-many-faces =
       as-many (r .answer .number) (q .answer .number) (length (joined (panelsOf normals m))) (length (joined (panelsOf normals n)))
-      (r .answer .faces) (q .answer .faces) (done-is normals m a r) (done-is normals n b q) (r .contract .faces) (q .contract .faces)
+      (r .answer .faces) (q .answer .faces) (done-is normals m a r) (done-is normals n b q) (r .contract .face-count) (q .contract .face-count)
       (panels-length normals (faces m) ∙ sym lf ∙ s ∙ lg ∙ sym (panels-length normals (faces n)));
   as-many-panels =
       as-many (r .answer .number) (q .answer .number) (length (panelsOf normals m)) (length (panelsOf normals n))
-      (r .answer .panels) (q .answer .panels) (done-is normals m a r) (done-is normals n b q) (r .contract .panels) (q .contract .panels)
+      (r .answer .panels) (q .answer .panels) (done-is normals m a r) (done-is normals n b q) (r .contract .panel-count) (q .contract .panel-count)
       (as-many-panels match normals (faces m) (faces n) lf lg d);
   same-faces = λ x y g h.
       ap (together x y) (written normals m a r)

@@ -9,6 +9,7 @@ use lib.Dec.{ltb, eqb}
 use lib.ListN.{length, take, length-map}
 use Rattle.lists.specs.Lists.{joined}
 use Rattle.mesh.specs.Mesh.{Mesh, position, faces}
+use Rattle.mesh.specs.Listed.{Listed}
 use Rattle.mesh.specs.Table.{meshNumber, when}
 use Rattle.edges.specs.Edges.{Edge, Verdict, Irregular, Regular, Oriented, Closed, verdict, hems}
 use Rattle.edges.specs.Answers.{meshEdgesOf, verdictOf}
@@ -34,26 +35,28 @@ use Rattle.calls.proofs.Verdicts.{said, unsaid}
 -- ---- two calls that answer 0, with the same wires
 
 -- there is room for the wires
-record Fits (ws : List (List ℕ)) (flat lengths : List ℕ) : Type 0 where
-  numbers : length (joined ws) ≤ length flat
-  wires : length ws ≤ length lengths
+record Fits (ws : List (List ℕ)) (lists : Listed) : Type 0 where
+  numbers : length (joined ws) ≤ length (lists .flat)
+  wires : length ws ≤ length (lists .lengths)
 
 -- a call with the number i and the wires ws, as its contract has it
-abbrev Answers : ℕ → List (List ℕ) → List ℕ → List ℕ → WiresLeft → Type 0
-Answers i ws flat lengths r = Answered i ws flat lengths (r .flat) (r .lengths) (r .answer .number) (r .answer .flat) (r .answer .wires)
+abbrev Answers : ℕ → List (List ℕ) → Listed → WiresLeft → Type 0
+Answers i ws before r = Answered i ws before (r .lists) (r .answer)
 
-module _ {i : ℕ} {ws : List (List ℕ)} {flat lengths : List ℕ} (r : WiresLeft) (c : Answers i ws flat lengths r) (z : i ≡ 0) (f : Fits ws flat lengths) where
-  flat-front : take (r .answer .flat) (r .flat) ≡ joined ws
-  flat-front = front flat (r .flat) (joined ws) i (length (joined ws)) (r .answer .flat) z (c .flat-is) (c .flat-count) refl (f .numbers)
+module _ {i : ℕ} {ws : List (List ℕ)} {before : Listed} (r : WiresLeft) (c : Answers i ws before r) (z : i ≡ 0) (f : Fits ws before) where
+  flat-front : take (r .answer .flat) (r .lists .flat) ≡ joined ws
+  flat-front =
+      front (before .flat) (r .lists .flat) (joined ws) i (length (joined ws)) (r .answer .flat) z (c .flat-is) (c .flat-count) refl (f .numbers)
 
-  lengths-front : take (r .answer .wires) (r .lengths) ≡ map length ws
+  lengths-front : take (r .answer .wires) (r .lists .lengths) ≡ map length ws
   lengths-front =
       let k : length (map (length {A = ℕ}) ws) ≡ length ws = length-map ws (length {A = ℕ}) in
-      front lengths (r .lengths) (map length ws) i (length ws) (r .answer .wires) z (c .lengths-is) (c .wire-count) (sym k) (omega (arith, f .wires))
+      front (before .lengths) (r .lists .lengths) (map length ws) i (length ws) (r .answer .wires) z (c .lengths-is) (c .wire-count) (sym k)
+      (omega (arith, f .wires))
 
 wires-agree :
-    {i j : ℕ} {ws us : List (List ℕ)} {flat lengths flat₂ lengths₂ : List ℕ} (r q : WiresLeft)
-    → Answers i ws flat lengths r → Answers j us flat₂ lengths₂ q → i ≡ 0 → j ≡ 0 → Fits ws flat lengths → Fits us flat₂ lengths₂
+    {i j : ℕ} {ws us : List (List ℕ)} {before before₂ : Listed} (r q : WiresLeft)
+    → Answers i ws before r → Answers j us before₂ q → i ≡ 0 → j ≡ 0 → Fits ws before → Fits us before₂
     → ws ≡ us
     → SameWires r q
 wires-agree {i} {j} {ws} {us} r q c d z y f g e = record {
@@ -72,9 +75,9 @@ wires-agree {i} {j} {ws} {us} r q c d z y f g e = record {
 -- where the verdict is Oriented or Closed there is a number for each hem edge, and so room for them
 wired-fits :
     (m : Mesh) → meshNumber m ≡ 0 → (verdict (meshEdgesOf m) ≡ Irregular → ⊥) → (verdict (meshEdgesOf m) ≡ Regular → ⊥)
-    → (flat lengths : List ℕ) → cornersOf m ≤ length flat → cornersOf m ≤ length lengths
-    → Fits (houseWires (hems (meshEdgesOf m))) flat lengths
-wired-fits m z n r flat lengths g h =
+    → (lists : Listed) → cornersOf m ≤ length (lists .flat) → cornersOf m ≤ length (lists .lengths)
+    → Fits (houseWires (hems (meshEdgesOf m))) lists
+wired-fits m z n r lists g h =
     let u : Used (hems (meshEdgesOf m)) (houseWires (hems (meshEdgesOf m))) =
     house-used (hems (meshEdgesOf m)) (hems-balanced (map (map position) (faces m)) n r) in
     record {
@@ -108,13 +111,13 @@ unfolding ten
 not-regular v e q = let k : ten v ≡ 10 = ap ten q in omega arith
 
 module _ (m : Mesh) (z : meshNumber m ≡ 0) (r : HouseCall m) where
-  house-number : houseNumber m (length (r .flat)) (length (r .lengths)) ≡ ten (verdict (meshEdgesOf m))
+  house-number : houseNumber m (length (r .before .flat)) (length (r .before .lengths)) ≡ ten (verdict (meshEdgesOf m))
   unfolding ten
-  house-number = house-verdict m (length (r .flat)) (length (r .lengths)) z (r .flat-room) (r .lengths-room)
+  house-number = house-verdict m (length (r .before .flat)) (length (r .before .lengths)) z (r .flat-room) (r .lengths-room)
 
-  house-fits : ten (verdict (meshEdgesOf m)) ≡ 0 → Fits (houseWires (hems (meshEdgesOf m))) (r .flat) (r .lengths)
+  house-fits : ten (verdict (meshEdgesOf m)) ≡ 0 → Fits (houseWires (hems (meshEdgesOf m))) (r .before)
   house-fits e =
-      wired-fits m z (not-irregular (verdict (meshEdgesOf m)) e) (not-regular (verdict (meshEdgesOf m)) e) (r .flat) (r .lengths)
+      wired-fits m z (not-irregular (verdict (meshEdgesOf m)) e) (not-regular (verdict (meshEdgesOf m)) e) (r .before)
       (r .flat-room) (r .lengths-room)
 
   house-ten : ten (verdict (meshEdgesOf m)) ≡ 10 → r .left .answer .number ≡ 10
@@ -131,7 +134,8 @@ module _ (m n : Mesh) (a : meshNumber m ≡ 0) (b : meshNumber n ≡ 0) (d : Sam
     same-wires = λ w.
         let e : ten (verdict (meshEdgesOf m)) ≡ 0 = wired-zero (verdict (meshEdgesOf m)) (verdict-wired w) in
         let f : ten (verdict (meshEdgesOf n)) ≡ 0 = sym (ap ten (d .one-verdict)) ∙ e in
-        wires-agree (r .left) (q .left) (r .contract) (q .contract) (house-number m a r ∙ e) (house-number n b q ∙ f) (house-fits m a r e) (house-fits n b q f)
+        wires-agree (r .left) (q .left) (r .contract) (q .contract) (house-number m a r ∙ e) (house-number n b q ∙ f)
+        (house-fits m a r e) (house-fits n b q f)
         (d .same-wires (verdict-wired w));
     refused = λ w.
         let e : ten (verdict (meshEdgesOf m)) ≡ 10 =
@@ -168,10 +172,10 @@ ported-roomy h =
     rw e (record { numbers = omega (arith, r .numbers); wires = omega (arith, r .wires) })
 
 module _ (m : Mesh) (z : meshNumber m ≡ 0) (r : PortedCall m) where
-  ported-zero : portedNumber m (length (r .flat)) (length (r .lengths)) ≡ 0
-  ported-zero = ported-done m (length (r .flat)) (length (r .lengths)) z (r .flat-room) (r .lengths-room)
+  ported-zero : portedNumber m (length (r .before .flat)) (length (r .before .lengths)) ≡ 0
+  ported-zero = ported-done m (length (r .before .flat)) (length (r .before .lengths)) z (r .flat-room) (r .lengths-room)
 
-  ported-fits : Fits (portedWires (hems (meshEdgesOf m))) (r .flat) (r .lengths)
+  ported-fits : Fits (portedWires (hems (meshEdgesOf m))) (r .before)
   ported-fits =
       let p : Roomy (hems (meshEdgesOf m)) (portedWires (hems (meshEdgesOf m))) = ported-roomy (hems (meshEdgesOf m)) in
       record {

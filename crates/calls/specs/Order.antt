@@ -7,6 +7,7 @@ use mathlib.Core.Bool.{Bool, false}
 use mathlib.Core.List.{List, [], map}
 use Prim.Native.Nat.{ℕ, _<_}
 use lib.ListN.{length, getD, take}
+use Rattle.lists.specs.Lists.{together}
 use Rattle.mesh.specs.Mesh.{Mesh, faces}
 use Rattle.mesh.specs.Table.{meshNumber}
 use Rattle.edges.specs.Edges.{key}
@@ -14,7 +15,6 @@ use Rattle.edges.specs.Answers.{hemNumber}
 use Rattle.edges.specs.declared.ShellCondition.{ShellCondition}
 use Rattle.ported.specs.Answers.{portedNumber}
 use Rattle.house.specs.Answers.{houseNumber}
-use Rattle.panels.specs.Panels.{together}
 use Rattle.panels.specs.Contract.{componentsNumber}
 use Rattle.order.specs.Same.{Turned, Same, Matching}
 use Rattle.order.specs.Demand.{byPosition}
@@ -51,8 +51,8 @@ pub record SameWires (r q : WiresLeft) : Type 0 where
   pub done : Both 0 (r .answer .number) (q .answer .number)
   pub as-many-numbers : r .answer .flat ≡ q .answer .flat
   pub as-many-wires : r .answer .wires ≡ q .answer .wires
-  pub same-flat : take (r .answer .flat) (r .flat) ≡ take (q .answer .flat) (q .flat)
-  pub same-lengths : take (r .answer .wires) (r .lengths) ≡ take (q .answer .wires) (q .lengths)
+  pub same-flat : take (r .answer .flat) (r .lists .flat) ≡ take (q .answer .flat) (q .lists .flat)
+  pub same-lengths : take (r .answer .wires) (r .lists .lengths) ≡ take (q .answer .wires) (q .lists .lengths)
 
 -- the verdict is Oriented or Closed
 abbrev pub Wired : {m : Mesh} → VerdictCall m → Type 0

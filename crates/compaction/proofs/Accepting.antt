@@ -13,7 +13,7 @@ use Rattle.mesh.specs.Mesh.{Mesh, position, texture, normal, missing, cornersIn
 use Rattle.mesh.specs.Table.{beyond, beyondUnlessMissing, astray, astrayAt, meshNumber}
 use Rattle.mesh.proofs.Numbers.{clear}
 use Rattle.mesh.proofs.Accepted.{Accepted, accepted}
-use Rattle.compaction.specs.Compaction.{firstUses, entries}
+use Rattle.compaction.specs.Compaction.{usesOf, entries}
 use Rattle.compaction.specs.Working.{column, Pointed}
 use Rattle.compaction.proofs.Uses.{uses-below}
 use Rattle.compaction.proofs.Entries.{length-entries}
@@ -89,6 +89,6 @@ module _ (m : Mesh) (h : meshNumber m ≡ 0) where
 -- the new list has as many entries as are used
 pub length-kept :
     (attrs : List Float) (w : ℕ) (cs : List ℕ) (q : ℕ) → Pointed attrs w cs q
-    → length (entries w attrs (firstUses (column q cs))) ≡ length (firstUses (column q cs)) * w
+    → length (entries w attrs (usesOf (column q cs))) ≡ length (usesOf (column q cs)) * w
 length-kept attrs w cs q p =
-    length-entries attrs w (p .count) (firstUses (column q cs)) (p .whole) (uses-below (p .count) (column q cs) (p .within))
+    length-entries attrs w (p .count) (usesOf (column q cs)) (p .whole) (uses-below (p .count) (column q cs) (p .within))

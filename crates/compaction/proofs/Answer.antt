@@ -12,7 +12,7 @@ use Rattle.mesh.specs.Table.{meshNumber, when, short}
 use Rattle.mesh.proofs.After.{after-refused, after-done}
 use Rattle.mesh.proofs.Numbers.{first-is, first-on, row-given}
 use Rattle.compaction.specs.declared.Compacted.{Compacted}
-use Rattle.compaction.specs.Compaction.{firstUses, entries, usedPositions, usedTextures, usedNormals, renumbered, compacted, Result, tooShort, compactionNumber, Compaction}
+use Rattle.compaction.specs.Compaction.{usesOf, entries, usedPositions, usedTextures, usedNormals, renumbered, compacted, Result, tooShort, compactionNumber, Compaction}
 use Rattle.compaction.specs.Working.{column, Ready, Done, Refused}
 use Rattle.compaction.proofs.Accepting.{pointed-positions, pointed-textures, pointed-normals, length-kept}
 
@@ -90,11 +90,11 @@ pub done :
     → Done (m .positions) (m .textures) (m .normals) (m .corners) before afterwards answer → Compaction m before afterwards answer
 unfolding compactionNumber tooShort short compacted renumbered usedPositions usedTextures usedNormals
 done m before afterwards answer z r d =
-    let p : length (entries 3 (m .positions) (firstUses (column 0 (m .corners)))) ≡ length (firstUses (column 0 (m .corners))) * 3 =
+    let p : length (entries 3 (m .positions) (usesOf (column 0 (m .corners)))) ≡ length (usesOf (column 0 (m .corners))) * 3 =
     length-kept (m .positions) 3 (m .corners) 0 (r .positions) in
-    let t : length (entries 2 (m .textures) (firstUses (column 1 (m .corners)))) ≡ length (firstUses (column 1 (m .corners))) * 2 =
+    let t : length (entries 2 (m .textures) (usesOf (column 1 (m .corners)))) ≡ length (usesOf (column 1 (m .corners))) * 2 =
     length-kept (m .textures) 2 (m .corners) 1 (r .textures) in
-    let n : length (entries 3 (m .normals) (firstUses (column 2 (m .corners)))) ≡ length (firstUses (column 2 (m .corners))) * 3 =
+    let n : length (entries 3 (m .normals) (usesOf (column 2 (m .corners)))) ≡ length (usesOf (column 2 (m .corners))) * 3 =
     length-kept (m .normals) 3 (m .corners) 2 (r .normals) in
     let c0 = le-ltb (length (before .corners)) (length (m .corners)) (r .corner-room) in
     let p0 = le-ltb (length (before .positions)) (length (m .positions)) (r .position-room) in

@@ -4,52 +4,33 @@ use mathlib.Core.Bool.{true}
 use mathlib.Core.List.{List, [], _∷_, _++_, map, append-nil}
 use Prim.Native.Nat.{ℕ, zero, suc, _+_, _*_, _≤_, _<_}
 use native.Mathlib.Nat.{not-suc-le-zero, le-of-suc-le-suc, suc-mul, mul-le-mul-right, zero-mul}
-use native.Mathlib.Numerals.{towards-suc}
 use native.Mathlib.Omega.{arith}
 use lib.ListN.{length, getD, take, drop, set, length-append, length-take, length-drop}
-use lib.Seq.{sets, drop-cons, take-at, drop-append-add}
+use lib.Seq.{sets, take-at, drop-append-add}
 use lib.Dec.{ltb}
 use lib.Ieee.{Float, nan}
 use borrow.Author.Tests.{ltb-true}
 use Rattle.lists.specs.Lists.{every, each, has}
+use Rattle.lists.specs.FirstUses.{place}
 use Rattle.lists.proofs.Bools.{and-left, and-right}
 use Rattle.lists.proofs.Parts.{each-append}
+use Rattle.lists.proofs.Stores.{copy-two, copy-three}
 use Rattle.lists.proofs.Members.{in-head, in-tail}
 use Rattle.lists.proofs.Others.{every-has}
-use Rattle.compaction.specs.Compaction.{place, entryAt, entries}
-use Rattle.compaction.proofs.Places.{place-below, getD-place}
+use Rattle.lists.proofs.Places.{place-below, getD-place}
+use Rattle.compaction.specs.Compaction.{entryAt, entries}
 
 -- ---- an entry is copied by two or three stores
 
-module _ (from to : List Float) (b : ℕ) where
-  two :
-      (a : ℕ) → a + 2 ≤ length from
-      → set (set to b (getD from a nan)) (b + 1) (getD from (a + 1) nan) ≡ sets to b (take 2 (drop a from))
-  two a h =
-      let x : a < length from = omega arith in
-      let y : suc a < length from = omega arith in
-      simp towards-suc (rw (drop-cons from a nan x, drop-cons from (suc a) nan y))
+module _ (from to : List Float) (b w i : ℕ) (h : i * w + w ≤ length from) where
+  pub entry-two : w ≡ 2 → set (set to b (getD from (i * w) nan)) (b + 1) (getD from (i * w + 1) nan) ≡ sets to b (entryAt w from i)
+  entry-two e = copy-two nan from to (i * w) b (omega arith) ∙ ap (λ (n : ℕ). sets to b (take n (drop (i * w) from))) (sym e)
 
-  three :
-      (a : ℕ) → a + 3 ≤ length from
-      → set (set (set to b (getD from a nan)) (b + 1) (getD from (a + 1) nan)) (b + 2) (getD from (a + 2) nan) ≡ sets to b
-      (take 3 (drop a from))
-  three a h =
-      let x : a < length from = omega arith in
-      let y : suc a < length from = omega arith in
-      let z : suc (suc a) < length from = omega arith in
-      simp towards-suc (rw (drop-cons from a nan x, drop-cons from (suc a) nan y, drop-cons from (suc (suc a)) nan z))
-
-  pub copy-two :
-      (w i : ℕ) → w ≡ 2 → i * w + w ≤ length from
-      → set (set to b (getD from (i * w) nan)) (b + 1) (getD from (i * w + 1) nan) ≡ sets to b (entryAt w from i)
-  copy-two w i e h = two (i * w) (omega arith) ∙ ap (λ (n : ℕ). sets to b (take n (drop (i * w) from))) (sym e)
-
-  pub copy-three :
-      (w i : ℕ) → w ≡ 3 → i * w + w ≤ length from
+  pub entry-three :
+      w ≡ 3
       → set (set (set to b (getD from (i * w) nan)) (b + 1) (getD from (i * w + 1) nan)) (b + 2)
       (getD from (i * w + 2) nan) ≡ sets to b (entryAt w from i)
-  copy-three w i e h = three (i * w) (omega arith) ∙ ap (λ (n : ℕ). sets to b (take n (drop (i * w) from))) (sym e)
+  entry-three e = copy-three nan from to (i * w) b (omega arith) ∙ ap (λ (n : ℕ). sets to b (take n (drop (i * w) from))) (sym e)
 
 -- ---- entries that lie within a list
 

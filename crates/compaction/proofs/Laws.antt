@@ -1,122 +1,30 @@
--- What compaction gives, for those who go on with it: an accepted mesh with no more entries, all of them used, whose faces are those
--- that were given with each corner renumbered one-to-one; and a second compaction changes nothing. Assumes nothing.
-use mathlib.Core.Path.{_≡_, refl, sym, ap, _∙_}
+-- What compaction gives, for those who go on with it: an accepted mesh with no more entries, whose faces are those that were given with
+-- each corner renumbered one-to-one. Assumes nothing.
+use mathlib.Core.Path.{_≡_, sym, ap, _∙_}
 use mathlib.Core.Bool.{true, false}
-use mathlib.Core.List.{List, [], _∷_, _++_, map, map-map, map-append}
-use Prim.Native.Nat.{ℕ, zero, suc, _*_, _/_, _≤_, _<_}
-use native.Mathlib.Nat.{not-suc-le-zero, le-of-suc-le-suc}
+use mathlib.Core.List.{List, [], map, map-map}
+use Prim.Native.Nat.{ℕ, _*_, _/_, _<_}
 use native.Mathlib.Omega.{arith}
 use lib.ListN.{length, getD, length-map, List·getD-map}
 use lib.Dec.{eqb}
-use lib.Ieee.{Float}
 use borrow.Author.Tests.{ne-eqb, lt-leb}
-use Rattle.lists.specs.Lists.{some, every, has, joined, each, span}
-use Rattle.lists.proofs.Bools.{and-both, or-neither}
+use Rattle.lists.specs.Lists.{some, has, joined, each}
+use Rattle.lists.proofs.Bools.{or-neither}
 use Rattle.lists.proofs.Mapping.{map-same}
 use Rattle.lists.proofs.Parts.{some-none, each-joined, every-joined}
-use Rattle.lists.proofs.Members.{in-head, in-tail}
 use Rattle.mesh.specs.Limits.{width}
-use Rattle.mesh.specs.Mesh.{Mesh, meshOf, Corner, Ring, position, texture, normal, missing, cornersIn, rings, faces, positionCount, textureCount, normalCount}
+use Rattle.mesh.specs.Mesh.{Mesh, position, texture, normal, missing, cornersIn, rings, faces, positionCount, textureCount, normalCount}
 use Rattle.mesh.specs.Table.{astray, astrayAt, misfit, ungrouped, meshNumber}
 use Rattle.mesh.proofs.Corners.{length-cornersIn, getD-cornersIn, isCorner, cornersIn-joined, length-corners}
-use Rattle.mesh.proofs.Faces.{isRing, rings-are, rings-back, sizes-back, corners-back}
+use Rattle.mesh.proofs.Faces.{rings-are, rings-back, sizes-back, corners-back}
 use Rattle.mesh.proofs.Numbers.{clear, clear-0}
 use Rattle.mesh.proofs.Accepted.{Accepted, accepted, within-back, even-back}
-use Rattle.compaction.specs.Compaction.{firstUses, renumber, entries, usedPositions, usedTextures, usedNormals, renumbered, compacted}
-use Rattle.compaction.specs.Promises.{AcceptedAgain, EveryPositionUsed, EveryTextureUsed, EveryNormalUsed, PositionsFewer, TexturesFewer, NormalsFewer, SameFaces, SecondTimeSame}
-use Rattle.compaction.specs.Working.{column, Pointed}
-use Rattle.compaction.proofs.Uses.{uses-few, uses-below}
-use Rattle.compaction.proofs.Entries.{entries-again}
-use Rattle.compaction.proofs.Renumbering.{renumber-below, renumber-within, renumber-same, uses-again, renumber-again, renumber-uses, uses-numbered, every-number}
+use Rattle.compaction.specs.Compaction.{renumber, usedPositions, usedTextures, usedNormals, renumbered, compacted}
+use Rattle.compaction.specs.Promises.{AcceptedAgain, PositionsFewer, TexturesFewer, NormalsFewer, SameFaces}
+use Rattle.compaction.specs.Working.{column}
+use Rattle.compaction.proofs.Renumbering.{renumber-below, renumber-within, renumber-same}
 use Rattle.compaction.proofs.Accepting.{pointed-positions, pointed-textures, pointed-normals, length-kept}
-
--- ---- one column
-
-module _ {attrs : List Float} {w : ℕ} {cs : List ℕ} {q : ℕ} (p : Pointed attrs w cs q) where
-  used-few : length (firstUses (column q cs)) ≤ p .count
-  used-few = uses-few (p .count) (column q cs) (p .within)
-
-  used-small : length (firstUses (column q cs)) ≤ missing
-  used-small = omega (arith, used-few, p .few)
-
-  -- the entries that the renumbered column uses are those that there are
-  entries-twice :
-      (l : List ℕ) → l ≡ map (renumber (firstUses (column q cs))) (column q cs)
-      → entries w (entries w attrs (firstUses (column q cs))) (firstUses l) ≡ entries w attrs (firstUses (column q cs))
-  entries-twice l e =
-      let us = firstUses (column q cs) in
-      ap (λ (t : List ℕ). entries w (entries w attrs us) t)
-      (ap firstUses e ∙ uses-again (column q cs) used-small ∙ renumber-uses (column q cs))
-      ∙ entries-again attrs w (p .count) us (p .whole) (uses-below (p .count) (column q cs) (p .within)) us (λ v h. h)
-
-  -- and a corner that is renumbered keeps its number
-  number-twice :
-      (l : List ℕ) → l ≡ map (renumber (firstUses (column q cs))) (column q cs) → (i : ℕ) → has i (column q cs) ≡ true
-      → renumber (firstUses l) (renumber (firstUses (column q cs)) i) ≡ renumber (firstUses (column q cs)) i
-  number-twice l e i h =
-      ap (λ (t : List ℕ). renumber (firstUses t) (renumber (firstUses (column q cs)) i)) e
-      ∙ renumber-again (column q cs) used-small i h
-
--- ---- the new corners
-
-module _ (m : Mesh) where
-  new-corners : (l : Ring) → every isCorner (map (renumbered m) l) ≡ true
-  unfolding renumbered
-  new-corners [] = refl
-  new-corners (c ∷ l) = new-corners l
-
-  new-rings : (fs : List Ring) → every isRing (map (map (renumbered m)) fs) ≡ true
-  new-rings [] = refl
-  new-rings (f ∷ fs) =
-      and-both (isRing (map (renumbered m) f)) (every isRing (map (map (renumbered m)) fs)) (new-corners f) (new-rings fs)
-
-  -- corner by corner they are those that were given, renumbered
-  pub corners-compacted : cornersIn (compacted m .corners) ≡ map (renumbered m) (cornersIn (m .corners))
-  unfolding compacted
-  corners-compacted = cornersIn-joined (map (renumbered m) (cornersIn (m .corners))) (new-corners (cornersIn (m .corners)))
-
-  -- so each column is that column renumbered
-  pub positions-renumbered :
-      map position (cornersIn (compacted m .corners)) ≡ map (renumber (usedPositions m)) (map position (cornersIn (m .corners)))
-  unfolding renumbered
-  positions-renumbered =
-      ap (map position) corners-compacted
-      ∙ map-map position (renumbered m) (cornersIn (m .corners))
-      ∙ sym (map-map (renumber (usedPositions m)) position (cornersIn (m .corners)))
-
-  pub textures-renumbered :
-      map texture (cornersIn (compacted m .corners)) ≡ map (renumber (usedTextures m)) (map texture (cornersIn (m .corners)))
-  unfolding renumbered
-  textures-renumbered =
-      ap (map texture) corners-compacted
-      ∙ map-map texture (renumbered m) (cornersIn (m .corners))
-      ∙ sym (map-map (renumber (usedTextures m)) texture (cornersIn (m .corners)))
-
-  pub normals-renumbered :
-      map normal (cornersIn (compacted m .corners)) ≡ map (renumber (usedNormals m)) (map normal (cornersIn (m .corners)))
-  unfolding renumbered
-  normals-renumbered =
-      ap (map normal) corners-compacted
-      ∙ map-map normal (renumbered m) (cornersIn (m .corners))
-      ∙ sym (map-map (renumber (usedNormals m)) normal (cornersIn (m .corners)))
-
--- what a column has of a corner stands in the column
-its-number : (f : Corner → ℕ) (l : Ring) (k : ℕ) → k < length l → has (f (getD l k [])) (map f l) ≡ true
-its-number f [] k h = absurd (not-suc-le-zero h)
-its-number f (c ∷ l) zero h = in-head (f c) (map f l)
-its-number f (c ∷ l) (suc k) h = in-tail (f (getD l k [])) (f c) (map f l) (its-number f l k (le-of-suc-le-suc h))
-
--- ---- faces, one after the other
-
-module _ (r : Corner → Corner) where
-  joined-map : (fs : List Ring) → joined (map (map r) fs) ≡ map r (joined fs)
-  joined-map [] = refl
-  joined-map (f ∷ fs) = ap (λ (l : Ring). map r f ++ l) (joined-map fs) ∙ sym (map-append r f (joined fs))
-
-  lengths-map : (fs : List Ring) → map length (map (map r) fs) ≡ map length fs
-  lengths-map [] = refl
-  lengths-map (f ∷ fs) =
-      ap (λ (n : ℕ). n ∷ map length (map (map r) fs)) (length-map f r) ∙ ap (λ (l : List ℕ). length f ∷ l) (lengths-map fs)
+use Rattle.compaction.proofs.Columns.{used-few, used-small, new-corners, new-rings, corners-compacted, its-number, joined-map, lengths-map}
 
 -- ---- counts
 
@@ -229,44 +137,7 @@ module _ (m : Mesh) (z : meshNumber m ≡ 0) where
         found = all-found;
       })
 
-  -- ---- every entry is used, and different indices stay different
-
-  pub every-position-used : EveryPositionUsed m
-  unfolding usedPositions
-  every-position-used i h =
-      ap (has i) (positions-renumbered m) ∙ every-number (map position (cornersIn (m .corners))) i (rw positions-counted at h)
-
-  pub every-texture-used : EveryTextureUsed m
-  unfolding usedTextures
-  every-texture-used i h =
-      ap (has i) (textures-renumbered m) ∙ every-number (map texture (cornersIn (m .corners))) i (rw textures-counted at h)
-
-  pub every-normal-used : EveryNormalUsed m
-  unfolding usedNormals
-  every-normal-used i h =
-      ap (has i) (normals-renumbered m) ∙ every-number (map normal (cornersIn (m .corners))) i (rw normals-counted at h)
-
-  -- first uses come in the order 0, 1, 2, ..
-  pub positions-in-order : usedPositions (compacted m) ≡ span 0 (positionCount (compacted m))
-  unfolding usedPositions
-  positions-in-order =
-      ap firstUses (positions-renumbered m)
-      ∙ uses-numbered (map position (cornersIn (m .corners))) (used-small (pointed-positions m z))
-      ∙ ap (span 0) (sym positions-counted)
-
-  pub textures-in-order : usedTextures (compacted m) ≡ span 0 (textureCount (compacted m))
-  unfolding usedTextures
-  textures-in-order =
-      ap firstUses (textures-renumbered m)
-      ∙ uses-numbered (map texture (cornersIn (m .corners))) (used-small (pointed-textures m z))
-      ∙ ap (span 0) (sym textures-counted)
-
-  pub normals-in-order : usedNormals (compacted m) ≡ span 0 (normalCount (compacted m))
-  unfolding usedNormals
-  normals-in-order =
-      ap firstUses (normals-renumbered m)
-      ∙ uses-numbered (map normal (cornersIn (m .corners))) (used-small (pointed-normals m z))
-      ∙ ap (span 0) (sym normals-counted)
+  -- ---- different indices stay different
 
   module _ (i j : ℕ) where
     pub position-same :
@@ -274,12 +145,6 @@ module _ (m : Mesh) (z : meshNumber m ≡ 0) where
         → eqb (renumber (usedPositions m) i) (renumber (usedPositions m) j) ≡ eqb i j
     unfolding usedPositions
     position-same = renumber-same (map position (cornersIn (m .corners))) (used-small (pointed-positions m z)) i j
-
-    pub texture-same :
-        has i (map texture (cornersIn (m .corners))) ≡ true → has j (map texture (cornersIn (m .corners))) ≡ true
-        → eqb (renumber (usedTextures m) i) (renumber (usedTextures m) j) ≡ eqb i j
-    unfolding usedTextures
-    texture-same = renumber-same (map texture (cornersIn (m .corners))) (used-small (pointed-textures m z)) i j
 
     pub normal-same :
         has i (map normal (cornersIn (m .corners))) ≡ true → has j (map normal (cornersIn (m .corners))) ≡ true
@@ -321,35 +186,3 @@ module _ (m : Mesh) (z : meshNumber m ≡ 0) where
       (λ k h. map-map position (renumbered m) (getD (faces m) k [])
       ∙ sym (map-map (renumber (usedPositions m)) position (getD (faces m) k [])))
       ∙ sym (map-map (map (renumber (usedPositions m))) (map position) (faces m))
-
-  -- ---- a second time
-
-  corner-twice :
-      (k : ℕ) → k < length (cornersIn (m .corners))
-      → renumbered (compacted m) (renumbered m (getD (cornersIn (m .corners)) k [])) ≡ renumbered m (getD (cornersIn (m .corners)) k [])
-  unfolding renumbered usedPositions usedTextures usedNormals
-  corner-twice k h =
-      let cs = cornersIn (m .corners) in
-      let c = getD cs k [] in
-      let p = number-twice (pointed-positions m z) (map position (cornersIn (compacted m .corners))) (positions-renumbered m)
-      (position c) (its-number position cs k h) in
-      let t = number-twice (pointed-textures m z) (map texture (cornersIn (compacted m .corners))) (textures-renumbered m) (texture c)
-      (its-number texture cs k h) in
-      let n = number-twice (pointed-normals m z) (map normal (cornersIn (compacted m .corners))) (normals-renumbered m) (normal c)
-      (its-number normal cs k h) in
-      λ i. p i ∷ t i ∷ n i ∷ []
-
-  corners-twice : map (renumbered (compacted m)) (cornersIn (compacted m .corners)) ≡ map (renumbered m) (cornersIn (m .corners))
-  corners-twice =
-      ap (map (renumbered (compacted m))) (corners-compacted m)
-      ∙ map-map (renumbered (compacted m)) (renumbered m) (cornersIn (m .corners))
-      ∙ map-same (λ c. renumbered (compacted m) (renumbered m c)) (renumbered m) [] (cornersIn (m .corners)) corner-twice
-
-  -- compacting a second time changes nothing
-  pub compacted-again : SecondTimeSame m
-  unfolding compacted usedPositions usedTextures usedNormals
-  compacted-again =
-      let p = entries-twice (pointed-positions m z) (map position (cornersIn (compacted m .corners))) (positions-renumbered m) in
-      let t = entries-twice (pointed-textures m z) (map texture (cornersIn (compacted m .corners))) (textures-renumbered m) in
-      let n = entries-twice (pointed-normals m z) (map normal (cornersIn (compacted m .corners))) (normals-renumbered m) in
-      λ i. meshOf (p i) (t i) (n i) (joined (corners-twice i)) (m .sizes)

@@ -1,4 +1,3 @@
-pub mod Places
 pub mod Uses
 pub mod Entries
 pub mod Renumbering
@@ -6,5 +5,7 @@ pub mod Turn
 pub mod Loop
 pub mod Accepting
 pub mod Answer
+pub mod Columns
 pub mod Laws
+pub mod Again
 pub mod Using

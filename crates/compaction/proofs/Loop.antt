@@ -3,19 +3,21 @@ use mathlib.Core.Path.{_≡_, refl, sym, ap, _∙_}
 use mathlib.Core.List.{List, [], _∷_, _++_, map, map-append}
 use Prim.Native.Nat.{ℕ, _+_, _*_, _/_, _≤_, _<_}
 use native.Mathlib.Nat.{add-zero}
-use native.Mathlib.Numerals.{add-one, towards-suc}
+use native.Mathlib.Numerals.{add-one}
 use native.Mathlib.Omega.{arith}
 use lib.ListN.{length, getD, take, set, replicate}
 use lib.Seq.{sets, length-sets, take-suc, take-all, length-take-le}
 use lib.Ieee.{Float}
 use Rattle.lists.specs.Lists.{joined}
+use Rattle.lists.specs.FirstUses.{firstUses}
 use Rattle.lists.proofs.Parts.{joined-append}
+use Rattle.lists.proofs.Stores.{three-stores}
 use Rattle.lists.proofs.Writing.{sets-append}
 use Rattle.mesh.specs.Limits.{width, entryLimit}
 use Rattle.mesh.specs.Mesh.{Corner, Ring, missing, cornersIn, cornerAt}
 use Rattle.mesh.proofs.Corners.{length-cornersIn, getD-cornersIn}
 use Rattle.compaction.specs.declared.Compacted.{Compacted}
-use Rattle.compaction.specs.Compaction.{firstUses, renumber, entries, Result}
+use Rattle.compaction.specs.Compaction.{usesOf, renumber, entries, Result}
 use Rattle.compaction.specs.Working.{column, usesTo, newCorner, Pointed, Tables, Before, Taken, Done}
 use Rattle.compaction.proofs.Turn.{tables-begin, length-column, uses-within}
 
@@ -60,19 +62,19 @@ module _
   column-few p = omega (arith, c .tables .counted, uses-within p k, p .few)
 
   -- where all are read
-  all-read : length cs / width ≤ k → usesTo q cs k ≡ firstUses (column q cs)
-  all-read h = ap firstUses (take-all k (column q cs) (rw (length-column q cs) h))
+  all-read : length cs / width ≤ k → usesTo q cs k ≡ usesOf (column q cs)
+  all-read h = ap usesOf (take-all k (column q cs) (rw (length-column q cs) h))
 
-  column-ends : length cs / width ≤ k → fresh ≡ sets fresh₀ 0 (entries w attrs (firstUses (column q cs)))
+  column-ends : length cs / width ≤ k → fresh ≡ sets fresh₀ 0 (entries w attrs (usesOf (column q cs)))
   column-ends h = c .grown ∙ ap (λ (us : List ℕ). sets fresh₀ 0 (entries w attrs us)) (all-read h)
 
-  column-counts : length cs / width ≤ k → used ≡ length (firstUses (column q cs))
+  column-counts : length cs / width ≤ k → used ≡ length (usesOf (column q cs))
   column-counts h = c .tables .counted ∙ ap length (all-read h)
 
 -- ---- the new corners
 
-three-stores : (l : List ℕ) (a x y z : ℕ) → set (set (set l (a + 0) x) (a + 1) y) (a + 2) z ≡ sets l a (x ∷ y ∷ z ∷ [])
-three-stores l a x y z = simp (add-zero, towards-suc)
+from-first : (l : List ℕ) (a x y z : ℕ) → set (set (set l (a + 0) x) (a + 1) y) (a + 2) z ≡ sets l a (x ∷ y ∷ z ∷ [])
+from-first l a x y z = rw (add-zero a) (three-stores l a x y z)
 
 module _ (cs : List ℕ) where
   length-new : (l : Ring) → length (joined (map (newCorner cs) l)) ≡ width * length l
@@ -100,9 +102,9 @@ module _ (cs : List ℕ) where
   corners-turn :
       (o : List ℕ) (k : ℕ) → k < length cs / width → (c0 c1 c2 c3 : List ℕ)
       → c0 ≡ sets o 0 (joined (map (newCorner cs) (take k (cornersIn cs))))
-      → c1 ≡ set c0 (width * k + 0) (renumber (firstUses (column 0 cs)) (getD cs (width * k + 0) 0))
-      → c2 ≡ set c1 (width * k + 1) (renumber (firstUses (column 1 cs)) (getD cs (width * k + 1) 0))
-      → c3 ≡ set c2 (width * k + 2) (renumber (firstUses (column 2 cs)) (getD cs (width * k + 2) 0))
+      → c1 ≡ set c0 (width * k + 0) (renumber (usesOf (column 0 cs)) (getD cs (width * k + 0) 0))
+      → c2 ≡ set c1 (width * k + 1) (renumber (usesOf (column 1 cs)) (getD cs (width * k + 1) 0))
+      → c3 ≡ set c2 (width * k + 2) (renumber (usesOf (column 2 cs)) (getD cs (width * k + 2) 0))
       → c3 ≡ sets o 0 (joined (map (newCorner cs) (take (k + 1) (cornersIn cs))))
   corners-turn o k h c0 c1 c2 c3 e0 e1 e2 e3 =
       let done = joined (map (newCorner cs) (take k (cornersIn cs))) in
@@ -110,10 +112,10 @@ module _ (cs : List ℕ) where
       let a : length done ≡ width * length (take k (cornersIn cs)) = length-new (take k (cornersIn cs)) in
       let b : length (take k (cornersIn cs)) ≡ k = length-take-le k (cornersIn cs) (rw (length-cornersIn cs) (omega arith)) in
       omega arith in
-      e3 ∙ rw (e2, e1) (three-stores c0 (width * k) _ _ _)
+      e3 ∙ rw (e2, e1) (from-first c0 (width * k) _ _ _)
       ∙ ap (λ (i : ℕ). sets c0 (width * k)
-      (renumber (firstUses (column 0 cs)) (getD cs i 0) ∷ renumber (firstUses (column 1 cs)) (getD cs (width * k + 1) 0) ∷ renumber
-      (firstUses (column 2 cs)) (getD cs (width * k + 2) 0) ∷ [])) (add-zero (width * k))
+      (renumber (usesOf (column 0 cs)) (getD cs i 0) ∷ renumber (usesOf (column 1 cs)) (getD cs (width * k + 1) 0) ∷ renumber
+      (usesOf (column 2 cs)) (getD cs (width * k + 2) 0) ∷ [])) (add-zero (width * k))
       ∙ ap (λ (l : List ℕ). sets l (width * k) (newCorner cs (cornerAt cs k))) e0
       ∙ ap (λ (n : ℕ). sets (sets o 0 done) n (newCorner cs (cornerAt cs k))) (sym long)
       ∙ sym (sets-append o 0 done (newCorner cs (cornerAt cs k)))

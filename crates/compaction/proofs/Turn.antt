@@ -12,18 +12,19 @@ use lib.Dec.{eqb}
 use lib.Ieee.{Float}
 use borrow.Author.Tests.{eqb-true, eqb-false, eq-eqb, ne-eqb, leb-false}
 use Rattle.lists.specs.Lists.{some, has}
+use Rattle.lists.specs.FirstUses.{place}
 use Rattle.lists.proofs.Bools.{by-cases}
 use Rattle.lists.proofs.Parts.{some-take, some-false-at}
 use Rattle.lists.proofs.Writing.{sets-append}
 use Rattle.lists.proofs.Members.{has-snoc}
 use Rattle.lists.proofs.Others.{eqb-self}
+use Rattle.lists.proofs.Places.{place-below, place-append, place-new}
 use Rattle.mesh.specs.Limits.{width, entryLimit}
 use Rattle.mesh.specs.Mesh.{Corner, missing, cornersIn, cornerAt}
 use Rattle.mesh.specs.Table.{beyondUnlessMissing}
 use Rattle.mesh.proofs.Corners.{length-cornersIn, getD-cornersIn}
-use Rattle.compaction.specs.Compaction.{firstUses, place, renumber, entryAt, entries}
+use Rattle.compaction.specs.Compaction.{usesOf, renumber, entryAt, entries}
 use Rattle.compaction.specs.Working.{column, indexAt, usesTo, Pointed, Tables, Before, Taken}
-use Rattle.compaction.proofs.Places.{place-below, place-append, place-new}
 use Rattle.compaction.proofs.Uses.{uses-append, uses-more-missing, uses-more-old, uses-more-new, uses-below, uses-few}
 use Rattle.compaction.proofs.Entries.{entry-within, length-entries, entries-more}
 
@@ -53,15 +54,15 @@ column-more q cs k h l =
     rw (add-one k, take-suc (column q cs) k 0 n, getD-column q cs k h l)
 
 -- what the whole column uses begins with what its first k use
-uses-rest : (l : List ℕ) (k : ℕ) → (v : List ℕ) × (firstUses l ≡ firstUses (take k l) ++ v)
-uses-rest l k = (_, ap firstUses (sym (take-append-drop k l)) ∙ uses-append (take k l) (drop k l))
+uses-rest : (l : List ℕ) (k : ℕ) → (v : List ℕ) × (usesOf l ≡ usesOf (take k l) ++ v)
+uses-rest l k = (_, ap usesOf (sym (take-append-drop k l)) ∙ uses-append (take k l) (drop k l))
 
 -- so an index that they use has its number already
 pub number-early :
-    (l : List ℕ) (k i : ℕ) → has i (firstUses (take k l)) ≡ true → place (firstUses l) i ≡ place (firstUses (take k l)) i
+    (l : List ℕ) (k i : ℕ) → has i (usesOf (take k l)) ≡ true → place (usesOf l) i ≡ place (usesOf (take k l)) i
 number-early l k i h =
     let r = uses-rest l k in
-    ap (λ (us : List ℕ). place us i) (r .1) ∙ place-append (firstUses (take k l)) (r .0) i h
+    ap (λ (us : List ℕ). place us i) (r .1) ∙ place-append (usesOf (take k l)) (r .0) i h
 
 -- ---- the entries that the first corners use
 
@@ -96,12 +97,12 @@ module _
   there : k < length cs / width
   there = omega (arith, b .corner)
 
-  uses-are : usesTo q cs (k + 1) ≡ firstUses (take k (column q cs) ++ (indexAt cs k q ∷ []))
-  uses-are = ap firstUses (column-more q cs k (b .pointed .is-column) there)
+  uses-are : usesTo q cs (k + 1) ≡ usesOf (take k (column q cs) ++ (indexAt cs k q ∷ []))
+  uses-are = ap usesOf (column-more q cs k (b .pointed .is-column) there)
 
   -- nothing changes but the corner
   unchanged :
-      (n : ℕ) → usesTo q cs (k + 1) ≡ usesTo q cs k → n ≡ renumber (firstUses (column q cs)) (indexAt cs k q)
+      (n : ℕ) → usesTo q cs (k + 1) ≡ usesTo q cs k → n ≡ renumber (usesOf (column q cs)) (indexAt cs k q)
       → Taken attrs w cs k q old2new used fresh fresh out (set out (width * k + q) n)
   unchanged n u e = record {
     tables = rw u (b .tables);

@@ -1,30 +1,25 @@
 -- Compaction, as document 01 has it: first uses, the new numbers, the new lists. Assumes nothing.
-use Prim.Native.Nat.{ℕ, suc, _*_}
+use Prim.Native.Nat.{ℕ, _*_}
 use mathlib.Core.Path.{_≡_}
-use mathlib.Core.Bool.{Bool, cond}
+use mathlib.Core.Bool.{Bool, cond, not}
 use mathlib.Core.List.{List, [], _∷_, map}
 use lib.ListN.{length, take, drop}
 use lib.Seq.{sets}
 use lib.Dec.{eqb}
 use lib.Ieee.{Float}
-use Rattle.lists.specs.Lists.{others, joined, each}
+use Rattle.lists.specs.Lists.{only, joined, each}
+use Rattle.lists.specs.FirstUses.{firstUses, place}
 use Rattle.mesh.specs.Mesh.{Mesh, meshOf, Corner, position, texture, normal, missing, cornersIn, positionCount, textureCount, normalCount}
 use Rattle.mesh.specs.Table.{meshNumber, firstOf, when, lent, short, after}
 use Rattle.compaction.specs.declared.Compacted.{Compacted}
 
--- an index in front of the uses behind it: it stands first and not again; a missing one is no use
-abbrev pub firstUse : ℕ → List ℕ → List ℕ
-firstUse i us = cond (eqb i missing) us (i ∷ others i us)
+-- a missing index is no use
+abbrev pub present : ℕ → Bool
+present i = not (eqb i missing)
 
--- the indices of a column, each once, in the order of their first use
-unfoldable pub firstUses : List ℕ → List ℕ
-firstUses [] = []
-firstUses (i ∷ l) = firstUse i (firstUses l)
-
--- where i first stands in a list, counted from 0
-unfoldable pub place : List ℕ → ℕ → ℕ
-place [] i = 0
-place (u ∷ us) i = cond (eqb u i) 0 (suc (place us i))
+-- the indices that a column uses, each once, in the order of their first use
+abbrev pub usesOf : List ℕ → List ℕ
+usesOf l = firstUses (only present l)
 
 -- an index is renumbered by first use, from 0; a missing index stays missing
 unfoldable pub renumber : List ℕ → ℕ → ℕ
@@ -40,13 +35,13 @@ entries w l us = each (entryAt w l) us
 
 -- corners are read in face order: the positions, then the texture points, then the normals that they use
 unfoldable pub usedPositions : Mesh → List ℕ
-usedPositions m = firstUses (map position (cornersIn (m .corners)))
+usedPositions m = usesOf (map position (cornersIn (m .corners)))
 
 unfoldable pub usedTextures : Mesh → List ℕ
-usedTextures m = firstUses (map texture (cornersIn (m .corners)))
+usedTextures m = usesOf (map texture (cornersIn (m .corners)))
 
 unfoldable pub usedNormals : Mesh → List ℕ
-usedNormals m = firstUses (map normal (cornersIn (m .corners)))
+usedNormals m = usesOf (map normal (cornersIn (m .corners)))
 
 -- a corner, each of its three numbers renumbered by its own column
 unfoldable pub renumbered : Mesh → Corner → Corner

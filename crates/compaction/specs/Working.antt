@@ -7,10 +7,11 @@ use lib.ListN.{length, getD, take, set}
 use lib.Seq.{sets}
 use lib.Ieee.{Float}
 use Rattle.lists.specs.Lists.{some, has, joined}
+use Rattle.lists.specs.FirstUses.{place}
 use Rattle.mesh.specs.Limits.{width, entryLimit}
 use Rattle.mesh.specs.Mesh.{Corner, missing, cornersIn}
 use Rattle.mesh.specs.Table.{beyondUnlessMissing}
-use Rattle.compaction.specs.Compaction.{firstUses, place, renumber, entries, Result}
+use Rattle.compaction.specs.Compaction.{usesOf, renumber, entries, Result}
 use Rattle.compaction.specs.declared.Compacted.{Compacted}
 
 -- column q of the corners: the positions for 0, the texture points for 1, the normals for 2
@@ -23,7 +24,7 @@ indexAt cs k q = getD cs (width * k + q) 0
 
 -- what the first k corners use in column q
 abbrev pub usesTo : ℕ → List ℕ → ℕ → List ℕ
-usesTo q cs k = firstUses (take k (column q cs))
+usesTo q cs k = usesOf (take k (column q cs))
 
 -- an entry of a list lies within it, w numbers wide
 pub record Entry (l : List Float) (w i : ℕ) : Type 0 where
@@ -65,14 +66,14 @@ pub record Taken
   pub grown :
       (l : List Float) → fresh ≡ sets l 0 (entries w attrs (usesTo q cs k))
       → fresh′ ≡ sets l 0 (entries w attrs (usesTo q cs (k + 1)))
-  pub numbered : out′ ≡ set out (width * k + q) (renumber (firstUses (column q cs)) (indexAt cs k q))
+  pub numbered : out′ ≡ set out (width * k + q) (renumber (usesOf (column q cs)) (indexAt cs k q))
 
 -- a corner with its three numbers renumbered, each by its column
 abbrev pub newCorner : List ℕ → Corner → Corner
 newCorner cs c =
-    renumber (firstUses (column 0 cs)) (getD c 0 0)
-    ∷ renumber (firstUses (column 1 cs)) (getD c 1 0)
-    ∷ renumber (firstUses (column 2 cs)) (getD c 2 0)
+    renumber (usesOf (column 0 cs)) (getD c 0 0)
+    ∷ renumber (usesOf (column 1 cs)) (getD c 1 0)
+    ∷ renumber (usesOf (column 2 cs)) (getD c 2 0)
     ∷ []
 
 -- what the loop over the corners rests on
@@ -88,13 +89,13 @@ pub record Ready (p t n : List Float) (cs : List ℕ) (before : Result) : Type 0
 -- and what it gives
 pub record Done (p t n : List Float) (cs : List ℕ) (before afterwards : Result) (answer : Compacted) : Type 0 where
   pub number : answer .number ≡ 0
-  pub position-count : answer .positions ≡ length (firstUses (column 0 cs))
-  pub texture-count : answer .textures ≡ length (firstUses (column 1 cs))
-  pub normal-count : answer .normals ≡ length (firstUses (column 2 cs))
+  pub position-count : answer .positions ≡ length (usesOf (column 0 cs))
+  pub texture-count : answer .textures ≡ length (usesOf (column 1 cs))
+  pub normal-count : answer .normals ≡ length (usesOf (column 2 cs))
   pub corners : afterwards .corners ≡ sets (before .corners) 0 (joined (map (newCorner cs) (cornersIn cs)))
-  pub positions : afterwards .positions ≡ sets (before .positions) 0 (entries 3 p (firstUses (column 0 cs)))
-  pub textures : afterwards .textures ≡ sets (before .textures) 0 (entries 2 t (firstUses (column 1 cs)))
-  pub normals : afterwards .normals ≡ sets (before .normals) 0 (entries 3 n (firstUses (column 2 cs)))
+  pub positions : afterwards .positions ≡ sets (before .positions) 0 (entries 3 p (usesOf (column 0 cs)))
+  pub textures : afterwards .textures ≡ sets (before .textures) 0 (entries 2 t (usesOf (column 1 cs)))
+  pub normals : afterwards .normals ≡ sets (before .normals) 0 (entries 3 n (usesOf (column 2 cs)))
 
 -- a refusal: its number, and counts of 0
 pub record Refused (answer : Compacted) (number : ℕ) : Type 0 where

@@ -33,7 +33,10 @@ pub fn remove_unused_attrs(
     newtextures: &mut [f64],
     newnormals: &mut [f64],
 ) -> Compacted
-    ensures { λ r. ⌜ want.Compaction (meshOf (now (positions .entry)) (now (textures .entry)) (now (normals .entry)) (now (corners .entry)) (now (sizes .entry))) (want.resultOf (now (newcorners .entry)) (now (newpositions .entry)) (now (newtextures .entry)) (now (newnormals .entry))) (want.resultOf (now (newcorners .exit)) (now (newpositions .exit)) (now (newtextures .exit)) (now (newnormals .exit))) r ⌝ }
+    ensures { λ r. ⌜ want.Compaction
+        (meshOf (now (positions .entry)) (now (textures .entry)) (now (normals .entry)) (now (corners .entry)) (now (sizes .entry)))
+        (want.resultOf (now (newcorners .entry)) (now (newpositions .entry)) (now (newtextures .entry)) (now (newnormals .entry)))
+        (want.resultOf (now (newcorners .exit)) (now (newpositions .exit)) (now (newtextures .exit)) (now (newnormals .exit))) r ⌝ }
 {
     let number = mesh::number(positions, textures, normals, corners, sizes);
     if number != 0 {
@@ -88,7 +91,9 @@ pub fn compact(
     ns: &mut [f64],
 ) -> Compacted
     requires { ⌜ Ready (now positions) (now textures) (now normals) (now corners) (want.resultOf (now cs) (now ps) (now ts) (now ns)) ⌝ }
-    ensures { λ r. ⌜ Done (now (positions .entry)) (now (textures .entry)) (now (normals .entry)) (now (corners .entry)) (want.resultOf (now (cs .entry)) (now (ps .entry)) (now (ts .entry)) (now (ns .entry))) (want.resultOf (now (cs .exit)) (now (ps .exit)) (now (ts .exit)) (now (ns .exit))) r ⌝ }
+    ensures { λ r. ⌜ Done (now (positions .entry)) (now (textures .entry)) (now (normals .entry)) (now (corners .entry))
+        (want.resultOf (now (cs .entry)) (now (ps .entry)) (now (ts .entry)) (now (ns .entry)))
+        (want.resultOf (now (cs .exit)) (now (ps .exit)) (now (ts .exit)) (now (ns .exit))) r ⌝ }
 {
     let count = corners.len() / mesh::WIDTH;
     let mut pmap = [MISSING; mesh::ENTRIES];

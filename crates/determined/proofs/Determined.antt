@@ -5,15 +5,18 @@ use mathlib.Core.Path.{_≡_, sym, _∙_}
 use mathlib.Core.List.{List}
 use Prim.Native.Nat.{ℕ}
 use Rattle.mesh.specs.Mesh.{Mesh, meshOf}
+use Rattle.mesh.specs.Listed.{Listed, listedOf}
 use Rattle.mesh.specs.Table.{meshNumber}
 use Rattle.mesh.specs.Face.{facePart}
+use Rattle.faces.specs.Faces.{facesOf}
 use Rattle.compaction.specs.Compaction as compaction
 use Rattle.folded.specs.Folded as removal
-use Rattle.edges.specs.Answers.{answerOf, judged}
+use Rattle.edges.specs.Answers.{answerOf, judged, hemsIn}
 use Rattle.edges.proofs.Answering.{answer-only}
 use Rattle.tracing.specs.Answers.{Answered}
 use Rattle.tracing.specs.declared.Wires.{Wires}
-use Rattle.determined.specs.Determined.{Call, Determined, _and_, done, equals, TwoLists, number, face, pushCall, compactionCall, removalCall, mergingCall, verdictCall, hemCall, portedCall, houseCall, panelsCall, readCall, sheetCall, AllDetermined}
+use Rattle.determined.specs.Determined.{Call, Determined, _and_, done, equals, number, face, pushCall, compactionCall, removalCall}
+use Rattle.determined.specs.Determined.{mergingCall, verdictCall, hemCall, portedCall, houseCall, panelsCall, readCall, sheetCall, AllDetermined}
 
 -- ---- the general law
 
@@ -45,9 +48,9 @@ push-determined g r q a b =
     let n : r .0 .number ≡ q .0 .number = cc in
     let c : r .0 .corners ≡ q .0 .corners = cc in
     let f : r .0 .faces ≡ q .0 .faces = cc in
-    let x : r .1 .0 ≡ q .1 .0 = cc in
-    let y : r .1 .1 ≡ q .1 .1 = cc in
-    λ i. (record { number = n i; corners = c i; faces = f i }, (x i, y i))
+    let x : r .1 .corners ≡ q .1 .corners = cc in
+    let y : r .1 .sizes ≡ q .1 .sizes = cc in
+    λ i. (record { number = n i; corners = c i; faces = f i }, facesOf (x i) (y i))
 
 compaction-determined : Determined compactionCall
 compaction-determined g r q a b =
@@ -83,23 +86,23 @@ hem-determined : Determined hemCall
 hem-determined g r q a b =
     let n : r .0 .number ≡ q .0 .number = cc in
     let c : r .0 .count ≡ q .0 .count = cc in
-    let s : r .1 .0 ≡ q .1 .0 = cc in
-    let e : r .1 .1 ≡ q .1 .1 = cc in
-    λ i. (record { number = n i; count = c i }, (s i, e i))
+    let s : r .1 .starts ≡ q .1 .starts = cc in
+    let e : r .1 .ends ≡ q .1 .ends = cc in
+    λ i. (record { number = n i; count = c i }, hemsIn (s i) (e i))
 
 -- ported and house wires answer alike
 wires-determined :
-    {n : ℕ} {ws : List (List ℕ)} {flat lengths : List ℕ} (r q : Wires × TwoLists)
-    → Answered n ws flat lengths (r .1 .0) (r .1 .1) (r .0 .number) (r .0 .flat) (r .0 .wires)
-    → Answered n ws flat lengths (q .1 .0) (q .1 .1) (q .0 .number) (q .0 .flat) (q .0 .wires)
+    {n : ℕ} {ws : List (List ℕ)} {before : Listed} (r q : Wires × Listed)
+    → Answered n ws before (r .1) (r .0)
+    → Answered n ws before (q .1) (q .0)
     → r ≡ q
 wires-determined r q a b =
     let n : r .0 .number ≡ q .0 .number = cc in
     let m : r .0 .flat ≡ q .0 .flat = cc in
     let w : r .0 .wires ≡ q .0 .wires = cc in
-    let f : r .1 .0 ≡ q .1 .0 = cc in
-    let l : r .1 .1 ≡ q .1 .1 = cc in
-    λ i. (record { number = n i; flat = m i; wires = w i }, (f i, l i))
+    let f : r .1 .flat ≡ q .1 .flat = cc in
+    let l : r .1 .lengths ≡ q .1 .lengths = cc in
+    λ i. (record { number = n i; flat = m i; wires = w i }, listedOf (f i) (l i))
 
 ported-determined : Determined portedCall
 ported-determined g = wires-determined
@@ -112,9 +115,9 @@ panels-determined g r q a b =
     let n : r .0 .number ≡ q .0 .number = cc in
     let m : r .0 .faces ≡ q .0 .faces = cc in
     let p : r .0 .panels ≡ q .0 .panels = cc in
-    let f : r .1 .0 ≡ q .1 .0 = cc in
-    let l : r .1 .1 ≡ q .1 .1 = cc in
-    λ i. (record { number = n i; faces = m i; panels = p i }, (f i, l i))
+    let f : r .1 .flat ≡ q .1 .flat = cc in
+    let l : r .1 .lengths ≡ q .1 .lengths = cc in
+    λ i. (record { number = n i; faces = m i; panels = p i }, listedOf (f i) (l i))
 
 read-determined : Determined readCall
 read-determined g r q a b =

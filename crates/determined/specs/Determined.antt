@@ -2,32 +2,26 @@
 -- lent list afterwards, for accepted and refused input alike. Two results that it allows on one input are equal. Assumes nothing.
 use Prim.Native.Nat.{ℕ}
 use mathlib.Core.Path.{_≡_}
-use mathlib.Core.Bool.{Bool, false}
+use mathlib.Core.Bool.{Bool}
 use mathlib.Core.List.{List, [], _∷_}
 use lib.Ieee.{Float}
 use Rattle.mesh.specs.Mesh.{Mesh}
+use Rattle.mesh.specs.Listed.{Listed}
 use Rattle.mesh.specs.Table.{meshNumber}
 use Rattle.mesh.specs.Face.{facePart}
 use Rattle.faces.specs.Faces.{Grouped}
-use Rattle.faces.specs.declared.Pushed.{Pushed}
-use Rattle.compaction.specs.Compaction as compaction
-use Rattle.compaction.specs.declared.Compacted.{Compacted}
-use Rattle.folded.specs.Folded as removal
-use Rattle.folded.specs.declared.Removed.{Removed}
+use Rattle.compaction.specs.Compaction.{Compaction}
+use Rattle.folded.specs.Folded.{Removal}
 use Rattle.merging.specs.Merging.{PutTogether}
-use Rattle.merging.specs.declared.Merged.{Merged}
 use Rattle.edges.specs.Answers.{answerOf, judged, HemAnswer}
 use Rattle.edges.specs.declared.Judged.{Judged}
 use Rattle.edges.specs.declared.HemEdges.{HemEdges}
 use Rattle.ported.specs.Answers.{PortedAnswer}
 use Rattle.house.specs.Answers.{HouseAnswer}
-use Rattle.tracing.specs.declared.Wires.{Wires}
-use Rattle.panels.specs.Contract.{Answered}
+use Rattle.panels.specs.Contract.{PanelsAnswer}
 use Rattle.panels.specs.declared.Answer.{Answer}
 use Rattle.panelfile.specs.Answer.{PanelRead}
-use Rattle.panelfile.specs.declared.MeshRead.{MeshRead}
 use Rattle.sheet.specs.Sheet.{Printed}
-use Rattle.sheet.specs.declared.Answer.{Answer as Sheet}
 
 -- a call: what it is given, what it answers and leaves, and which of these its contract allows
 pub record Call : Type 1 where
@@ -49,7 +43,7 @@ pub data OfEach (P : Call → Type 0) : List Call → Type 1 where
 abbrev pub equals : {G R : Type 0} → (G → R) → Call
 equals {G} {R} f = record { Given = G; Result = R; Allows = λ g r. r ≡ f g }
 
--- ---- the calls, each with the contract of its function: `Tied` holds them to the sources
+-- ---- the calls, each with the contract that its function cites: `Tied` holds them to the sources
 
 -- `mesh::number`
 abbrev pub number : Call
@@ -59,92 +53,56 @@ number = equals meshNumber
 abbrev pub face : Call
 face = equals (λ (g : Mesh × ℕ). facePart (g .0) (g .1))
 
--- `compaction::remove_unused_attrs`: a mesh and the lent lists; the answer and the lists afterwards
-abbrev pub compactionCall : Call
-compactionCall = record {
-  Given = Mesh × compaction.Result;
-  Result = Compacted × compaction.Result;
-  Allows = λ g r. compaction.Compaction (g .0) (g .1) (r .1) (r .0);
-}
-
--- `folded::remove_degenerate_faces`: likewise
-abbrev pub removalCall : Call
-removalCall = record {
-  Given = Mesh × removal.Result;
-  Result = Removed × removal.Result;
-  Allows = λ g r. removal.Removal (g .0) (g .1) (r .1) (r .0);
-}
-
--- `merging::put_together_same_attrs`: a mesh, a tolerance and the lent list
-abbrev pub mergingCall : Call
-mergingCall = record {
-  Given = Mesh × Float × List ℕ;
-  Result = Merged × List ℕ;
-  Allows = λ g r. PutTogether (g .0) (g .1) (g .2) (r .0) (r .1);
-}
-
 -- `edges::shell_condition`
 abbrev pub verdictCall : Call
 verdictCall = record { Given = Mesh; Result = Judged; Allows = λ m r. answerOf r ≡ judged m }
 
--- two lent lists of numbers, and the two afterwards
-abbrev pub TwoLists : Type 0
-TwoLists = List ℕ × List ℕ
-
--- `faces::push`: the corners and the sizes of faces in any order, and the lent lists
-abbrev pub pushCall : Call
-pushCall = record {
-  Given = TwoLists × TwoLists;
-  Result = Pushed × TwoLists;
-  Allows = λ g r. Grouped (g .0 .0) (g .0 .1) (g .1 .0) (g .1 .1) (r .1 .0) (r .1 .1) (r .0);
+-- a call that lends lists: what is given and the lists before; the answer and the lists afterwards
+abbrev pub lending : {G L A : Type 0} → (G → L → L → A → Type 0) → Call
+lending {G} {L} {A} Contract = record {
+  Given = G × L;
+  Result = A × L;
+  Allows = λ g r. Contract (g .0) (g .1) (r .1) (r .0);
 }
+
+-- `faces::push`
+abbrev pub pushCall : Call
+pushCall = lending Grouped
+
+-- `compaction::remove_unused_attrs`
+abbrev pub compactionCall : Call
+compactionCall = lending Compaction
+
+-- `folded::remove_degenerate_faces`
+abbrev pub removalCall : Call
+removalCall = lending Removal
+
+-- `merging::put_together_same_attrs`: a mesh and a tolerance are given
+abbrev pub mergingCall : Call
+mergingCall = lending (λ (g : Mesh × Float). PutTogether (g .0) (g .1))
 
 -- `edges::hem_edges`
 abbrev pub hemCall : Call
-hemCall = record {
-  Given = Mesh × TwoLists;
-  Result = HemEdges × TwoLists;
-  Allows = λ g r. HemAnswer (g .0) (g .1 .0) (g .1 .1) (r .1 .0) (r .1 .1) (r .0);
-}
+hemCall = lending HemAnswer
 
 -- `ported::extract_boundaries` and `house::house_wires`
 abbrev pub portedCall : Call
-portedCall = record {
-  Given = Mesh × TwoLists;
-  Result = Wires × TwoLists;
-  Allows = λ g r. PortedAnswer (g .0) (g .1 .0) (g .1 .1) (r .1 .0) (r .1 .1) (r .0 .number) (r .0 .flat) (r .0 .wires);
-}
+portedCall = lending PortedAnswer
 
 abbrev pub houseCall : Call
-houseCall = record {
-  Given = Mesh × TwoLists;
-  Result = Wires × TwoLists;
-  Allows = λ g r. HouseAnswer (g .0) (g .1 .0) (g .1 .1) (r .1 .0) (r .1 .1) (r .0 .number) (r .0 .flat) (r .0 .wires);
-}
+houseCall = lending HouseAnswer
 
--- `panels::components`: a mesh, the normals setting, and the lent lists
+-- `panels::components`: a mesh and the normals setting are given
 abbrev pub panelsCall : Call
-panelsCall = record {
-  Given = Mesh × Bool × TwoLists;
-  Result = Answer × TwoLists;
-  Allows = λ g r. Answered (g .0) (g .1) (g .2 .0) (g .2 .1) (r .0 .number) (r .0 .faces) (r .0 .panels) (r .1 .0) (r .1 .1);
-}
+panelsCall = lending (λ (g : Mesh × Bool) (before afterwards : Listed) (answer : Answer). PanelsAnswer (g .0) (g .1) before afterwards answer)
 
--- `panelfile::read_panel`: the bytes of a file, and the five lent lists of a mesh
+-- `panelfile::read_panel`: the bytes of a file are given, and the five lists of a mesh lent
 abbrev pub readCall : Call
-readCall = record {
-  Given = List ℕ × Mesh;
-  Result = MeshRead × Mesh;
-  Allows = λ g r. PanelRead (g .0) (g .1) (r .1) (r .0);
-}
+readCall = lending PanelRead
 
--- `sheet::sheet`: the bytes of a file, and the lent list
+-- `sheet::sheet`: the bytes of a file are given
 abbrev pub sheetCall : Call
-sheetCall = record {
-  Given = List ℕ × List ℕ;
-  Result = Sheet × List ℕ;
-  Allows = λ g r. Printed (g .0) (g .1) (r .1) (r .0);
-}
+sheetCall = lending Printed
 
 abbrev pub calls : List Call
 calls =

@@ -7,9 +7,12 @@ use mathlib.Core.List.{List}
 use lib.Ieee.{Float}
 use denote.Ref.{RefT, now}
 use Rattle.mesh.specs.Mesh.{Mesh, meshOf}
+use Rattle.mesh.specs.Listed.{Listed, listedOf}
+use Rattle.faces.specs.Faces.{FaceLists, facesOf}
 use Rattle.compaction.specs.Compaction as compaction
 use Rattle.folded.specs.Folded as removal
-use Rattle.determined.specs.Determined.{Call, TwoLists, number, face, pushCall, compactionCall, removalCall, mergingCall, verdictCall}
+use Rattle.edges.specs.Answers.{HemLists, hemsIn}
+use Rattle.determined.specs.Determined.{Call, number, face, pushCall, compactionCall, removalCall, mergingCall, verdictCall}
 use Rattle.determined.specs.Determined.{hemCall, portedCall, houseCall, panelsCall, readCall, sheetCall}
 use Rattle.mesh.proofs.number.Reads as mesh-number
 use Rattle.mesh.proofs.face.Reads as mesh-face
@@ -44,12 +47,18 @@ module _ {Rest : Type 0} where
   abbrev pub rest : LendsMesh Rest → Rest
   rest a = a .1 .1 .1 .1 .1
 
-  -- what one lent list holds, and what two hold
+  -- what one lent list holds, and what two hold, by themselves or as the record of a contract
   abbrev pub list : {X : Type 0} → Lends X Rest → List X
   list a = now (a .0)
 
-  abbrev pub twoLists : Lends ℕ (Lends ℕ Rest) → TwoLists
-  twoLists a = (now (a .0), now (a .1 .0))
+  abbrev pub hemLists : Lends ℕ (Lends ℕ Rest) → HemLists
+  hemLists a = hemsIn (now (a .0)) (now (a .1 .0))
+
+  abbrev pub listed : Lends ℕ (Lends ℕ Rest) → Listed
+  listed a = listedOf (now (a .0)) (now (a .1 .0))
+
+  abbrev pub faceLists : Lends ℕ (Lends ℕ Rest) → FaceLists
+  faceLists a = facesOf (now (a .0)) (now (a .1 .0))
 
   -- the lists that compaction and removal lend
   abbrev pub compactedLists : Lends ℕ (Lends Float (Lends Float (Lends Float Rest))) → compaction.Result
@@ -75,18 +84,18 @@ OneResult {K} {A} {R} {E} Post result =
 pub record AllTied : Type 0 where
   pub number-tied : Tied mesh-number.Post number meshIn (λ r e. r)
   pub face-tied : Tied mesh-face.Post face (λ a. (meshIn a, rest a .0)) (λ r e. now r)
-  pub push-tied : Tied push.Post pushCall (λ a. (twoLists a, twoLists (a .1 .1))) (λ r e. (r, twoLists (e .1 .1)))
+  pub push-tied : Tied push.Post pushCall (λ a. (faceLists a, faceLists (a .1 .1))) (λ r e. (r, faceLists (e .1 .1)))
   pub compaction-tied :
       Tied remove-unused-attrs.Post compactionCall (λ a. (meshIn a, compactedLists (rest a))) (λ r e. (r, compactedLists (rest e)))
   pub removal-tied :
       Tied remove-degenerate-faces.Post removalCall (λ a. (meshIn a, removedLists (rest a))) (λ r e. (r, removedLists (rest e)))
   pub merging-tied :
-      Tied put-together-same-attrs.Post mergingCall (λ a. (meshIn a, rest a .0, list (rest a .1))) (λ r e. (r, list (rest e .1)))
+      Tied put-together-same-attrs.Post mergingCall (λ a. ((meshIn a, rest a .0), list (rest a .1))) (λ r e. (r, list (rest e .1)))
   pub verdict-tied : Tied shell-condition.Post verdictCall meshIn (λ r e. r)
-  pub hem-tied : Tied hem-edges.Post hemCall (λ a. (meshIn a, twoLists (rest a))) (λ r e. (r, twoLists (rest e)))
-  pub ported-tied : Tied extract-boundaries.Post portedCall (λ a. (meshIn a, twoLists (rest a))) (λ r e. (r, twoLists (rest e)))
-  pub house-tied : Tied house-wires.Post houseCall (λ a. (meshIn a, twoLists (rest a))) (λ r e. (r, twoLists (rest e)))
+  pub hem-tied : Tied hem-edges.Post hemCall (λ a. (meshIn a, hemLists (rest a))) (λ r e. (r, hemLists (rest e)))
+  pub ported-tied : Tied extract-boundaries.Post portedCall (λ a. (meshIn a, listed (rest a))) (λ r e. (r, listed (rest e)))
+  pub house-tied : Tied house-wires.Post houseCall (λ a. (meshIn a, listed (rest a))) (λ r e. (r, listed (rest e)))
   pub panels-tied :
-      Tied components.Post panelsCall (λ a. (meshIn a, rest a .0, twoLists (rest a .1))) (λ r e. (r, twoLists (rest e .1)))
+      Tied components.Post panelsCall (λ a. ((meshIn a, rest a .0), listed (rest a .1))) (λ r e. (r, listed (rest e .1)))
   pub read-tied : Tied read-panel.Post readCall (λ a. (list a, meshIn (a .1))) (λ r e. (r, meshIn (e .1)))
   pub sheet-tied : Tied sheet.Post sheetCall (λ a. (list a, list (a .1))) (λ r e. (r, list (e .1)))

@@ -5,28 +5,20 @@ use mathlib.Core.Option.{Option, none, some}
 use mathlib.Core.Bool.{Bool}
 use mathlib.Core.List.{List, [], _∷_, map}
 use Prim.Native.Nat.{ℕ, zero, suc, _/_, _≤_, _<_}
-use native.Mathlib.Omega.{arith}
 use lib.ListN.{length}
 use lib.Seq.{sets}
 use borrow.Author.Tests.{lt-ltb, le-ltb}
 use Rattle.mesh.specs.Limits.{width}
-use Rattle.mesh.specs.Mesh.{Mesh, faces, rings, positionCount}
+use Rattle.mesh.specs.Mesh.{Mesh, faces, rings}
 use Rattle.mesh.specs.Table.{meshNumber, when, lent, short, after}
 use Rattle.mesh.proofs.Numbers.{first-is, first-on, row-given}
-use Rattle.mesh.proofs.Accepted.{Accepted, accepted}
+pub use Rattle.mesh.proofs.Edges.{edged}
 use Rattle.edges.specs.Edges.{edgesOf, Verdict, verdict, hems}
-use Rattle.edges.specs.Answers.{verdictOf, Answer, answerOf, judged, meshEdgesOf, start, end, hemNumber, HemAnswer, Hemmed}
-use Rattle.edges.specs.Runs.{Edged}
+use Rattle.edges.specs.Answers.{verdictOf, Answer, answerOf, judged, meshEdgesOf, start, end, hemNumber, hemsIn, HemAnswer, Hemmed}
 use Rattle.edges.specs.declared.ShellCondition.{ShellCondition}
 use Rattle.edges.specs.declared.Judged.{Judged}
 use Rattle.edges.specs.declared.Judged.the-variants.{Found, Refused}
 use Rattle.edges.specs.declared.Hems.{Hems}
-
--- an accepted mesh has what the calls between crates ask
-pub edged : (m : Mesh) → meshNumber m ≡ 0 → Edged (m .corners) (m .sizes) (positionCount m)
-edged m h =
-    let a : Accepted m = accepted m h in
-    record { sound = a .sound; few = omega (arith, a .limits .positions); below = λ k l. a .corner k l .position }
 
 -- what a call that answered a number leaves
 module _ {A : Type 0} (new old : A) where
@@ -69,15 +61,15 @@ hem-zero m starts ends z g k =
 
 module _ (m : Mesh) (starts ends : List ℕ) where
   -- a number that is not 0: nothing is written
-  pub hem-refused : (n : ℕ) → n ≡ hemNumber m (length starts) (length ends) → (n ≡ 0 → ⊥) → HemAnswer m starts ends starts ends (record { number = n; count = 0 })
-  hem-refused n e h =
-      let z : hemNumber m (length starts) (length ends) ≡ 0 → ⊥ = λ q. h (e ∙ q) in
-      record {
-        number = e;
-        count = sym (refused (length (hems (meshEdgesOf m))) 0 (hemNumber m (length starts) (length ends)) z);
-        starting = sym (refused _ starts (hemNumber m (length starts) (length ends)) z);
-        ending = sym (refused _ ends (hemNumber m (length starts) (length ends)) z);
-      }
+  pub hem-refused :
+      (n : ℕ) → n ≡ hemNumber m (length starts) (length ends) → (n ≡ 0 → ⊥)
+      → HemAnswer m (hemsIn starts ends) (hemsIn starts ends) (record { number = n; count = 0 })
+  hem-refused n e h = record {
+    number = e;
+    count = sym (refused (length (hems (meshEdgesOf m))) 0 n h);
+    starts = sym (refused _ starts n h);
+    ends = sym (refused _ ends n h);
+  }
 
   module _ (n : ℕ) (e : n ≡ meshNumber m) where
     -- the mesh earns a number
@@ -88,26 +80,31 @@ module _ (m : Mesh) (starts ends : List ℕ) where
     -- a list is too short
     pub hem-starts-short : n ≡ 0 → length starts < length (m .corners) / width → 9 ≡ hemNumber m (length starts) (length ends)
     unfolding hemNumber short
-    hem-starts-short z l = sym (first-on (meshNumber m) (when (tight m (length starts) (length ends)) 9 ∷ []) (sym e ∙ z) ∙ row-given (tight m (length starts) (length ends)) 8 [] (rw (lt-ltb (length starts) (length (m .corners) / width) l)))
+    hem-starts-short z l =
+        sym
+        (first-on (meshNumber m) (when (tight m (length starts) (length ends)) 9 ∷ []) (sym e ∙ z)
+        ∙ row-given (tight m (length starts) (length ends)) 8 [] (rw (lt-ltb (length starts) (length (m .corners) / width) l)))
 
     pub hem-ends-short : n ≡ 0 → length (m .corners) / width ≤ length starts → length ends < length (m .corners) / width → 9 ≡ hemNumber m (length starts) (length ends)
     unfolding hemNumber short
-    hem-ends-short z g l = sym (first-on (meshNumber m) (when (tight m (length starts) (length ends)) 9 ∷ []) (sym e ∙ z) ∙ row-given (tight m (length starts) (length ends)) 8 [] (rw (le-ltb (length starts) (length (m .corners) / width) g, lt-ltb (length ends) (length (m .corners) / width) l)))
+    hem-ends-short z g l =
+        sym
+        (first-on (meshNumber m) (when (tight m (length starts) (length ends)) 9 ∷ []) (sym e ∙ z)
+        ∙ row-given (tight m (length starts) (length ends)) 8 []
+        (rw (le-ltb (length starts) (length (m .corners) / width) g, lt-ltb (length ends) (length (m .corners) / width) l)))
 
     -- neither
     pub hem-done :
         n ≡ 0 → length (m .corners) / width ≤ length starts → length (m .corners) / width ≤ length ends → (starts′ ends′ : List ℕ) (r : Hems)
-        → Hemmed (edgesOf (rings (m .sizes) (m .corners))) starts ends starts′ ends′ r → HemAnswer m starts ends starts′ ends′ (record { number = 0; count = r .count })
+        → Hemmed (edgesOf (rings (m .sizes) (m .corners))) starts ends starts′ ends′ r
+        → HemAnswer m (hemsIn starts ends) (hemsIn starts′ ends′) (record { number = 0; count = r .count })
     unfolding faces
     hem-done z g k starts′ ends′ r h = record {
-      number = sym zero-is;
-      count = h .count ∙ sym (done (length (hems (meshEdgesOf m))) 0 (hemNumber m (length starts) (length ends)) zero-is);
-      starting = h .starting ∙ sym (done (sets starts 0 (map start (hems (meshEdgesOf m)))) starts (hemNumber m (length starts) (length ends)) zero-is);
-      ending = h .ending ∙ sym (done (sets ends 0 (map end (hems (meshEdgesOf m)))) ends (hemNumber m (length starts) (length ends)) zero-is);
+      number = sym (hem-zero m starts ends (sym e ∙ z) g k);
+      count = h .count;
+      starts = h .starting;
+      ends = h .ending;
     }
-      where
-        zero-is : hemNumber m (length starts) (length ends) ≡ 0
-        zero-is = hem-zero m starts ends (sym e ∙ z) g k
 
 -- ---- an answer is known by its number and verdict
 

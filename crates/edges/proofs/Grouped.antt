@@ -1,29 +1,31 @@
 -- The uses, sorted by higher and then by lower position, are the uses of each edge, edge by edge in ascending order: first for every
 -- pair of positions below n, then for the edges alone, since the others have no use. Assumes nothing.
 use mathlib.Core.Path.{_≡_, refl, sym, ap, ap₂, _∙_, subst, fun-ext}
-use mathlib.Core.Bool.{Bool, true, false, _&&_, and-comm}
-use mathlib.Core.List.{List, [], _++_, map}
+use mathlib.Core.Bool.{Bool, true, false, _&&_}
+use mathlib.Core.List.{List, [], _∷_, _++_, map}
 use mathlib.Core.Logic.{inl, inr}
 use Prim.Native.Nat.{ℕ, zero, suc, _+_, _≤_, _<_}
 use native.Mathlib.Omega.{arith}
-use lib.ListN.{length, getD, length-map, List·getD-map}
+use lib.ListN.{length, getD, length-map}
 use lib.Dec.{ltb, eqb}
 use borrow.Author.Tests.{ltb-true, eqb-true, eqb-false}
 use Rattle.lists.specs.Lists.{only, some, every, each, span}
 use Rattle.lists.proofs.Bools.{by-cases, and-left, and-right, or-left, or-right}
-use Rattle.lists.proofs.Buckets.{only-cong, only-none, each-cong, length-only}
+use Rattle.lists.proofs.Buckets.{only-cong, only-only, only-none, each-cong, length-only}
 use Rattle.lists.proofs.Alike.{some-map}
 use Rattle.lists.proofs.Others.{eqb-flip}
 use Rattle.lists.proofs.Mapping.{only-map, each-map, each-each, map-span, some-find}
 use Rattle.lists.proofs.Parts.{some-append}
-use Rattle.sorting.specs.Sorting.{sortedBy}
-use Rattle.sorting.proofs.Laws.{sorted-twice}
+use Rattle.sorting.specs.Digits.{digit, passed}
+use Rattle.sorting.proofs.Digits.{passed-buckets}
+use Rattle.uses.specs.Uses.{keyAt}
+use Rattle.mesh.proofs.Edges.{key-below}
+use Rattle.uses.proofs.Sides.{inside}
+use Rattle.uses.proofs.Reading.{useAt, lowers, highers, key-at}
 use Rattle.edges.specs.Edges.{Edge, same, key, keys, uses}
-use Rattle.edges.specs.Runs.{lowerOf, higherOf, downOf, keyAt}
 use Rattle.edges.proofs.SameEdge.{same-true, same-refl}
 use Rattle.edges.proofs.Ascending.{Above, Asc, keys-asc, keys-member}
 use Rattle.edges.proofs.EachEdge.{above-append, within, each-part}
-use Rattle.edges.proofs.Keys.{key-below}
 
 -- ---- all pairs of positions
 
@@ -64,7 +66,9 @@ in-row l h a zero p q = absurd (let r : h < a + zero = q in omega arith)
 in-row l h a (suc n) p q =
     by-cases (eqb h a)
     (λ e. or-left (same (l, h) (l, a)) (within (l, h) (row l (suc a) n)) (rw (eqb-true h a e) (same-refl (l, a))))
-    (λ e. or-right (same (l, h) (l, a)) (within (l, h) (row l (suc a) n)) (in-row l h (suc a) n (let ne : h ≡ a → ⊥ = eqb-false h a e in omega arith) (let r : h < a + suc n = q in omega arith)))
+    (λ e.
+    or-right (same (l, h) (l, a)) (within (l, h) (row l (suc a) n))
+    (in-row l h (suc a) n (let ne : h ≡ a → ⊥ = eqb-false h a e in omega arith) (let r : h < a + suc n = q in omega arith)))
 
 in-square : (x : Edge) (N a n : ℕ) → a ≤ x .0 → x .0 < a + n → x .1 < N → within x (square N a n) ≡ true
 unfolding square
@@ -79,59 +83,28 @@ in-square x N a (suc n) p q r =
     or-right (within x (row a 0 N)) (within x (square N (suc a) n))
     (in-square x N (suc a) n (let ne : x .0 ≡ a → ⊥ = eqb-false (x .0) a e in omega arith) (let s : x .0 < a + suc n = q in omega arith) r))
 
--- both ends are below n
-abbrev pub inside : ℕ → Edge → Bool
-inside n e = ltb (e .0) n && ltb (e .1) n
-
--- ---- the columns of a list of edges
+-- ---- the uses of each edge
 
 module _ (es : List Edge) where
-  -- use u
-  abbrev pub useAt : ℕ → Edge
-  useAt u = getD es u (0, 0)
-
-  abbrev pub lowers : List ℕ
-  lowers = map lowerOf es
-
-  abbrev pub highers : List ℕ
-  highers = map higherOf es
-
-  abbrev pub downs : List ℕ
-  downs = map downOf es
-
-  pub lower-at : (u : ℕ) → getD lowers u 0 ≡ key (useAt u) .0
-  unfolding key
-  lower-at u = List·getD-map lowerOf es u (0, 0)
-
-  pub higher-at : (u : ℕ) → getD highers u 0 ≡ key (useAt u) .1
-  unfolding key
-  higher-at u = List·getD-map higherOf es u (0, 0)
-
-  pub down-at : (u : ℕ) → getD downs u 0 ≡ downOf (useAt u)
-  down-at u = List·getD-map downOf es u (0, 0)
-
-  pub key-at : (u : ℕ) → keyAt lowers highers u ≡ key (useAt u)
-  key-at u = λ i. (lower-at u i, higher-at u i)
-
   -- the uses of the edge k, in order
   abbrev pub groupAt : Edge → List ℕ
-  groupAt k = only (λ u. same k (keyAt lowers highers u)) (span 0 (length es))
+  groupAt k = only (λ u. same k (keyAt (lowers es) (highers es) u)) (span 0 (length es))
 
   -- they are those uses of the list
-  pub group-uses : (k : Edge) → map useAt (groupAt k) ≡ only (λ e. same k (key e)) es
+  pub group-uses : (k : Edge) → map (useAt es) (groupAt k) ≡ only (λ e. same k (key e)) es
   group-uses k =
-      ap (map useAt) (only-cong (λ u. same k (keyAt lowers highers u)) (λ u. same k (key (useAt u))) (λ u. ap (same k) (key-at u)) (span 0 (length es)))
-      ∙ sym (only-map useAt (λ e. same k (key e)) (span 0 (length es)))
+      ap (map (useAt es)) (only-cong (λ u. same k (keyAt (lowers es) (highers es) u)) (λ u. same k (key (useAt es u))) (λ u. ap (same k) (key-at es u)) (span 0 (length es)))
+      ∙ sym (only-map (useAt es) (λ e. same k (key e)) (span 0 (length es)))
       ∙ ap (only (λ e. same k (key e))) (map-span (0, 0) es)
 
   pub group-length : (k : Edge) → length (groupAt k) ≡ uses k es
-  group-length k = sym (length-map (groupAt k) useAt) ∙ ap length (group-uses k) ∙ length-only (λ e. same k (key e)) es
+  group-length k = sym (length-map (groupAt k) (useAt es)) ∙ ap length (group-uses k) ∙ length-only (λ e. same k (key e)) es
 
   group-none : (k : Edge) → within k (keys es) ≡ false → groupAt k ≡ []
   group-none k h =
-      only-none (λ u. same k (keyAt lowers highers u)) (span 0 (length es))
-      (ap (λ (p : ℕ → Bool). some p (span 0 (length es))) (fun-ext (λ u. ap (same k) (key-at u)))
-      ∙ sym (some-map (λ e. same k (key e)) useAt (span 0 (length es)))
+      only-none (λ u. same k (keyAt (lowers es) (highers es) u)) (span 0 (length es))
+      (ap (λ (p : ℕ → Bool). some p (span 0 (length es))) (fun-ext (λ u. ap (same k) (key-at es u)))
+      ∙ sym (some-map (λ e. same k (key e)) (useAt es) (span 0 (length es)))
       ∙ ap (some (λ e. same k (key e))) (map-span (0, 0) es)
       ∙ sym (keys-member k es)
       ∙ h)
@@ -153,18 +126,21 @@ module _ (es : List Edge) where
     grouped = each-part groupAt (square N 0 N) (keys es) (asc-square N 0 N) (keys-asc es) keys-in (λ x _ h. group-none x h)
 
     -- sorted by higher position, then by lower: edge by edge
-    pub sorted-uses : sortedBy N lowers (sortedBy N highers (span 0 (length es))) ≡ each groupAt (keys es)
+    pub sorted-uses : passed (digit N (lowers es) ∷ digit N (highers es) ∷ []) (span 0 (length es)) ≡ each groupAt (keys es)
     unfolding square row
     sorted-uses =
-        sorted-twice N N lowers highers (span 0 (length es))
+        passed-buckets (digit N (lowers es) ∷ digit N (highers es) ∷ []) (span 0 (length es))
         ∙ each-cong _ (λ l. each groupAt (row l 0 N))
         (λ l.
-        each-cong _ (λ h. groupAt (l, h)) (λ h. only-cong _ (λ u. same (l, h) (keyAt lowers highers u)) (key-swap l h) (span 0 (length es))) (span 0 N)
+        each-cong _ (λ h. groupAt (l, h))
+        (λ h.
+        only-only (λ u. eqb (getD (highers es) u 0) h) (λ u. eqb (getD (lowers es) u 0) l) (span 0 (length es))
+        ∙ only-cong _ (λ u. same (l, h) (keyAt (lowers es) (highers es) u)) (key-both l h) (span 0 (length es)))
+        (span 0 N)
         ∙ sym (each-map groupAt (λ h. (l, h)) (span 0 N)))
         (span 0 N)
         ∙ sym (each-each groupAt (λ l. row l 0 N) (span 0 N))
         ∙ grouped
       where
-        key-swap : (l h u : ℕ) → (eqb (getD highers u 0) h && eqb (getD lowers u 0) l) ≡ same (l, h) (keyAt lowers highers u)
-        key-swap l h u =
-            and-comm (eqb (getD highers u 0) h) (eqb (getD lowers u 0) l) ∙ ap₂ _&&_ (eqb-flip (getD lowers u 0) l) (eqb-flip (getD highers u 0) h)
+        key-both : (l h u : ℕ) → (eqb (getD (lowers es) u 0) l && eqb (getD (highers es) u 0) h) ≡ same (l, h) (keyAt (lowers es) (highers es) u)
+        key-both l h u = ap₂ _&&_ (eqb-flip (getD (lowers es) u 0) l) (eqb-flip (getD (highers es) u 0) h)

@@ -4,7 +4,7 @@ use mathlib.Core.Path.{_≡_, refl, sym, ap, _∙_}
 use mathlib.Core.Logic.{_⊎_, inl, inr}
 use mathlib.Core.Bool.{Bool, true, false, cond, _||_, or-self-left}
 use mathlib.Core.List.{List, [], _∷_}
-use Prim.Native.Nat.{ℕ, _≤_, _<_}
+use Prim.Native.Nat.{_≤_, _<_}
 use native.Mathlib.Omega.{arith}
 use lib.Dec.{leb}
 use borrow.Author.Tests.{leb-true, leb-false}
@@ -32,15 +32,6 @@ key-or-flip e = go (leb (e .0) (e .1))
     go : (b : Bool) → (e ≡ cond b e (flip e)) ⊎ (e ≡ flip (cond b e (flip e)))
     go true = inl refl
     go false = inr refl
-
--- both ends of the key below n, where both ends of the edge are
-pub key-below : (n : ℕ) (e : Edge) → e .0 < n → e .1 < n → (key e .0 < n) × (key e .1 < n)
-unfolding key
-key-below n e p q = go (leb (e .0) (e .1))
-  where
-    go : (b : Bool) → (cond b e (flip e) .0 < n) × (cond b e (flip e) .1 < n)
-    go true = (p, q)
-    go false = (q, p)
 
 -- ---- the list of keys
 

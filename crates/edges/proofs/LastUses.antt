@@ -12,7 +12,8 @@ use Rattle.edges.specs.Edges.{Edge, same, flip, key, keys, uses, odd, la
 use Rattle.edges.specs.Runs.{lastOdd, startAt, endAt}
 use Rattle.edges.proofs.Ascending.{keys-asc}
 use Rattle.edges.proofs.Scans.{oddLast, odd-each, keyed-only}
-use Rattle.edges.proofs.Grouped.{useAt, lowers, highers, downs, lower-at, higher-at, down-at, groupAt, group-uses, group-length}
+use Rattle.uses.proofs.Reading.{useAt, lowers, highers, downs, lower-at, higher-at, down-at}
+use Rattle.edges.proofs.Grouped.{groupAt, group-uses, group-length}
 
 -- ---- the last of a list
 

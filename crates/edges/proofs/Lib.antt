@@ -10,10 +10,7 @@ pub mod Grouped
 pub mod Scans
 pub mod Judging
 pub mod LastUses
-pub mod Uses
-pub mod Filling
-pub mod Facing
-pub mod Ordered
+pub mod Hemming
 pub mod Composed
 pub mod Answering
 pub mod OfHems

@@ -24,8 +24,7 @@ use Rattle.edges.specs.Runs.{Edged}
 use Rattle.edges.proofs.SameEdge.{same-true, same-refl}
 use Rattle.edges.specs.Promises.{HemsUsed, HemsWithin}
 use Rattle.edges.proofs.OnlyHems.{isHem, hems-member}
-use Rattle.edges.proofs.Grouped.{inside}
-use Rattle.edges.proofs.Uses.{length-uses, uses-inside}
+use Rattle.uses.proofs.Sides.{inside, length-uses, uses-inside}
 use Rattle.edges.proofs.Answering.{edged}
 
 -- ---- no more than uses

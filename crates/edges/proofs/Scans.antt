@@ -12,26 +12,12 @@ use lib.Seq.{drop-cons}
 use lib.Dec.{leb, eqb}
 use Rattle.lists.specs.Lists.{keepIf, only, some, each, lastOf, bump, count}
 use Rattle.lists.proofs.Bools.{by-cases}
+use Rattle.uses.specs.Uses.{keyAt, goesOn}
 use Rattle.edges.specs.Edges.{Edge, same, odd}
-use Rattle.edges.specs.Runs.{keyAt, goesOn, hemsAt, oddAfter, lastOdd, tallyOf, counted, closed, stepped, tallied}
+use Rattle.edges.specs.Runs.{hemsAt, oddAfter, lastOdd, tallyOf, counted, closed, stepped, tallied}
 use Rattle.edges.specs.declared.Tally.{Tally}
 use Rattle.edges.proofs.SameEdge.{same-true, same-refl, Before, before-asym}
 use Rattle.edges.proofs.Ascending.{Above, Asc}
-
--- ---- the use behind a use
-
-module _ (lowers highers order : List ℕ) (i : ℕ) where
-  pub next-there :
-      (u v : ℕ) → i + 1 < length order → u ≡ getD order i 0 → v ≡ getD order (i + 1) 0
-      → same (keyAt lowers highers u) (keyAt lowers highers v) ≡ goesOn lowers highers (getD order i 0) (drop (i + 1) order)
-  unfolding goesOn
-  next-there u v h p q =
-      ap₂ (λ (a b : ℕ). same (keyAt lowers highers a) (keyAt lowers highers b)) p q
-      ∙ ap (goesOn lowers highers (getD order i 0)) (sym (drop-cons order (i + 1) 0 h))
-
-  pub next-none : length order ≤ i + 1 → false ≡ goesOn lowers highers (getD order i 0) (drop (i + 1) order)
-  unfolding goesOn
-  next-none h = ap (goesOn lowers highers (getD order i 0)) (sym (drop-of-length-le order h))
 
 -- ---- groups
 
@@ -178,7 +164,8 @@ module _ (downs : List ℕ) where
   unfolding closed
   group-closed g a b c =
       ap closed (counts g 0 0 a b c)
-      ∙ ap (λ (n : ℕ). tallyOf 0 0 (a || leb 3 n) (b || (leb 2 (0 + count up g) || leb 2 (0 + count down g))) (c || eqb 1 n)) (let h : count up g + count down g ≡ length g = halves g in let e : 0 + count up g + (0 + count down g) ≡ length g = omega arith in e)
+      ∙ ap (λ (n : ℕ). tallyOf 0 0 (a || leb 3 n) (b || (leb 2 (0 + count up g) || leb 2 (0 + count down g))) (c || eqb 1 n))
+      (let h : count up g + count down g ≡ length g = halves g in let e : 0 + count up g + (0 + count down g) ≡ length g = omega arith in e)
       ∙ ap₂ (λ (x y : ℕ). tallyOf 0 0 (a || leb 3 (length g)) (b || (leb 2 x || leb 2 y)) (c || eqb 1 (length g))) (zero-add (count up g)) (zero-add (count down g))
 
 module _ (lowers highers downs : List ℕ) where

@@ -1,46 +1,12 @@
--- Edges, verdict and hem edges, by counting over the list of all edges of a mesh, as document 01, 'Edges, verdict and wires', has them.
--- Assumes nothing.
-use mathlib.Core.Bool.{Bool, true, false, cond, not, _&&_, _||_}
-use mathlib.Core.List.{List, [], _∷_, _++_, map}
+-- Verdict and hem edges, by counting over the list of all edges of a mesh, as document 01, 'Edges, verdict and wires', has them. What an
+-- edge is stands in mesh/specs/Edges.antt and is passed on here. Assumes nothing.
+use mathlib.Core.Bool.{Bool, false, cond, not, _&&_, _||_}
+use mathlib.Core.List.{List, [], _∷_, map}
 use Prim.Native.Nat.{ℕ, zero, suc}
 use lib.Dec.{leb, ltb, eqb}
 use Rattle.lists.specs.Lists.{count, some, only}
-use Rattle.mesh.specs.Mesh.{Ring, position}
-
-module _ {A : Type 0} where
-  -- the edges of a walk from a through the list to z
-  abbrev pub runEdges : A → List A → A → List (A × A)
-  runEdges a [] z = (a, z) ∷ []
-  runEdges a (b ∷ r) z = (a, b) ∷ runEdges b r z
-
-  -- a face's edges run from each corner to the next and from the last to the first
-  abbrev pub ringEdges : List A → List (A × A)
-  ringEdges [] = []
-  ringEdges (a ∷ r) = runEdges a r a
-
-  -- the edges of all faces, in the order of the faces
-  abbrev pub meshEdges : List (List A) → List (A × A)
-  meshEdges [] = []
-  meshEdges (f ∷ fs) = ringEdges f ++ meshEdges fs
-
--- an edge runs from a position to a position
-abbrev pub Edge : Type 0
-Edge = ℕ × ℕ
-
--- the edges of the faces, by position
-abbrev pub edgesOf : List Ring → List Edge
-edgesOf fs = meshEdges (map (map position) fs)
-
--- whether two edges have the same start and the same end
-abbrev pub same : Edge → Edge → Bool
-same d e = eqb (d .0) (e .0) && eqb (d .1) (e .1)
-
--- an edge without direction is its lower and higher position; the two may be equal
-abbrev pub flip : Edge → Edge
-flip e = (e .1, e .0)
-
-unfoldable pub key : Edge → Edge
-key e = cond (leb (e .0) (e .1)) e (flip e)
+pub use Rattle.mesh.specs.Edges.{runEdges, ringEdges, meshEdges, Edge, edgesOf, same, flip}
+unfoldable pub use Rattle.mesh.specs.Edges.{key}
 
 -- how often the edge k, without direction, is used; how often it is used from d's start to d's end
 abbrev pub uses : Edge → List Edge → ℕ

@@ -1,105 +1,27 @@
--- The steps of the code, and no rules of document 01: the uses of all edges as three columns, and what a scan finds that goes
--- over the uses after they are sorted by edge. specs/Edges.antt has the rules, and proofs/ the laws by which these steps come to
--- them. Assumes nothing.
+-- The steps of the code, and no rules of document 01: what a scan finds that goes over the uses, sorted by edge (uses/specs/Uses.antt).
+-- specs/Edges.antt has the rules, and proofs/ the laws by which these steps come to them. Assumes nothing.
 use mathlib.Core.Path.{_≡_}
 use mathlib.Core.Bool.{Bool, false, cond, not, _||_}
 use mathlib.Core.List.{List, [], _∷_, _++_, map}
-use Prim.Native.Nat.{ℕ, _+_, _*_, _/_, _≤_, _<_}
+use Prim.Native.Nat.{ℕ, _+_, _/_, _≤_, _<_}
 use lib.ListN.{length, getD}
 use lib.Seq.{sets}
-use lib.Dec.{leb, ltb, eqb}
-use Rattle.lists.specs.Lists.{keepIf, span}
-use Rattle.mesh.specs.Limits.{width, entryLimit, cornerLimit}
-use Rattle.mesh.specs.Mesh.{position, cornersIn}
-use Rattle.mesh.specs.Face.{Sound}
-use Rattle.sorting.specs.Sorting.{sortedBy}
-use Rattle.edges.specs.Edges.{Edge, same, key, ringEdges, Verdict, Irregular, Regular, Oriented, Closed}
+use lib.Dec.{leb, eqb}
+use Rattle.lists.specs.Lists.{keepIf}
+use Rattle.mesh.specs.Limits.{width}
+use Rattle.uses.specs.Uses.{Ready, Rooms, Columned, goesOn}
+pub use Rattle.mesh.specs.Edges.{Edged}
+use Rattle.edges.specs.Edges.{Verdict, Irregular, Regular, Oriented, Closed}
 use Rattle.edges.specs.declared.Tally.{Tally}
 
--- the columns: a use's lower position, its higher position, and 1 where it runs down, from the higher to the lower
-abbrev pub lowerOf : Edge → ℕ
-lowerOf e = key e .0
-
-abbrev pub higherOf : Edge → ℕ
-higherOf e = key e .1
-
-abbrev pub downOf : Edge → ℕ
-downOf e = cond (leb (e .0) (e .1)) 0 1
-
-pub record Columns (es : List Edge) (lowers highers downs : List ℕ) : Type 0 where
-  pub lower : lowers ≡ map lowerOf es
-  pub higher : highers ≡ map higherOf es
-  pub down : downs ≡ map downOf es
-
--- the columns after the uses `new` are written to them from `at` on
-pub record Written (new : List Edge) (at : ℕ) (lowers highers downs lowers′ highers′ downs′ : List ℕ) : Type 0 where
-  pub lower : lowers′ ≡ sets lowers at (map lowerOf new)
-  pub higher : highers′ ≡ sets highers at (map higherOf new)
-  pub down : downs′ ≡ sets downs at (map downOf new)
-
--- columns with at least n places; room for n uses
-pub record Columned (n : ℕ) (lowers highers downs : List ℕ) : Type 0 where
-  pub lower : n ≤ length lowers
-  pub higher : n ≤ length highers
-  pub down : n ≤ length downs
-
-pub record Rooms (n : ℕ) (lowers highers downs first order : List ℕ) : Type 0 where
-  pub lower : length lowers ≡ n
-  pub higher : length highers ≡ n
-  pub down : length downs ≡ n
-  pub earlier : length first ≡ n
-  pub later : length order ≡ n
-
--- the edges of a face that is given as a part of the flat list of corners
-unfoldable pub faceEdges : List ℕ → List Edge
-faceEdges f = ringEdges (map position (cornersIn f))
-
--- the corner behind corner i of n: the next, or the first
-unfoldable pub nextOf : ℕ → ℕ → ℕ
-nextOf i n = cond (ltb (i + 1) n) (i + 1) 0
-
--- what the calls between crates rest on: sizes that add up to the corners, at most 2,048 positions, and every corner at one of them
-pub record Edged (cs s : List ℕ) (n : ℕ) : Type 0 where
-  pub sound : Sound cs s
-  pub few : n ≤ entryLimit
-  pub below : (k : ℕ) → k < length cs / width → getD cs (width * k) 0 < n
-
--- the uses sorted by higher, then by lower position
-unfoldable pub inOrder : ℕ → List ℕ → List ℕ → List ℕ
-inOrder n lowers highers = sortedBy n lowers (sortedBy n highers (span 0 (length lowers)))
-
--- columns of positions below n, and room for their order
-pub record Placed (n : ℕ) (lowers highers first order : List ℕ) : Type 0 where
-  pub few : n ≤ entryLimit
-  pub fits : length lowers ≤ cornerLimit
-  pub higher : length highers ≡ length lowers
-  pub earlier : length first ≡ length lowers
-  pub later : length order ≡ length lowers
-  pub lower-below : (u : ℕ) → u < length lowers → getD lowers u 0 < n
-  pub higher-below : (u : ℕ) → u < length lowers → getD highers u 0 < n
-
--- the columns of the uses es, and the uses in order
-pub record Gathered (n : ℕ) (es : List Edge) (lowers highers downs order : List ℕ) : Type 0 where
-  pub columns : Columns es lowers highers downs
-  pub sorted : order ≡ inOrder n lowers highers
-
 module _ (lowers highers : List ℕ) where
-  -- the edge, without direction, that use u is a use of
-  abbrev pub keyAt : ℕ → Edge
-  keyAt u = (getD lowers u 0, getD highers u 0)
-
-  -- whether the use after u is one of the same edge
-  unfoldable pub goesOn : ℕ → List ℕ → Bool
-  goesOn u [] = false
-  goesOn u (v ∷ us) = same (keyAt u) (keyAt v)
-
   -- a scan for the hem edges stands before use u, behind which stand the uses us; o says whether an odd number of the present
   -- edge's uses is passed. The use where it is the last of an odd number, and whether an odd number is passed after it
   unfoldable pub hemsAt : Bool → ℕ → List ℕ → List ℕ
-  hemsAt o u us = cond (goesOn u us) [] (keepIf (not o) u [])
+  hemsAt o u us = cond (goesOn lowers highers u us) [] (keepIf (not o) u [])
 
   unfoldable pub oddAfter : Bool → ℕ → List ℕ → Bool
-  oddAfter o u us = cond (goesOn u us) (not o) false
+  oddAfter o u us = cond (goesOn lowers highers u us) (not o) false
 
   -- of each edge with an odd number of uses the last one
   unfoldable pub lastOdd : Bool → List ℕ → List ℕ
@@ -113,6 +35,11 @@ module _ (lowers highers downs : List ℕ) where
 
   abbrev pub endAt : ℕ → ℕ
   endAt u = cond (eqb (getD downs u 0) 1) (getD lowers u 0) (getD highers u 0)
+
+-- room for n hem edges
+pub record HemRoom (n : ℕ) (starts ends : List ℕ) : Type 0 where
+  pub for-starts : n ≤ length starts
+  pub for-ends : n ≤ length ends
 
 -- the starts and ends after the uses `new` are written to them from `at` on; `next` is the place behind them
 pub record Put (lowers highers downs new : List ℕ) (at next : ℕ) (starts ends starts′ ends′ : List ℕ) : Type 0 where
@@ -149,13 +76,42 @@ module _ (lowers highers downs : List ℕ) where
   tallied t [] = t
   tallied t (u ∷ us) = tallied (stepped t u us) us
 
--- the sorted uses, each of which the columns have
-pub record Ready (lowers highers downs order : List ℕ) : Type 0 where
-  pub few : length order ≤ cornerLimit
-  pub higher : length highers ≡ length lowers
-  pub down : length downs ≡ length lowers
-  pub known : (j : ℕ) → j < length order → getD order j 0 < length lowers
-
 -- the verdict by what was seen
 unfoldable pub named : Tally → Verdict
 named t = cond (t .thrice) Irregular (cond (t .alike) Regular (cond (t .once) Oriented Closed))
+
+-- ---- what the functions rest on
+
+-- a mesh with n positions that is accepted, rows for its uses, and room for its hem edges
+pub record HemRows (cs s : List ℕ) (n : ℕ) (lowers highers downs first order starts ends : List ℕ) : Type 0 where
+  pub edged : Edged cs s n
+  pub rooms : Rooms (length cs / width) lowers highers downs first order
+  pub room : HemRoom (length cs / width) starts ends
+
+-- the use at place i, of which t has counted those before it at most
+pub record TallyAt (lowers highers downs order : List ℕ) (i : ℕ) (t : Tally) : Type 0 where
+  pub ready : Ready lowers highers downs order
+  pub inside : i < length order
+  pub small : t .ups + t .downs ≤ i
+
+-- all uses, with room for as many hem edges
+pub record PutReady (lowers highers downs order starts ends : List ℕ) : Type 0 where
+  pub ready : Ready lowers highers downs order
+  pub room : HemRoom (length order) starts ends
+
+-- the use at place i, with room for one hem edge more than `count`
+pub record HemAt (lowers highers downs order : List ℕ) (i count : ℕ) (starts ends : List ℕ) : Type 0 where
+  pub ready : Ready lowers highers downs order
+  pub inside : i < length order
+  pub room : HemRoom (count + 1) starts ends
+
+-- use u is in the columns, with room for one hem edge more than `at`
+pub record UseAt (lowers highers downs : List ℕ) (u at : ℕ) (starts ends : List ℕ) : Type 0 where
+  pub columned : Columned (u + 1) lowers highers downs
+  pub room : HemRoom (at + 1) starts ends
+
+-- what one use leaves: whether an odd number of the present edge's uses is passed, and the hem edge that it makes, if any
+pub record HemStep
+    (lowers highers downs : List ℕ) (odd : Bool) (u : ℕ) (us : List ℕ) (at : ℕ) (odd′ : Bool) (next : ℕ) (starts ends starts′ ends′ : List ℕ) : Type 0 where
+  pub parity : odd′ ≡ oddAfter lowers highers odd u us
+  pub put : Put lowers highers downs (hemsAt lowers highers odd u us) at next starts ends starts′ ends′

@@ -13,7 +13,7 @@ use borrow.Author.Tests.{eqb-true, eq-eqb}
 use Rattle.lists.specs.Lists.{some, span}
 use Rattle.lists.specs.Same.{sameNumbers, Tells}
 use Rattle.lists.proofs.Bools.{by-cases, and-both, and-left, and-right, or-left, or-right}
-use Rattle.lists.proofs.Counting.{clash, or-either}
+use Rattle.lists.proofs.Counting.{clash}
 use Rattle.lists.proofs.Parts.{every-at}
 use Rattle.lists.proofs.Same.{numbers-equal, lists-equal}
 use Rattle.mesh.specs.Mesh.{position, texture, cornersIn}
@@ -26,8 +26,9 @@ use Rattle.panels.specs.Panels.{panels}
 use Rattle.folded.proofs.Examples.{leaves-is}
 use Rattle.compaction.specs.Compaction.{compacted}
 use Rattle.merging.specs.Merging.{mergeNumber, texturePairs, mergedCorners}
-use Rattle.examples.specs.Twelve.{facesBy, tri, triangle, threeFaces, exchanged, touching, sixPositions, threeTextures, verdictNumber, hasVerdict, hasHem, hasPorted, hasHouse, hasPanels, compacts, merges, examples, allHold}
-use Rattle.examples.specs.Meaning.{Compacts, Merges, TestsTell, TwelveHold}
+use Rattle.examples.specs.Twelve.{facesBy, tri, triangle, threeFaces, exchanged, touching, sixPositions, threeTextures}
+use Rattle.examples.specs.Twelve.{verdictNumber, hasVerdict, hasHem, hasPorted, hasHouse, hasPanels, compacts, merges, examples, allHold}
+use Rattle.examples.specs.Meaning.{TestsTell, TwelveHold}
 use Rattle.examples.proofs.Hold.{they-hold}
 
 -- ---- the tests

@@ -11,7 +11,7 @@ use Rattle.lists.specs.Lists.{span}
 use Rattle.lists.specs.Same.{Tells}
 use Rattle.mesh.specs.Mesh.{Mesh, Ring, position, texture, cornersIn}
 use Rattle.mesh.specs.Table.{meshNumber}
-use Rattle.edges.specs.Edges.{Edge, same, edgesOf, Verdict, Irregular, Regular, Oriented, Closed, verdict, hems}
+use Rattle.edges.specs.Edges.{Edge, edgesOf, Verdict, Irregular, Regular, Oriented, Closed, verdict, hems}
 use Rattle.ported.specs.Ported.{portedWires}
 use Rattle.house.specs.House.{houseWires}
 use Rattle.panels.specs.Panels.{panels}

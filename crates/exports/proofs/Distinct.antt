@@ -20,7 +20,7 @@ use Rattle.mesh.specs.Table.{meshNumber}
 use Rattle.mesh.proofs.Corners.{length-cornersIn, getD-cornersIn}
 use Rattle.splitting.specs.Splitting.{twice, foldedBy}
 use Rattle.folding.specs.Folding.{folded}
-use Rattle.compaction.specs.Compaction.{firstUses}
+use Rattle.compaction.specs.Compaction.{usesOf}
 use Rattle.compaction.proofs.Uses.{has-uses, uses-once}
 use Rattle.edges.specs.Runs.{Edged}
 use Rattle.edges.proofs.Answering.{edged}
@@ -68,28 +68,28 @@ module _ (g : ℕ → ℕ) where
 
   module _ (l k : List ℕ) (one : OneToOne g l) (nl : has missing l ≡ false) (nk : has missing k ≡ false)
       (same : (y : ℕ) → has y (map g l) ≡ has y k) where
-    used-in : (x : ℕ) (c : List ℕ) → has x (firstUses c) ≡ true → has x c ≡ true
+    used-in : (x : ℕ) (c : List ℕ) → has x (usesOf c) ≡ true → has x c ≡ true
     used-in x c h = and-right (not (eqb x missing)) (has x c) (sym (has-uses x c) ∙ h)
 
-    in-used : (x : ℕ) (c : List ℕ) → has missing c ≡ false → has x c ≡ true → has x (firstUses c) ≡ true
+    in-used : (x : ℕ) (c : List ℕ) → has missing c ≡ false → has x c ≡ true → has x (usesOf c) ≡ true
     in-used x c n h = has-uses x c ∙ and-both (not (eqb x missing)) (has x c) (not-missing c n x h) h
 
-    same-used : (y : ℕ) → has y (map g (firstUses l)) ≡ has y (firstUses k)
+    same-used : (y : ℕ) → has y (map g (usesOf l)) ≡ has y (usesOf k)
     same-used y =
-        iff (has y (map g (firstUses l))) (has y (firstUses k))
+        iff (has y (map g (usesOf l))) (has y (usesOf k))
         (λ t.
-        let r = in-image g numbers-told numbers-told y (firstUses l) t in
+        let r = in-image g numbers-told numbers-told y (usesOf l) t in
         let i : has (g (r .0)) (map g l) ≡ true = image-in g numbers-told numbers-told (r .0) l (used-in (r .0) l (r .2)) in
         in-used y k nk (sym (same y) ∙ ap (λ (z : ℕ). has z (map g l)) (r .1) ∙ i))
         (λ t.
         let r = in-image g numbers-told numbers-told y l (same y ∙ used-in y k t) in
-        ap (λ (z : ℕ). has z (map g (firstUses l))) (r .1) ∙ image-in g numbers-told numbers-told (r .0) (firstUses l) (in-used (r .0) l nl (r .2)))
+        ap (λ (z : ℕ). has z (map g (usesOf l))) (r .1) ∙ image-in g numbers-told numbers-told (r .0) (usesOf l) (in-used (r .0) l nl (r .2)))
 
-    pub as-many-renumbered : length (firstUses l) ≡ length (firstUses k)
+    pub as-many-renumbered : length (usesOf l) ≡ length (usesOf k)
     as-many-renumbered =
-        sym (length-map (firstUses l) g)
-        ∙ as-long (map g (firstUses l)) (firstUses k)
-        (once-mapped (firstUses l) (λ i j h e. one i j (used-in i l h) (used-in j l e)) (uses-once l))
+        sym (length-map (usesOf l) g)
+        ∙ as-long (map g (usesOf l)) (usesOf k)
+        (once-mapped (usesOf l) (λ i j h e. one i j (used-in i l h) (used-in j l e)) (uses-once l))
         (uses-once k) same-used
 
 -- ---- the same faces are folded

@@ -6,10 +6,12 @@ use Rattle.grouping.specs.Push.{pushed}
 use Rattle.splitting.specs.Splitting.{foldedBy}
 use Rattle.folding.specs.Folding.{trianglePieces, pieces}
 use Rattle.folded.specs.Folded.{removed, unfoldedMesh}
-use Rattle.compaction.specs.Compaction.{firstUses, place, renumber, entries, usedPositions, usedTextures, usedNormals, renumbered, compacted}
+use Rattle.lists.specs.FirstUses.{firstUses, place}
+use Rattle.compaction.specs.Compaction.{renumber, entries, usedPositions, usedTextures, usedNormals, renumbered, compacted}
 use Rattle.edges.specs.Edges.{key, verdict, hems}
 use Rattle.house.specs.House.{walk, wiresIn, houseWires}
-use Rattle.sheet.specs.Sheet.{cleaned, foundIn}
+use Rattle.cleaning.specs.Cleaning.{cleaned}
+use Rattle.sheet.specs.Sheet.{foundIn}
 use Rattle.calls.specs.Begun.{touching, touchingLater}
 use Rattle.exports.specs.Sheets.{OtherHemLines}
 

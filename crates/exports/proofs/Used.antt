@@ -17,7 +17,7 @@ use Rattle.lists.proofs.Others.{eqb-self}
 use Rattle.mesh.specs.Mesh.{missing}
 use Rattle.order.specs.Same.{Turned, Same, none, face, swap, then}
 use Rattle.order.proofs.Turning.{Halves, halves}
-use Rattle.compaction.specs.Compaction.{firstUses}
+use Rattle.compaction.specs.Compaction.{usesOf}
 use Rattle.compaction.proofs.Uses.{has-uses, uses-once}
 use Rattle.exports.proofs.Counted.{counts-alike}
 
@@ -68,7 +68,7 @@ as-long l k o q h =
     ∙ counts-alike eqb eqb-true eqb-self l k (λ x. once-count l o x ∙ ap (λ (b : Bool). bump b 0) (h x) ∙ sym (once-count k q x)) .agree (λ x. true)
     ∙ count-all k
 
-pub as-many-used : (l k : List ℕ) → ((x : ℕ) → has x l ≡ has x k) → length (firstUses l) ≡ length (firstUses k)
+pub as-many-used : (l k : List ℕ) → ((x : ℕ) → has x l ≡ has x k) → length (usesOf l) ≡ length (usesOf k)
 as-many-used l k h =
-    as-long (firstUses l) (firstUses k) (uses-once l) (uses-once k)
+    as-long (usesOf l) (usesOf k) (uses-once l) (uses-once k)
     (λ x. has-uses x l ∙ ap (λ (b : Bool). not (eqb x missing) && b) (h x) ∙ sym (has-uses x k))

@@ -22,7 +22,11 @@ pub struct Pushed {
 // are written; or 1, 2 or 3 as the faces earn, or 9 where a result list is too short, with counts of 0 and nothing written. Indices
 // are not looked at: no list of positions, texture points or normals is given.
 pub fn push(corners: &[u32], sizes: &[u32], newcorners: &mut [u32], newsizes: &mut [u32]) -> Pushed
-    ensures { λ r. ⌜ want.Grouped (now (corners .entry)) (now (sizes .entry)) (now (newcorners .entry)) (now (newsizes .entry)) (now (newcorners .exit)) (now (newsizes .exit)) r ⌝ }
+    ensures { λ r. ⌜ want.Grouped
+        (want.facesOf (now (corners .entry)) (now (sizes .entry)))
+        (want.facesOf (now (newcorners .entry)) (now (newsizes .entry)))
+        (want.facesOf (now (newcorners .exit)) (now (newsizes .exit)))
+        r ⌝ }
 {
     let number = faces_number(corners, sizes);
     if number != 0 {

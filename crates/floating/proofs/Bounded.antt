@@ -3,7 +3,7 @@
 use mathlib.Core.Path.{_≡_, refl, sym, ap, _∙_, subst}
 use mathlib.Core.Bool.{Bool, true, false, not, _&&_, _||_}
 use Prim.Native.Nat.{ℕ, suc, _+_, _*_, _/_, _^_, _≤_, _<_}
-use native.Mathlib.Nat.{mul-pos, mul-le-mul-right, mul-le-mul, mul-lt-mul-of-pos-right, le-of-mul-le-mul-right, lt-of-mul-lt-mul-right, mul-div-cancel}
+use native.Mathlib.Nat.{le-trans, mul-pos, mul-le-mul-right, mul-le-mul, mul-lt-mul-of-pos-right, le-of-mul-le-mul-right, lt-of-mul-lt-mul-right, mul-div-cancel}
 use native.Mathlib.Omega.{arith}
 use lib.IntN.{ℤ, pos, negsuc}
 use lib.Dec.{T, ltb, eqb}
@@ -18,7 +18,9 @@ use Rattle.floating.specs.Limits.{power, boundless, far}
 use Rattle.floating.specs.Scaling.{lesser, greater}
 use Rattle.floating.proofs.Units.{Held, held, round-value, round-upto}
 use Rattle.floating.proofs.Heights.{height, over, lt-height}
-use Rattle.floating.proofs.Within.{Scaled, scaled, power-exact}
+use Rattle.floating.proofs.Roundings.{power-exact}
+use Rattle.floating.proofs.Middle.{middle}
+use Rattle.floating.proofs.Within.{Scaled, scaled}
 
 -- ---- a float's sign and its number of units
 
@@ -173,8 +175,9 @@ module _ (f : Format) where
         let exact : grid f (2 ^ 31 * U) U ≡ 2 ^ 31 * U = subst (λ (k : ℕ). grid f k U ≡ k) e (power-exact f (31 + low f) (subst (λ (k : ℕ). k < overflow f) (sym e) u)) in
         let m : c .size * U ≤ 2 * U * (q .size * 2 ^ 30) = mul-le-mul (c .most) (q .least) in
         let g : grid f (c .size) (q .size) ≤ 2 ^ 31 * U = round-upto f (c .size) (q .size) (2 ^ 31 * U) p exact u (omega arith) in
+        let sign = unlike (c .sign) (q .sign) in
         ap far (over f x t (c .sign) (q .sign) (c .size) (q .size) p (c .value) (q .value))
-        ∙ near-units (round f (unlike (c .sign) (q .sign)) (c .size) (q .size)) (unlike (c .sign) (q .sign)) (grid f (c .size) (q .size)) (round-value f (unlike (c .sign) (q .sign)) (c .size) (q .size) (omega arith)) g
+        ∙ near-units (round f sign (c .size) (q .size)) sign (grid f (c .size) (q .size)) (round-value f sign (c .size) (q .size) (omega arith)) g
 
     pub axis :
         (l p g : Float)
@@ -185,4 +188,6 @@ module _ (f : Format) where
         → tall p ≤ tall g
         → Scaled f (mul f (power (pos 1)) (div f (sub f p (add f l (div f (sub f g l) (power (pos 1))))) (greater (sub f g l) (power (pos 0)))))
     axis l p g a b c h k =
-        scaled f M B fine (omega arith) (omega arith) l p g (signOf l) (signOf p) (signOf g) (unitsOf l) (unitsOf p) (unitsOf g) (a .value) (b .value) (c .value) (a .exact) (c .exact) (a .small) (b .small) (c .small) h k
+        scaled f M B fine (omega arith) (omega arith) l p g (signOf p) (unitsOf p) (b .value) (b .small) (tall l) (tall g) h k
+        (middle f M B fine (omega arith) l g (signOf l) (signOf g) (unitsOf l) (unitsOf g)
+        (a .value) (c .value) (a .exact) (c .exact) (a .small) (c .small) (le-trans h k))

@@ -115,9 +115,12 @@ module _ (s : List Float) where
       let k : 3 * i ≡ 0 + length (each coordinates (take i scaledPoints)) = omega (arith, length-coordinates (take i scaledPoints), length-take-le i scaledPoints n) in
       let e : getD scaledPoints i (f nowhere) ≡ f (pointAt s i) = List·getD-map f (pointsOf s) i nowhere ∙ ap f (points-at nowhere s i h) in
       let t : take (i + 1) scaledPoints ≡ take i scaledPoints ++ (f (pointAt s i) ∷ []) = rw (add-one i, take-suc scaledPoints i (f nowhere) m, e) in
-      ap (λ (j : ℕ). sets (sets l 0 (each coordinates (take i scaledPoints))) j (coordinates (f (pointAt s i)))) k
-      ∙ sym (sets-append l 0 (each coordinates (take i scaledPoints)) (coordinates (f (pointAt s i))))
-      ∙ ap (sets l 0) (sym (ap (each coordinates) t ∙ each-append coordinates (take i scaledPoints) (f (pointAt s i) ∷ []) ∙ ap (λ (x : List Float). each coordinates (take i scaledPoints) ++ x) (append-nil (coordinates (f (pointAt s i))))))
+      let done = each coordinates (take i scaledPoints) in
+      let new = coordinates (f (pointAt s i)) in
+      ap (λ (j : ℕ). sets (sets l 0 done) j new) k
+      ∙ sym (sets-append l 0 done new)
+      ∙ ap (sets l 0)
+      (sym (ap (each coordinates) t ∙ each-append coordinates (take i scaledPoints) (f (pointAt s i) ∷ []) ∙ ap (λ (x : List Float). done ++ x) (append-nil new)))
 
   pub scaled-is : (b : Bounds) (i : ℕ) (p c d q : Point) → q ≡ axes3 scaledOf p c d → p ≡ pointAt s i → c ≡ centre b → d ≡ divisor b → q ≡ scaledIn b (pointAt s i)
   scaled-is b i p c d q e f g h = e ∙ ap (λ (x : Point). axes3 scaledOf x c d) f ∙ ap (λ (x : Point). axes3 scaledOf (pointAt s i) x d) g ∙ ap (axes3 scaledOf (pointAt s i) (centre b)) h

@@ -63,7 +63,11 @@ rejoin : (j : ℕ) → 1074 ≤ j → j - 1074 + 1074 ≡ j
 rejoin j h = omega arith
 
 shifted-up : (q j : ℕ) → 1074 ≤ j → q * 2 ^ j / 2 ^ 1074 ≡ q * 2 ^ (j - 1074)
-shifted-up q j h = ap (λ (k : ℕ). k / 2 ^ 1074) (ap (λ (k : ℕ). q * 2 ^ k) (sym (rejoin j h)) ∙ ap (λ (k : ℕ). q * k) (pow-add 2 (j - 1074) 1074) ∙ sym (mul-assoc q (2 ^ (j - 1074)) (2 ^ 1074))) ∙ shl-shr (q * 2 ^ (j - 1074)) 1074
+shifted-up q j h =
+    let over = j - 1074 in
+    ap (λ (k : ℕ). k / 2 ^ 1074)
+    (ap (λ (k : ℕ). q * 2 ^ k) (sym (rejoin j h)) ∙ ap (λ (k : ℕ). q * k) (pow-add 2 over 1074) ∙ sym (mul-assoc q (2 ^ over) (2 ^ 1074)))
+    ∙ shl-shr (q * 2 ^ over) 1074
 
 many : (q j : ℕ) → 2 ^ 52 ≤ q → 1075 ≤ j → min (q * 2 ^ j / 2 ^ 1074) (2 ^ 53) ≡ 2 ^ 53
 many q j hq hj =

@@ -49,7 +49,8 @@ module _ (f : Format) where
   sum-same : (s t : Bool) (A B C a b : ℕ) → 0 < C → A * U ≡ a * C → B * U ≡ b * C → sum f s A t B C ≡ sum f s a t b U
   unfolding sum
   sum-same s t A B C a b p x y =
-      ap (λ (r : Float). cond (Bool·beq s t) r (cond (ltb A B) (round f t (B - A) C) (round f (s && ltb B A) (A - B) C))) (round-same f s (A + B) C (a + b) U p unit-pos (let z : (A + B) * U ≡ (a + b) * C = omega arith in z))
+      ap (λ (r : Float). cond (Bool·beq s t) r (cond (ltb A B) (round f t (B - A) C) (round f (s && ltb B A) (A - B) C)))
+      (round-same f s (A + B) C (a + b) U p unit-pos (let z : (A + B) * U ≡ (a + b) * C = omega arith in z))
       ∙ ap (λ (r : Float). cond (Bool·beq s t) (round f s (a + b) U) r)
       (ap (λ (q : Bool). cond q (round f t (B - A) C) (round f (s && ltb B A) (A - B) C)) (lt-same A B C a b p x y)
       ∙ ap (λ (r : Float). cond (ltb a b) r (round f (s && ltb B A) (A - B) C)) (round-same f t (B - A) C (b - a) U p unit-pos (minus-same B A C b a p y x))
@@ -153,7 +154,9 @@ module _ (f : Format) where
   twice (inf r) s a h = absurd h
   twice (fin r m e) s a h =
       let hx : m * up e * U ≡ a * down e = h .1 in
-      round-same f (unlike false r) (1 * 2 ^ 1 * (m * up e)) (1 * down e) (2 * a) U (let z : 0 < down e = down-pos e in omega arith) unit-pos (let z : 1 * 2 ^ 1 * (m * up e) * U ≡ 2 * a * (1 * down e) = omega arith in z)
+      let p : 0 < 1 * down e = (let z : 0 < down e = down-pos e in omega arith) in
+      let q : 1 * 2 ^ 1 * (m * up e) * U ≡ 2 * a * (1 * down e) = omega arith in
+      round-same f (unlike false r) (1 * 2 ^ 1 * (m * up e)) (1 * down e) (2 * a) U p unit-pos q
       ∙ ap (λ (i : Bool). round f (unlike false i) (2 * a) U) (h .0)
 
   -- ---- comparison

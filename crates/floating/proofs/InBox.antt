@@ -23,7 +23,8 @@ use Rattle.floating.specs.declared.Point.{Point}
 use Rattle.floating.specs.declared.Bounds.{Bounds}
 use Rattle.floating.proofs.Upto.{Upto}
 use Rattle.floating.proofs.Within.{Scaled, scaled}
-use Rattle.floating.proofs.Bounded.{signOf, unitsOf, tall, Good, good, lesser-good, lesser-left, lesser-right, greater-good, greater-left, greater-right, Tolerance, tolerance-of, quotient-near, axis}
+use Rattle.floating.proofs.Bounded.{signOf, unitsOf, tall, Good, good, Tolerance, tolerance-of, quotient-near, axis}
+use Rattle.floating.proofs.Bounded.{lesser-good, lesser-left, lesser-right, greater-good, greater-left, greater-right}
 
 -- ---- a box, and the points in it
 

@@ -7,6 +7,8 @@ pub mod Rows
 pub mod Boxes
 pub mod Units
 pub mod Heights
+pub mod Roundings
+pub mod Middle
 pub mod Within
 pub mod Upto
 pub mod Bounded

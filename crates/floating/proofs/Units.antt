@@ -3,7 +3,8 @@
 use mathlib.Core.Path.{_≡_, refl, sym, ap, _∙_, subst}
 use mathlib.Core.Bool.{Bool, true, false, not, _&&_, _||_, cond, true≢false}
 use Prim.Native.Nat.{ℕ, zero, suc, _+_, _-_, _*_, _/_, _%_, _^_, _≤_, _<_}
-use native.Mathlib.Nat.{le-of-eq, le-of-lt, le-trans, le-of-mul-le-mul-right, lt-of-mul-lt-mul-right, eq-of-mul-eq-mul-right, mul-comm, mul-one, mul-le-mul-right, mul-lt-mul-of-pos-right, lt-of-lt-of-le}
+use native.Mathlib.Nat.{le-of-eq, le-of-lt, le-trans, le-of-mul-le-mul-right, lt-of-mul-lt-mul-right, eq-of-mul-eq-mul-right}
+use native.Mathlib.Nat.{mul-comm, mul-one, mul-le-mul-right, mul-lt-mul-of-pos-right, lt-of-lt-of-le}
 use native.Mathlib.Omega.{arith}
 use lib.IntN.{ℤ, pos, negsuc}
 use lib.Dec.{T, leb, ltb, eqb, ltb→lt, leb→le, eqb→eq}
@@ -156,8 +157,10 @@ module _ (f : Format) where
   held (inf s) h t = absurd t
   held (fin s zero e) h t = held-zero s e
   held (fin s (suc m) (pos k)) h t =
-      let d : T (ltb (suc m * 2 ^ k) (2 ^ suc (emax f) * 1)) = and-r (eqb (suc m % 2) 1 && ltb (suc m) (2 ^ prec f) && leb 1 U) (ltb (suc m * 2 ^ k) (2 ^ suc (emax f) * 1)) h in
-      let c : T (eqb (suc m % 2) 1 && ltb (suc m) (2 ^ prec f)) = and-l (eqb (suc m % 2) 1 && ltb (suc m) (2 ^ prec f)) (leb 1 U) (and-l (eqb (suc m % 2) 1 && ltb (suc m) (2 ^ prec f) && leb 1 U) (ltb (suc m * 2 ^ k) (2 ^ suc (emax f) * 1)) h) in
+      let digits = eqb (suc m % 2) 1 && ltb (suc m) (2 ^ prec f) in
+      let small = ltb (suc m * 2 ^ k) (2 ^ suc (emax f) * 1) in
+      let d : T small = and-r (digits && leb 1 U) small h in
+      let c : T digits = and-l digits (leb 1 U) (and-l (digits && leb 1 U) small h) in
       held-at s (suc m) (k + low f) (pos k)
       (ltb→lt (suc m) (2 ^ prec f) (and-r (eqb (suc m % 2) 1) (ltb (suc m) (2 ^ prec f)) c))
       (ltb→lt (suc m * 2 ^ k) (2 ^ suc (emax f) * 1) d)

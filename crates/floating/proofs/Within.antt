@@ -1,125 +1,27 @@
--- A scaled coordinate lies from -2 to 2. Rounding keeps the order: so the centre lies between least and greatest, a coordinate's
--- distance to it is no more than greatest - least, and the quotient by the divisor no more than 1. Assumes nothing.
+-- A scaled coordinate lies from -2 to 2: a coordinate's distance to the centre is no more than greatest - least, and the quotient by the
+-- divisor no more than 1. Assumes nothing.
 use mathlib.Core.Path.{_≡_, refl, sym, ap, _∙_, subst}
-use mathlib.Core.Bool.{Bool, true, false, not, cond, true≢false}
-use Prim.Native.Nat.{ℕ, zero, suc, _+_, _-_, _*_, _^_, _≤_, _<_}
-use native.Mathlib.Nat.{one-mul, mul-pos, mul-le-mul-right, mul-le-mul-left, le-trans}
+use mathlib.Core.Bool.{Bool, true, false, not, cond}
+use Prim.Native.Nat.{ℕ, suc, _+_, _*_, _^_, _≤_, _<_}
+use native.Mathlib.Nat.{mul-le-mul-right}
 use native.Mathlib.Omega.{arith}
 use lib.IntN.{pos}
-use lib.Dec.{ltb, eqb}
-use lib.Pow.{pow-pos, pow-mono}
-use lib.Ieee.Fits.{two}
-use lib.Ieee.{Float, Format, prec, emax, low, size, unlike, round, add, sub, mul, div, lt}
-use lib.Ieee.Digits.{size-lt, size-reaches}
+use lib.Dec.{ltb}
+use lib.Ieee.{Float, Format, low, unlike, add, sub, mul, div, lt}
 use lib.Ieee.Exact.{HasValue}
 use lib.Ieee.Scale.{grid, overflow}
-use borrow.Author.Tests.{lt-ltb, le-ltb, ltb-true, ltb-false, eqb-true, eqb-false}
+use borrow.Author.Tests.{ltb-true, ltb-false}
 use Rattle.lists.proofs.Bools.{by-cases}
 use Rattle.floating.specs.Limits.{power}
 use Rattle.floating.specs.Scaling.{greater}
-use Rattle.floating.proofs.Units.{round-value, grid-le, grid-exact, round-upto, round-least}
-use Rattle.floating.proofs.Heights.{height, Summed, plus, minus, over, twice, two-value, one-value, lt-height}
-
--- a number lies between a power of two and twice that
-pub record Between (n : ℕ) : Type 0 where
-  pub place : ℕ
-  pub least : 2 ^ place ≤ n
-  pub most : n ≤ 2 ^ suc place
-
-between : (n : ℕ) → 0 < n → Between n
-between n h =
-    let z : 0 < size n = by-cases (eqb (size n) 0)
-    (λ t. absurd (let l : n < 2 ^ 0 = subst (λ (k : ℕ). n < 2 ^ k) (eqb-true (size n) 0 t) (size-lt n) in omega arith))
-    (λ t. let ne : size n ≡ 0 → ⊥ = eqb-false (size n) 0 t in omega arith) in
-    let e : size n ≡ suc (size n - 1) = omega arith in
-    record {
-      place = size n - 1;
-      least = size-reaches n (size n - 1) (omega arith);
-      most = (let l : n < 2 ^ suc (size n - 1) = subst (λ (k : ℕ). n < 2 ^ k) e (size-lt n) in omega arith);
-    }
+use Rattle.floating.proofs.Units.{round-value, grid-le, round-upto}
+use Rattle.floating.proofs.Heights.{height, Summed, minus, over, twice, one-value, lt-height}
+use Rattle.floating.proofs.Roundings.{unit-pos, power-exact}
+use Rattle.floating.proofs.Middle.{Middle, opposite}
 
 module _ (f : Format) where
   abbrev U : ℕ
   U = 2 ^ low f
-
-  unit-pos : 0 < U
-  unit-pos = pow-pos (low f)
-
-  one-digit : 1 < 2 ^ prec f
-  one-digit = digits (prec f) (two f)
-    where
-      digits : (p : ℕ) → 2 ≤ p → 1 < 2 ^ p
-      digits p h = let z : 2 ^ 1 ≤ 2 ^ p = pow-mono (let y : 1 ≤ p = omega arith in y) in omega arith
-
-  -- ---- powers of two, and zero, are their own roundings
-
-  pub power-exact : (j : ℕ) → 2 ^ j < overflow f → grid f (2 ^ j) U ≡ 2 ^ j
-  power-exact j h = subst (λ (k : ℕ). grid f k U ≡ k) (one-mul (2 ^ j)) (grid-exact f 1 j one-digit (subst (λ (k : ℕ). k < overflow f) (sym (one-mul (2 ^ j))) h))
-
-  zero-exact : grid f 0 U ≡ 0
-  zero-exact = grid-exact f 0 0 (pow-pos (prec f)) (pow-pos (low f + suc (emax f)))
-
-  -- a number of units is rounded to no more than twice itself, and half of that to no more than itself
-  pub rounds : (n : ℕ) → 2 * n < overflow f → grid f n U ≤ 2 * n
-  rounds n h =
-      by-cases (ltb 0 n)
-      (λ t.
-      let b = between n (ltb-true 0 n t) in
-      let p : 2 ^ suc (b .place) ≡ 2 * 2 ^ b .place = omega arith in
-      let l : 2 ^ suc (b .place) < overflow f = omega (arith, b .least) in
-      let g : grid f n U ≤ 2 ^ suc (b .place) = round-upto f n U (2 ^ suc (b .place)) unit-pos (power-exact (suc (b .place)) l) l (mul-le-mul-right U (b .most)) in
-      omega (arith, b .least))
-      (λ t.
-      let z : n ≡ 0 = (let l = ltb-false 0 n t in omega arith) in
-      let g : grid f n U ≡ 0 = ap (λ (k : ℕ). grid f k U) z ∙ zero-exact in
-      omega arith)
-
-  pub halves : (n : ℕ) → 2 * n < overflow f → grid f (grid f n U) (2 * U) ≤ n
-  halves n h =
-      by-cases (ltb 0 n)
-      (λ t.
-      let b = between n (ltb-true 0 n t) in
-      let p : 2 ^ suc (b .place) ≡ 2 * 2 ^ b .place = omega arith in
-      let l : 2 ^ suc (b .place) < overflow f = omega (arith, b .least) in
-      let g : grid f n U ≤ 2 ^ suc (b .place) = round-upto f n U (2 ^ suc (b .place)) unit-pos (power-exact (suc (b .place)) l) l (mul-le-mul-right U (b .most)) in
-      let k : grid f n U * U ≤ 2 ^ b .place * (2 * U) = (let m : grid f n U * U ≤ 2 ^ suc (b .place) * U = mul-le-mul-right U g in let q : 2 ^ suc (b .place) * U ≡ 2 ^ b .place * (2 * U) = ap (λ (i : ℕ). i * U) p ∙ omega arith in omega arith) in
-      let d : grid f (grid f n U) (2 * U) ≤ 2 ^ b .place = round-upto f (grid f n U) (2 * U) (2 ^ b .place) (let z = unit-pos in omega arith) (power-exact (b .place) (omega arith)) (omega arith) k in
-      omega (arith, b .least))
-      (λ t.
-      let z : n ≡ 0 = (let l = ltb-false 0 n t in omega arith) in
-      let g : grid f n U ≡ 0 = ap (λ (k : ℕ). grid f k U) z ∙ zero-exact in
-      let d : grid f (grid f n U) (2 * U) ≤ 0 = round-upto f (grid f n U) (2 * U) 0 (let y = unit-pos in omega arith) zero-exact (pow-pos (low f + suc (emax f))) (let y : grid f n U * U ≡ 0 = ap (λ (k : ℕ). k * U) g ∙ omega arith in omega arith) in
-      omega arith)
-
-  -- ---- rounding a signed number does not pass a float
-
-  module _ (B : ℕ) (r : Bool) (D : ℕ) (t : Bool) (b : ℕ) (exact : grid f b U ≡ b) (under : b < overflow f) (fine : 2 * D < overflow f) (bB : b ≤ B) (DB : 2 * D ≤ B) where
-    got : grid f D U ≤ 2 * D
-    got = rounds D fine
-
-    at-most : D ≤ b → grid f D U ≤ b
-    at-most h = round-upto f D U b unit-pos exact under (mul-le-mul-right U h)
-
-    at-least : b ≤ D → b ≤ grid f D U
-    at-least h = round-least f D U b unit-pos exact (mul-le-mul-right U h) (let z = got in omega arith)
-
-    pub not-over : height B r D ≤ height B t b → height B r (grid f D U) ≤ height B t b
-    not-over h = go r t h
-      where
-        go : (r t : Bool) → height B r D ≤ height B t b → height B r (grid f D U) ≤ height B t b
-        go false false h = let z : grid f D U ≤ b = at-most (let y : B + D ≤ B + b = h in omega arith) in omega arith
-        go false true h = let z : grid f D U ≤ b = at-most (let y : B + D ≤ B - b = h in omega arith) in let y : B + D ≤ B - b = h in omega arith
-        go true false h = omega arith
-        go true true h = let z : b ≤ grid f D U = at-least (let y : B - D ≤ B - b = h in omega arith) in omega arith
-
-    pub not-under : height B t b ≤ height B r D → height B t b ≤ height B r (grid f D U)
-    not-under h = go r t h
-      where
-        go : (r t : Bool) → height B t b ≤ height B r D → height B t b ≤ height B r (grid f D U)
-        go false false h = let z : b ≤ grid f D U = at-least (let y : B + b ≤ B + D = h in omega arith) in omega arith
-        go false true h = omega arith
-        go true false h = let z : grid f D U ≤ b = at-most (let y : B + b ≤ B - D = h in omega arith) in let y : B + b ≤ B - D = h in omega arith
-        go true true h = let z : grid f D U ≤ b = at-most (let y : B - b ≤ B - D = h in omega arith) in omega arith
 
   -- a float from -2 to 2
   pub record Scaled (x : Float) : Type 0 where
@@ -128,156 +30,67 @@ module _ (f : Format) where
     pub value : HasValue x sign size U
     pub most : size ≤ 2 * U
 
-  -- ---- one axis: least l, a coordinate p, greatest g, as signed numbers of at most M units
+  -- ---- one axis: a coordinate p between least l and greatest g, as signed numbers of at most M units
 
   module _ (M B : ℕ) (fine : 32 * M < overflow f) (wide : 32 * M ≤ B) (unit-le : U ≤ M)
-      (l p g : Float) (sl sp sg : Bool) (L P G : ℕ) (vl : HasValue l sl L U) (vp : HasValue p sp P U) (vg : HasValue g sg G U)
-      (el : grid f L U ≡ L) (eg : grid f G U ≡ G) (ml : L ≤ M) (mp : P ≤ M) (mg : G ≤ M)
-      (lp : height B sl L ≤ height B sp P) (pg : height B sp P ≤ height B sg G)
+      (l p g : Float) (sp : Bool) (P : ℕ) (vp : HasValue p sp P U) (mp : P ≤ M) (hl hg : ℕ) (lp : hl ≤ height B sp P) (pg : height B sp P ≤ hg)
+      (m : Middle f M B l g hl hg)
     where
-      abbrev hl : ℕ
-      hl = height B sl L
-
       abbrev hp : ℕ
       hp = height B sp P
 
-      abbrev hg : ℕ
-      hg = height B sg G
-
-      -- a number and its opposite
-      opposite : (s : Bool) (a : ℕ) → a ≤ B → height B (not s) a + height B s a ≡ B + B
-      opposite false a h = omega arith
-      opposite true a h = omega arith
-
-      -- greatest - least
-      w : Summed f (sub f g l) sg G (not sl) L
-      w = minus f g l sg sl G L vg vl
-
-      w-height : height B (w .sign) (w .size) + hl ≡ hg + B
-      w-height =
-          let a : height B (w .sign) (w .size) + B ≡ hg + height B (not sl) L = w .adds B (omega arith) in
-          let b : height B (not sl) L + hl ≡ B + B = opposite sl L (omega arith) in
-          omega arith
-
-      w-is : (s : Bool) (x : ℕ) → height B s x + hl ≡ hg + B → x ≤ B → hl + x ≡ hg
-      w-is false x e h = omega arith
-      w-is true x e h = omega (arith, lp, pg)
-
-      w-zero : (s : Bool) (x : ℕ) → height B s x + hl ≡ hg + B → x ≤ B → s ≡ true → x ≡ 0
-      w-zero false x e h t = absurd (true≢false (sym t))
-      w-zero true x e h t = omega (arith, lp, pg)
-
+      -- greatest - least before and after it is rounded, and the centre
       abbrev X : ℕ
-      X = w .size
+      X = m .span
 
       X-small : X ≤ 2 * M
-      X-small = omega (arith, w .most)
-
-      X-is : hl + X ≡ hg
-      X-is = w-is (w .sign) X w-height (let z = X-small in omega arith)
-
-      X-zero : w .sign ≡ true → X ≡ 0
-      X-zero = w-zero (w .sign) X w-height (let z = X-small in omega arith)
+      X-small = m .span-small
 
       abbrev W : ℕ
       W = grid f X U
 
       W-small : W ≤ 2 * X
-      W-small = rounds X (let z = X-small in omega arith)
-
-      W-value : HasValue (sub f g l) (w .sign) W U
-      W-value = subst (λ (x : Float). HasValue x (w .sign) W U) (sym (w .is)) (round-value f (w .sign) X U (let z = X-small in let y = W-small in omega arith))
-
-      -- half of it
-      abbrev H : ℕ
-      H = grid f W (2 * U)
-
-      H-small : H ≤ X
-      H-small = halves X (let z = X-small in omega arith)
-
-      abbrev half : Float
-      half = div f (sub f g l) (power (pos 1))
-
-      H-value : HasValue half (unlike (w .sign) false) H U
-      H-value =
-          subst (λ (x : Float). HasValue x (unlike (w .sign) false) H U)
-          (sym (over f (sub f g l) (power (pos 1)) (w .sign) false W (2 * U) (let z = unit-pos in omega arith) W-value (two-value f)))
-          (round-value f (unlike (w .sign) false) W (2 * U) (let z = X-small in let y = H-small in omega arith))
-
-      H-height : height B (unlike (w .sign) false) H ≡ B + H
-      H-height = go (w .sign) refl
-        where
-          go : (s : Bool) → w .sign ≡ s → height B (unlike s false) H ≡ B + H
-          go false e = refl
-          go true e = let z : X ≡ 0 = X-zero e in let y = H-small in omega arith
-
-      -- the centre
-      c : Summed f (add f l half) sl L (unlike (w .sign) false) H
-      c = plus f l half sl (unlike (w .sign) false) L H vl H-value
-
-      abbrev D : ℕ
-      D = c .size
-
-      D-small : D ≤ 3 * M
-      D-small = let z = X-small in let y = H-small in omega (arith, c .most)
-
-      c-height : height B (c .sign) D ≡ hl + H
-      c-height =
-          let z = X-small in
-          let y = H-small in
-          let a : height B (c .sign) D + B ≡ hl + height B (unlike (w .sign) false) H = c .adds B (omega arith) in
-          let b = H-height in
-          omega arith
+      W-small = m .rounded
 
       abbrev C : ℕ
-      C = grid f D U
-
-      C-small : C ≤ 2 * D
-      C-small = rounds D (let z = D-small in omega arith)
-
-      C-value : HasValue (add f l half) (c .sign) C U
-      C-value = subst (λ (x : Float). HasValue x (c .sign) C U) (sym (c .is)) (round-value f (c .sign) D U (let z = D-small in let y = C-small in omega arith))
+      C = m .centre
 
       abbrev hc : ℕ
-      hc = height B (c .sign) C
+      hc = height B (m .centre-sign) C
 
-      centre-above : hl ≤ hc
-      centre-above =
-          not-under B (c .sign) D sl L el (let z : L ≤ M = ml in omega arith) (let z = D-small in omega arith) (omega arith) (let z = D-small in omega arith)
-          (let z = c-height in omega arith)
-
-      centre-below : hc ≤ hg
-      centre-below =
-          not-over B (c .sign) D sg G eg (let z : G ≤ M = mg in omega arith) (let z = D-small in omega arith) (omega arith) (let z = D-small in omega arith)
-          (let z = c-height in let y = X-is in let x = H-small in omega arith)
+      abbrev centre : Float
+      centre = add f l (div f (sub f g l) (power (pos 1)))
 
       -- the coordinate less the centre
-      v : Summed f (sub f p (add f l half)) sp P (not (c .sign)) C
-      v = minus f p (add f l half) sp (c .sign) P C vp C-value
+      v : Summed f (sub f p centre) sp P (not (m .centre-sign)) C
+      v = minus f p centre sp (m .centre-sign) P C vp (m .centre-value)
 
       E-most : (s : Bool) (x : ℕ) → height B s x + hc ≡ hp + B → x ≤ B → x ≤ X
-      E-most false x e h = let a = centre-above in let b = X-is in omega arith
-      E-most true x e h = let a = centre-below in let b = X-is in omega arith
+      E-most false x e h = let a = m .above in let b = m .span-is in omega arith
+      E-most true x e h = let a = m .below in let b = m .span-is in omega arith
 
       abbrev E : ℕ
       E = v .size
 
       E-small : E ≤ X
       E-small =
-          let d = D-small in
-          let k = C-small in
-          let a : height B (v .sign) E + B ≡ hp + height B (not (c .sign)) C = v .adds B (omega arith) in
-          let b : height B (not (c .sign)) C + hc ≡ B + B = opposite (c .sign) C (omega arith) in
+          let k = m .centre-small in
+          let a : height B (v .sign) E + B ≡ hp + height B (not (m .centre-sign)) C = v .adds B (omega arith) in
+          let b : height B (not (m .centre-sign)) C + hc ≡ B + B = opposite B (m .centre-sign) C (omega arith) in
           E-most (v .sign) E (omega arith) (omega (arith, v .most))
 
       abbrev A : ℕ
       A = grid f E U
 
       A-small : A ≤ W
-      A-small = grid-le f E U X U unit-pos unit-pos (mul-le-mul-right U E-small) (let z = X-small in let y = W-small in omega arith)
+      A-small = grid-le f E U X U (unit-pos f) (unit-pos f) (mul-le-mul-right U E-small) (let z = X-small in let y = W-small in omega arith)
 
-      A-value : HasValue (sub f p (add f l half)) (v .sign) A U
-      A-value = subst (λ (x : Float). HasValue x (v .sign) A U) (sym (v .is)) (round-value f (v .sign) E U (let z = X-small in let y = W-small in let x = A-small in omega arith))
+      A-value : HasValue (sub f p centre) (v .sign) A U
+      A-value =
+          let z = X-small in
+          let y = W-small in
+          let x = A-small in
+          subst (λ (x : Float). HasValue x (v .sign) A U) (sym (v .is)) (round-value f (v .sign) E U (omega arith))
 
       -- the divisor
       abbrev divides : Float
@@ -295,33 +108,34 @@ module _ (f : Format) where
       d =
           let z = X-small in
           let y = W-small in
-          let lt-is : lt (sub f g l) (power (pos 0)) ≡ ltb (height B (w .sign) W) (B + U) = lt-height f B (sub f g l) (power (pos 0)) (w .sign) false W U (omega arith) (omega arith) W-value (one-value f) in
-          by-cases (ltb (height B (w .sign) W) (B + U))
+          let lt-is : lt (sub f g l) (power (pos 0)) ≡ ltb (height B (m .sign) W) (B + U) =
+          lt-height f B (sub f g l) (power (pos 0)) (m .sign) false W U (omega arith) (omega arith) (m .value) (one-value f) in
+          by-cases (ltb (height B (m .sign) W) (B + U))
           (λ t.
           subst Divisor (sym (ap (λ (i : Bool). cond i (power (pos 0)) (sub f g l)) (lt-is ∙ t)))
-          (record { sign = false; size = U; value = one-value f; some = unit-pos; most = lower (w .sign) refl (ltb-true (height B (w .sign) W) (B + U) t) }))
+          (record { sign = false; size = U; value = one-value f; some = unit-pos f; most = lower (m .sign) refl (ltb-true (height B (m .sign) W) (B + U) t) }))
           (λ t.
-          let m : U ≤ W = upper (w .sign) (ltb-false (height B (w .sign) W) (B + U) t) in
+          let k : U ≤ W = upper (m .sign) (ltb-false (height B (m .sign) W) (B + U) t) in
           subst Divisor (sym (ap (λ (i : Bool). cond i (power (pos 0)) (sub f g l)) (lt-is ∙ t)))
-          (record { sign = w .sign; size = W; value = W-value; some = (let x = unit-pos in omega arith); most = omega arith }))
+          (record { sign = m .sign; size = W; value = m .value; some = (let x = unit-pos f in omega arith); most = omega arith }))
         where
-          lower : (s : Bool) → w .sign ≡ s → height B s W < B + U → W ≤ U
+          lower : (s : Bool) → m .sign ≡ s → height B s W < B + U → W ≤ U
           lower false e h = omega arith
-          lower true e h = let x : X ≡ 0 = X-zero e in let y = W-small in omega arith
+          lower true e h = let x : X ≡ 0 = m .span-zero e in let y = W-small in omega arith
 
           upper : (s : Bool) → B + U ≤ height B s W → U ≤ W
           upper false h = omega arith
-          upper true h = let x = unit-pos in omega arith
+          upper true h = let x = unit-pos f in omega arith
 
       -- the quotient, and twice that
       abbrev ratio : Float
-      ratio = div f (sub f p (add f l half)) divides
+      ratio = div f (sub f p centre) divides
 
       abbrev Q : ℕ
       Q = grid f A (d .size)
 
       unit-exact : grid f U U ≡ U
-      unit-exact = power-exact (low f) (omega arith)
+      unit-exact = power-exact f (low f) (omega arith)
 
       Q-small : Q ≤ U
       Q-small =
@@ -333,7 +147,7 @@ module _ (f : Format) where
       Q-value : HasValue ratio (unlike (v .sign) (d .sign)) Q U
       Q-value =
           subst (λ (x : Float). HasValue x (unlike (v .sign) (d .sign)) Q U)
-          (sym (over f (sub f p (add f l half)) divides (v .sign) (d .sign) A (d .size) (d .some) A-value (d .value)))
+          (sym (over f (sub f p centre) divides (v .sign) (d .sign) A (d .size) (d .some) A-value (d .value)))
           (round-value f (unlike (v .sign) (d .sign)) A (d .size) (let z = Q-small in omega arith))
 
       pub scaled : Scaled (mul f (power (pos 1)) ratio)
@@ -341,11 +155,14 @@ module _ (f : Format) where
           let s = unlike false (unlike (v .sign) (d .sign)) in
           let q = Q-small in
           let two-units : 2 ^ suc (low f) ≡ 2 * U = omega arith in
-          let exact : grid f (2 * U) U ≡ 2 * U = subst (λ (k : ℕ). grid f k U ≡ k) two-units (power-exact (suc (low f)) (omega arith)) in
-          let m : grid f (2 * Q) U ≤ 2 * U = round-upto f (2 * Q) U (2 * U) unit-pos exact (omega arith) (mul-le-mul-right U (let z : 2 * Q ≤ 2 * U = omega arith in z)) in
+          let exact : grid f (2 * U) U ≡ 2 * U = subst (λ (k : ℕ). grid f k U ≡ k) two-units (power-exact f (suc (low f)) (omega arith)) in
+          let twofold : 2 * Q ≤ 2 * U = omega arith in
+          let most : grid f (2 * Q) U ≤ 2 * U = round-upto f (2 * Q) U (2 * U) (unit-pos f) exact (omega arith) (mul-le-mul-right U twofold) in
           record {
             sign = s;
             size = grid f (2 * Q) U;
-            value = subst (λ (x : Float). HasValue x s (grid f (2 * Q) U) U) (sym (twice f ratio (unlike (v .sign) (d .sign)) Q Q-value)) (round-value f s (2 * Q) U (omega arith));
-            most = m;
+            value =
+                subst (λ (x : Float). HasValue x s (grid f (2 * Q) U) U)
+                (sym (twice f ratio (unlike (v .sign) (d .sign)) Q Q-value)) (round-value f s (2 * Q) U (omega arith));
+            most = most;
           }

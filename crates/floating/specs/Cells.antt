@@ -1,11 +1,11 @@
 -- Cells: every quotient coordinate/tolerance is cut toward zero; and which points are compared. Assumes nothing.
 use mathlib.Core.Bool.{Bool, true, false, _&&_}
 use mathlib.Core.List.{List, [], _∷_}
-use Prim.Native.Nat.{ℕ, _+_, _-_, _*_, _/_, _^_, suc}
+use Prim.Native.Nat.{ℕ, _+_, _-_, _*_, _/_, suc}
 use lib.Dec.{leb}
 use lib.IntN.{ℤ, pos, negsuc, negℤ, natAbs, _-ℤ_}
 use lib.Ieee.{Float, nan, inf, fin, up, down}
-use Rattle.floating.specs.Limits.{quotient}
+use Rattle.floating.specs.Limits.{quotientLimit, quotient}
 
 -- n with a sign
 abbrev pub signed : Bool → ℕ → ℤ
@@ -23,8 +23,11 @@ abbrev pub cell : Float → Float → ℤ
 cell t x = cut (quotient t x)
 
 -- two cells differ by at most 2
+abbrev pub reach : ℕ
+reach = 2
+
 abbrev pub within : ℤ → ℤ → Bool
-within a b = leb (natAbs (a -ℤ b)) 2
+within a b = leb (natAbs (a -ℤ b)) reach
 
 -- two points are compared when their cells differ by at most 2 on every axis
 unfoldable pub compared : Float → List Float → List Float → Bool
@@ -35,12 +38,16 @@ compared t (p ∷ ps) (q ∷ qs) = within (cell t p) (cell t q) && compared t ps
 
 -- ---- the same in numbers that are not negative: a cell from -2^53 to 2^53 as its place among them
 
+-- the greatest place
+abbrev pub placeMost : ℕ
+placeMost = quotientLimit + quotientLimit
+
 unfoldable pub place : ℤ → ℕ
-place (pos n) = 2 ^ 53 + n
-place (negsuc n) = 2 ^ 53 - suc n
+place (pos n) = quotientLimit + n
+place (negsuc n) = quotientLimit - suc n
 
 abbrev pub beside : ℕ → ℕ → Bool
-beside a b = leb a (b + 2) && leb b (a + 2)
+beside a b = leb a (b + reach) && leb b (a + reach)
 
 abbrev pub besides : List ℕ → List ℕ → Bool
 besides [] ys = true

@@ -1,7 +1,7 @@
 -- What rows 6, 7 and 8 of document 01's table say of one number. `fin s m e` is the number m * 2 ^ e, negative where s is true;
 -- m * 2 ^ e is the fraction m * up e / down e. Assumes nothing.
 use mathlib.Core.Bool.{Bool, true, false, not, _&&_}
-use Prim.Native.Nat.{_*_, _^_}
+use Prim.Native.Nat.{ℕ, _*_, _^_}
 use lib.IntN.{ℤ, pos, negsuc}
 use lib.Dec.{leb, ltb}
 use lib.Ieee.{Float, nan, inf, fin, up, down, binary64, le, div}
@@ -10,21 +10,34 @@ use lib.Ieee.{Float, nan, inf, fin, up, down, binary64, le, div}
 abbrev pub power : ℤ → Float
 power e = fin false 1 e
 
+-- the least tolerance and the greatest, the greatest magnitude of a coordinate, and what that of a quotient stays below
+abbrev pub leastTolerance : Float
+leastTolerance = power (negsuc 29)
+
+abbrev pub greatestTolerance : Float
+greatestTolerance = power (pos 0)
+
+abbrev pub coordinateMost : ℕ
+coordinateMost = 2 ^ 60
+
+abbrev pub quotientLimit : ℕ
+quotientLimit = 2 ^ 53
+
 -- 6: tolerance is not a number from 2^-30 to 1 inclusive
 unfoldable pub unfit : Float → Bool
-unfit t = not (le (power (negsuc 29)) t && le t (power (pos 0)))
+unfit t = not (le leastTolerance t && le t greatestTolerance)
 
 -- 7: a coordinate is not finite, or its magnitude is above 2^60
 unfoldable pub boundless : Float → Bool
 boundless nan = true
 boundless (inf s) = true
-boundless (fin s m e) = ltb (2 ^ 60 * down e) (m * up e)
+boundless (fin s m e) = ltb (coordinateMost * down e) (m * up e)
 
 -- 8: a quotient has magnitude 2^53 or more; what is no number at all is not below it either
 unfoldable pub far : Float → Bool
 far nan = true
 far (inf s) = true
-far (fin s m e) = leb (2 ^ 53 * down e) (m * up e)
+far (fin s m e) = leb (quotientLimit * down e) (m * up e)
 
 -- a coordinate divided by the tolerance
 abbrev pub quotient : Float → Float → Float

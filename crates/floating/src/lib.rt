@@ -33,13 +33,37 @@ pub struct Bounds {
     pub greatest: Point,
 }
 
+// The bits of an f64: its sign above all, then its exponent, then its fraction. The bit that a fraction leaves out stands for 1 where the
+// exponent is EXPONENT_OF_ONE; at EXPONENT_OF_WHOLE a number is just its bits; INFINITY is the greatest that are no NaN's.
+const SIGN: u64 = 0x8000_0000_0000_0000;
+
+const INFINITY: u64 = 0x7ff0_0000_0000_0000;
+
+const LEADING: u64 = 0x10_0000_0000_0000;
+
+const EXPONENT_OF_ONE: u64 = 1023;
+
+const EXPONENT_OF_WHOLE: u64 = 1075;
+
+// The least tolerance, 2^-30, and the greatest; the greatest magnitude of a coordinate, 2^60; what that of a quotient stays below, 2^53, as
+// a number and among the cells.
+const LEAST_TOLERANCE: f64 = 0.000000000931322574615478515625;
+
+const GREATEST_TOLERANCE: f64 = 1.0;
+
+const COORDINATE_MOST: f64 = 1152921504606846976.0;
+
+const QUOTIENT_EDGE: f64 = 9007199254740992.0;
+
+const QUOTIENT_LIMIT: u64 = 0x20_0000_0000_0000;
+
 // ---- bits
 
 // The f64 that 64 bits stand for; each pattern of a NaN gives the one NaN.
 pub fn of_bits(n: u64) -> f64
     ensures { λ r. ⌜ r ≡ ofBits binary64 n ⌝ }
 {
-    if n % 0x8000_0000_0000_0000 > 0x7ff0_0000_0000_0000 {
+    if n % SIGN > INFINITY {
         0.0 / 0.0
     } else {
         f64::from_bits(n)
@@ -52,8 +76,8 @@ pub fn of_bits(n: u64) -> f64
 pub fn is_unfit(t: f64) -> bool
     ensures { λ r. ⌜ r ≡ unfit t ⌝ }
 {
-    if 0.000000000931322574615478515625 <= t {
-        if t <= 1.0 {
+    if LEAST_TOLERANCE <= t {
+        if t <= GREATEST_TOLERANCE {
             return false;
         }
     }
@@ -64,8 +88,8 @@ pub fn is_unfit(t: f64) -> bool
 pub fn is_boundless(x: f64) -> bool
     ensures { λ r. ⌜ r ≡ boundless x ⌝ }
 {
-    if -1152921504606846976.0 <= x {
-        if x <= 1152921504606846976.0 {
+    if -COORDINATE_MOST <= x {
+        if x <= COORDINATE_MOST {
             return false;
         }
     }
@@ -77,8 +101,8 @@ pub fn is_distant(t: f64, x: f64) -> bool
     ensures { λ r. ⌜ r ≡ distant t x ⌝ }
 {
     let q = x / t;
-    if -9007199254740992.0 < q {
-        if q < 9007199254740992.0 {
+    if -QUOTIENT_EDGE < q {
+        if q < QUOTIENT_EDGE {
             return false;
         }
     }
@@ -285,14 +309,14 @@ fn whole_of_bits(b: u64) -> u64
     requires { ⌜ T (not (nanBits binary64 b)) ⌝ }
     ensures { λ r. ⌜ r ≡ wholeOf (ofBits binary64 b) ⌝ }
 {
-    let e = b % 0x8000_0000_0000_0000 / 0x10_0000_0000_0000;
-    let t = b % 0x10_0000_0000_0000;
-    if e < 1023 {
+    let e = b % SIGN / LEADING;
+    let t = b % LEADING;
+    if e < EXPONENT_OF_ONE {
         0
-    } else if e <= 1075 {
-        (0x10_0000_0000_0000 + t) >> (1075 - e)
+    } else if e <= EXPONENT_OF_WHOLE {
+        (LEADING + t) >> (EXPONENT_OF_WHOLE - e)
     } else {
-        0x20_0000_0000_0000
+        QUOTIENT_LIMIT
     }
 }
 
@@ -303,9 +327,9 @@ pub fn cell_of(q: f64) -> u64
 {
     let b = f64::to_bits(q);
     let n = whole_of_bits(b);
-    if b < 0x8000_0000_0000_0000 {
-        0x20_0000_0000_0000 + n
+    if b < SIGN {
+        QUOTIENT_LIMIT + n
     } else {
-        0x20_0000_0000_0000 - n
+        QUOTIENT_LIMIT - n
     }
 }

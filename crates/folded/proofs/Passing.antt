@@ -10,19 +10,19 @@ use lib.Seq.{take-suc, take-all}
 use Rattle.lists.specs.Lists.{every, each, sum}
 use Rattle.lists.proofs.Bools.{and-both, and-left, and-right}
 use Rattle.lists.proofs.Parts.{each-append, every-append, every-take, sum-at}
-use Rattle.mesh.specs.Limits.{width}
+use Rattle.mesh.specs.Limits.{width, leastRing}
 use Rattle.mesh.specs.Mesh.{Ring, cornersIn, rings}
 use Rattle.mesh.specs.Face.{faceOf, offsetOf}
 use Rattle.mesh.proofs.Corners.{isCorner}
-use Rattle.mesh.proofs.Faces.{isRing, rings-are, length-rings, getD-rings, face-length, length-face, offset-step}
+use Rattle.mesh.proofs.Faces.{isRing, rings-are, length-rings, getD-rings, face-length, length-face}
+use Rattle.mesh.proofs.Walking.{Walking, walk-begins, walk-turns}
 use Rattle.grouping.specs.Push.{Placed}
-use Rattle.grouping.proofs.Placing.{placed-none, placed-both}
+use Rattle.grouping.proofs.Placing.{placed-none, placed-both, placed-as}
 use Rattle.folding.specs.Folding.{pieces}
 use Rattle.folding.proofs.Pieces.{pieces-sane}
 use Rattle.folding.proofs.Placing.{took}
 use Rattle.oneface.specs.Working.{Face}
 use Rattle.folded.specs.Working.{Ready}
-use Rattle.oneface.proofs.OneFace.{placed-as}
 
 -- pieces of whole corners are whole corners
 pub pieces-rings : (fs : List Ring) → every isRing fs ≡ true → every isRing (each pieces fs) ≡ true
@@ -38,18 +38,16 @@ abbrev pub piecesTo : List ℕ → List ℕ → ℕ → List Ring
 piecesTo cs s k = each pieces (take k (rings s cs))
 
 pub record Removing (cs s o o' l l' : List ℕ) (c f from k : ℕ) : Type 0 where
-  pub within : k ≤ length s
-  pub offset : from ≡ offsetOf s k
+  pub walk : Walking s from k
   pub placed : Placed (piecesTo cs s k) o o' l l' 0 0 c f
   pub corners : c ≤ from
-  pub faces : 3 * f ≤ from
+  pub faces : leastRing * f ≤ from
   pub out-long : length o' ≡ length o
   pub lens-long : length l' ≡ length l
 
 pub removing-begins : (cs s o l : List ℕ) → Removing cs s o o l l 0 0 0 0
 removing-begins cs s o l = record {
-  within = omega arith;
-  offset = refl;
+  walk = walk-begins s;
   placed = placed-none o l 0 0;
   corners = omega arith;
   faces = omega arith;
@@ -68,8 +66,8 @@ removing-room cs s face o o' l l' c f from k h e y r =
       wide = ap length e ∙ face-length cs s (y .fit .sound) k h;
       room = record {
         small = y .fit .most k h;
-        corners = omega (arith, r .corners, r .offset, r .out-long, y .corners);
-        sizes = omega (arith, r .faces, r .offset, r .lens-long, y .sizes);
+        corners = omega (arith, r .corners, r .walk .offset, r .out-long, y .corners);
+        sizes = omega (arith, r .faces, r .walk .offset, r .lens-long, y .sizes);
       };
     }
 
@@ -91,10 +89,8 @@ removing-turns cs s face o o' o'' l l' l'' c f c' f' from k h e y r p x z =
     let t = took g (pieces g) o' o'' l' l'' c f c' f' (pieces-sane g) q in
     let n : length g ≡ getD s k 0 = length-face cs s (y .fit .sound) k h in
     let w : every isRing (piecesTo cs s k) ≡ true = pieces-rings (take k (rings s cs)) (every-take isRing k (rings s cs) (rings-are s cs)) in
-    let v : offsetOf s (k + 1) ≡ offsetOf s k + getD s k 0 = offset-step s k h in
     record {
-      within = omega arith;
-      offset = omega (arith, r .offset);
+      walk = walk-turns s from k h (r .walk);
       placed = placed-as (next-pieces cs s k h) (placed-both (piecesTo cs s k) (pieces g) o o' o'' l l' l'' 0 0 c f c' f' w (r .placed) q);
       corners = omega (arith, t .corners, r .corners);
       faces = omega (arith, t .faces, r .faces);

@@ -5,10 +5,11 @@ use mathlib.Core.List.{List, map}
 use Prim.Native.Nat.{ℕ, _*_, _≤_}
 use native.Mathlib.Nat.{le-of-eq}
 use native.Mathlib.Omega.{arith}
-use lib.ListN.{length, take, length-map}
+use lib.ListN.{length, take, replicate, length-map, length-replicate}
 use Rattle.lists.specs.Lists.{every, joined, each, sum}
 use Rattle.lists.proofs.Copies.{take-written}
 use Rattle.mesh.specs.Limits.{width, faceLimit, cornerNumbers}
+use Rattle.mesh.specs.Full.{FacesAtLimits}
 use Rattle.mesh.specs.Mesh.{Ring, rings}
 use Rattle.mesh.specs.Face.{Sound}
 use Rattle.mesh.proofs.Faces.{isRing, rings-are, rings-back, sizes-back}
@@ -22,16 +23,20 @@ use Rattle.folded.specs.Working.{Ready}
 use Rattle.folded.proofs.Passing.{pieces-rings}
 use Rattle.folded.proofs.Result.{every-pieces, count-pieces}
 
--- the lists are long enough for every mesh
-pub scratch-ready : (cs s o l p q : List ℕ) → length p ≡ cornerNumbers → length q ≡ faceLimit → Ready cs s o l → Ready cs s p q
-scratch-ready cs s o l p q x z y = record {
+-- the lists before anything is written: long enough for every mesh
+pub blank : FacesAtLimits (replicate cornerNumbers 0) (replicate faceLimit 0)
+blank = record { corners = length-replicate {A = ℕ} cornerNumbers 0; sizes = length-replicate {A = ℕ} faceLimit 0 }
+
+-- so they have the room that the pieces ask for
+pub scratch-ready : (cs s o l p q : List ℕ) → FacesAtLimits p q → Ready cs s o l → Ready cs s p q
+scratch-ready cs s o l p q x y = record {
   fit = y .fit;
-  corners = omega (arith, y .fit .sound .fits);
-  sizes = omega (arith, y .fit .sound .fits);
+  corners = omega (arith, x .corners, y .fit .sound .fits);
+  sizes = omega (arith, x .sizes, y .fit .sound .fits);
 }
 
 -- c corners and f faces are written to p and q, which hold p' and q' then
-module _ (cs s o l p p' q q' : List ℕ) (c f : ℕ) (y : Ready cs s o l) (x : length p ≡ cornerNumbers) (z : length q ≡ faceLimit)
+module _ (cs s o l p p' q q' : List ℕ) (c f : ℕ) (y : Ready cs s o l) (x : FacesAtLimits p q)
     (w : Placed (each pieces (rings s cs)) p p' q q' 0 0 c f) where
   abbrev ps : List Ring
   ps = each pieces (rings s cs)
@@ -51,13 +56,13 @@ module _ (cs s o l p p' q q' : List ℕ) (c f : ℕ) (y : Ready cs s o l) (x : l
       omega (arith, few-corners, w .most, w .more, third ps (every-pieces isFace (rings s cs) (λ r. pieces-sane r .faces)))
 
   front : take (width * c) p' ≡ each joined ps
-  front = ap (take (width * c)) (w .corners) ∙ take-written p (each joined ps) (width * c) flat (omega (arith, few-corners, y .fit .sound .fits))
+  front = ap (take (width * c)) (w .corners) ∙ take-written p (each joined ps) (width * c) flat (omega (arith, few-corners, x .corners, y .fit .sound .fits))
 
   count : length (map length ps) ≡ f
   count = omega (arith, length-map ps length, w .most)
 
   sizes-front : take f q' ≡ map length ps
-  sizes-front = ap (take f) (w .sizes) ∙ take-written q (map length ps) f count (omega (arith, few-faces, y .fit .sound .fits))
+  sizes-front = ap (take f) (w .sizes) ∙ take-written q (map length ps) f count (omega (arith, few-faces, x .sizes, y .fit .sound .fits))
 
   pub pieces-sound : Sound (take (width * c) p') (take f q')
   pieces-sound = record {

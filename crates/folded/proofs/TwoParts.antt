@@ -21,14 +21,13 @@ use Rattle.mesh.specs.Mesh.{Ring, cornersIn, rings}
 use Rattle.mesh.proofs.Corners.{length-cornersIn}
 use Rattle.mesh.proofs.Faces.{rings-are, sizes-back}
 use Rattle.grouping.specs.Push.{Placed, pushed, isTriangle, cornerCount}
-use Rattle.grouping.proofs.Placing.{placed-both}
+use Rattle.grouping.proofs.Placing.{placed-both, placed-as}
 use Rattle.grouping.proofs.Pushed.{pushed-behind}
 use Rattle.folding.specs.Folding.{pieces}
 use Rattle.folding.proofs.Pieces.{isFace, pieces-sane, triangle-triangles}
 use Rattle.splitting.proofs.Pieces.{third}
 use Rattle.folded.specs.Folded.{removed}
 use Rattle.folded.specs.Working.{Fit, Triangles, Ready, Behind}
-use Rattle.oneface.proofs.OneFace.{placed-as}
 use Rattle.folded.proofs.Passing.{pieces-rings}
 use Rattle.folded.proofs.Result.{every-pieces, count-pieces, removed-count, removed-length}
 

@@ -14,8 +14,9 @@ use Rattle.lists.proofs.Parts.{Searching, search-begins, search-turns, search-f
 use Rattle.mesh.specs.Limits.{width}
 use Rattle.mesh.specs.Mesh.{Ring, cornersIn, rings}
 use Rattle.mesh.specs.Table.{kind, falls}
-use Rattle.mesh.specs.Face.{faceOf, offsetOf, Sound}
-use Rattle.mesh.proofs.Faces.{length-rings, getD-rings, face-length, offset-step, sizes-back, corners-back}
+use Rattle.mesh.specs.Face.{faceOf, Sound}
+use Rattle.mesh.proofs.Faces.{length-rings, getD-rings, face-length, sizes-back, corners-back}
+use Rattle.mesh.proofs.Walking.{Walking, walk-begins, walk-turns}
 use Rattle.grouping.specs.Push.{Placed, pushed}
 use Rattle.grouping.proofs.Pushed.{pushed-same}
 use Rattle.folding.specs.Folding.{folded, pieces}
@@ -27,11 +28,11 @@ use Rattle.folded.specs.Working.{Fit}
 -- ---- all faces, one by one: none of the first k is folded
 
 pub record Looking (cs s : List ℕ) (from k : ℕ) : Type 0 where
-  pub offset : from ≡ offsetOf s k
+  pub walk : Walking s from k
   pub search : Searching folded (rings s cs) k
 
 pub looking-begins : (cs s : List ℕ) → Looking cs s 0 0
-looking-begins cs s = record { offset = refl; search = search-begins folded [] (rings s cs) }
+looking-begins cs s = record { walk = walk-begins s; search = search-begins folded [] (rings s cs) }
 
 pub looking-face : (cs s face : List ℕ) (k : ℕ) → Fit cs s → k < length s → face ≡ faceOf cs s k → Corners face (getD s k 0)
 looking-face cs s face k y h e = record { small = y .most k h; wide = ap length e ∙ face-length cs s (y .sound) k h }
@@ -42,7 +43,7 @@ face-is cs s face k b h e f = ap folded (getD-rings s cs k h ∙ ap cornersIn (s
 pub looking-turns : (cs s face : List ℕ) (from k : ℕ) (b : Bool) → k < length s → face ≡ faceOf cs s k → b ≡ folded (cornersIn face) → b ≡ false
     → Looking cs s from k → Looking cs s (from + getD s k 0) (k + 1)
 looking-turns cs s face from k b h e f z l = record {
-  offset = omega (arith, l .offset, offset-step s k h);
+  walk = walk-turns s from k h (l .walk);
   search = search-turns folded [] (rings s cs) k (rw (length-rings s cs) h) (face-is cs s face k b h e f ∙ z) (l .search);
 }
 

@@ -1,7 +1,7 @@
 -- One ring of a row that is written behind others, and that what its pieces leave of the room is enough. Assumes nothing.
-use mathlib.Core.Path.{_≡_, refl, sym, ap, _∙_}
+use mathlib.Core.Path.{_≡_}
 use mathlib.Core.Bool.{false}
-use mathlib.Core.List.{List, [], _∷_, append-nil}
+use mathlib.Core.List.{List}
 use Prim.Native.Nat.{ℕ, _+_, _*_, _≤_, _<_}
 use native.Mathlib.Omega.{arith}
 use lib.ListN.{length, take, set}
@@ -10,19 +10,10 @@ use Rattle.lists.specs.Lists.{joined}
 use Rattle.mesh.specs.Limits.{width, ringLimit}
 use Rattle.mesh.specs.Mesh.{Ring, position}
 use Rattle.grouping.specs.Push.{Placed, cornerCount}
-use Rattle.grouping.proofs.Placing.{placed-none}
+use Rattle.grouping.proofs.Placing.{placed-none, placed-ring}
 use Rattle.splitting.proofs.Pieces.{pieces-stay, pieces-vanish, third}
 use Rattle.folding.specs.Folding.{folded, ringPieces}
 use Rattle.folding.proofs.Pieces.{Sane}
-
--- one face, whatever wrote its corners
-pub placed-ring : (r : Ring) (o o' l : List ℕ) (c f : ℕ) → o' ≡ sets o (width * c) (joined r) → Placed (r ∷ []) o o' l (set l f (length r)) c f (c + length r) (f + 1)
-placed-ring r o o' l c f e = record {
-  corners = e ∙ ap (sets o (width * c)) (sym (append-nil (joined r)));
-  sizes = refl;
-  more = omega arith;
-  most = refl;
-}
 
 -- the pieces of a face of n corners took no more than its room
 pub record Took (n c f c' f' : ℕ) : Type 0 where

@@ -3,7 +3,7 @@ use Prim.Native.Nat.{ℕ, _+_, _*_, _≤_, _<_}
 use mathlib.Core.Path.{_≡_}
 use mathlib.Core.List.{List}
 use lib.ListN.{length}
-use Rattle.mesh.specs.Limits.{width, ringLimit}
+use Rattle.mesh.specs.Limits.{width, leastRing, ringLimit}
 use Rattle.mesh.specs.Mesh.{Ring, position}
 use Rattle.splitting.specs.Splitting.{firstBy, secondBy}
 
@@ -12,7 +12,7 @@ use Rattle.splitting.specs.Splitting.{firstBy, secondBy}
 pub record Room (n : ℕ) (out lens : List ℕ) (c f : ℕ) : Type 0 where
   pub small : n ≤ ringLimit
   pub corners : width * (c + n) ≤ length out
-  pub sizes : 3 * f + n < 3 * (length lens + 1)
+  pub sizes : leastRing * f + n < leastRing * (length lens + 1)
 
 -- i is the first corner of r that has another with its position, or their number; of such a corner j is the first other
 pub record FirstPair (r : Ring) (i j : ℕ) : Type 0 where

@@ -14,6 +14,7 @@ ghost use Rattle.folding.specs.Working.{Room, Cut, FirstPair};
 ghost use Rattle.splitting.specs.Splitting.{mateOf, firstMated, between, around};
 ghost use Rattle.folding.specs.Folding.{foldOf, withoutQ1, withoutQ3, folded, ringPieces};
 use grouping::Filled;
+use mesh::LEAST_RING;
 use mesh::RING;
 use mesh::WIDTH;
 
@@ -230,7 +231,7 @@ fn put_ring(
         (now (out .entry)) (now (out .exit)) (now (lens .entry)) (now (lens .exit))
         (at .corners) (at .faces) (r .corners) (r .faces) ⌝ }
 {
-    if n < 3 {
+    if n < LEAST_RING {
         return at;
     }
     let c = at.corners;

@@ -89,12 +89,20 @@ module _ (p t n : List Float) (fs : List Ring) (o : Orderly p t n fs) where
       let g : length (m .sizes) ≡ length (pushed fs) = length-map (pushed fs) length in
       clear-0 m (record {
         shaped = record {
-          within = within-back m (record { positions = o .few-positions; textures = o .few-textures; normals = o .few-normals; corners = omega (arith, o .few-corners); sizes = omega (arith, o .few-corners) });
+          within = within-back m (record {
+            positions = o .few-positions;
+            textures = o .few-textures;
+            normals = o .few-normals;
+            corners = omega (arith, o .few-corners);
+            sizes = omega (arith, o .few-corners);
+          });
           even = even-back m (record { positions = o .whole-positions; textures = o .whole-textures; normals = o .whole-normals; corners = omega arith; adds = sym f });
           fit = sizes-back m (λ k h.
               let z : sized (getD (pushed fs) k []) ≡ true = size-of k h in
-              let y = getD (pushed fs) k [] in
-              (rw (size-at (pushed fs) k) (leb-true 3 (length y) (and-left (leb 3 (length y)) (leb (length y) ringLimit) z)), rw (size-at (pushed fs) k) (leb-true (length y) ringLimit (and-right (leb 3 (length y)) (leb (length y) ringLimit) z))));
+              let y = getD (pushed fs) k [] in (
+                rw (size-at (pushed fs) k) (leb-true 3 (length y) (and-left (leb 3 (length y)) (leb (length y) ringLimit) z)),
+                rw (size-at (pushed fs) k) (leb-true (length y) ringLimit (and-right (leb 3 (length y)) (leb (length y) ringLimit) z)),
+              ));
           grouped = pushed-grouped fs;
         };
         found =

@@ -1,3 +1,4 @@
 pub mod Placing
+pub mod Passing
 pub mod Pushed
 pub mod Accepting

@@ -14,7 +14,7 @@ use Rattle.lists.specs.Lists.{bump, count, joined, some as has-some}
 use Rattle.lists.proofs.Bools.{by-cases, or-left, or-right}
 use Rattle.lists.proofs.Counting.{bump-plus, bump-up, count-append, count-all, count-length}
 use Rattle.edges.specs.Edges.{runEdges, ringEdges, meshEdges, Edge, same, verdict, Irregular, Regular, hems}
-use Rattle.edges.proofs.Uses.{length-run}
+use Rattle.mesh.proofs.Edges.{length-run}
 use Rattle.tracing.specs.Hems.{Balanced, ins, outs}
 use Rattle.house.specs.Promises.{EveryHemOnce}
 use Rattle.tracing.specs.Following.{lesser, leastStart, without, Walk, longer}

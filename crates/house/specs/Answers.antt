@@ -4,10 +4,12 @@ use mathlib.Core.List.{List, [], _∷_}
 use Prim.Native.Nat.{ℕ, _≤_}
 use lib.ListN.{length}
 use Rattle.mesh.specs.Mesh.{Mesh, faces}
+use Rattle.mesh.specs.Listed.{Listed, listedOf}
 use Rattle.mesh.specs.Table.{meshNumber, when, firstOf, lent, short}
 use Rattle.edges.specs.Runs.{Edged}
 use Rattle.edges.specs.Edges.{Edge, edgesOf, Verdict, Irregular, Regular, Oriented, Closed, verdict, hems}
 use Rattle.tracing.specs.Answers.{cornerCount, Answered}
+use Rattle.tracing.specs.declared.Wires.{Wires}
 use Rattle.house.specs.House.{houseWires}
 
 -- 9: a list is shorter than one number per corner
@@ -28,10 +30,10 @@ unwired m = not (wired (verdict (edgesOf (faces m))))
 unfoldable pub houseNumber : Mesh → ℕ → ℕ → ℕ
 houseNumber m flat lengths = firstOf (meshNumber m ∷ when (houseShort m flat lengths) 9 ∷ when (unwired m) 10 ∷ [])
 
--- the call
-abbrev pub HouseAnswer : Mesh → List ℕ → List ℕ → List ℕ → List ℕ → ℕ → ℕ → ℕ → Type 0
-HouseAnswer m flat lengths flat′ lengths′ number numbers wires =
-    Answered (houseNumber m (length flat) (length lengths)) (houseWires (hems (edgesOf (faces m)))) flat lengths flat′ lengths′ number numbers wires
+-- the call: a mesh is given, and what the two lent lists hold before and afterwards
+abbrev pub HouseAnswer : Mesh → Listed → Listed → Wires → Type 0
+HouseAnswer m before afterwards answer =
+    Answered (houseNumber m (length (before .flat)) (length (before .lengths))) (houseWires (hems (edgesOf (faces m)))) before afterwards answer
 
 -- what the wires of a mesh that is accepted are given
 pub record HouseOf (corners sizes : List ℕ) (positions : ℕ) (flat lengths : List ℕ) : Type 0 where
@@ -42,7 +44,12 @@ pub record HouseOf (corners sizes : List ℕ) (positions : ℕ) (flat lengths : 
 -- what they answer and leave: 10, or the wires of the hem edges, by the verdict v that was found with them
 abbrev pub HouseFound : Verdict → List Edge → List ℕ → List ℕ → List ℕ → List ℕ → ℕ → ℕ → ℕ → Type 0
 HouseFound v hem flat lengths flat′ lengths′ number numbers wires =
-    Answered (when (not (wired v)) 10) (houseWires hem) flat lengths flat′ lengths′ number numbers wires
+    Answered
+    (when (not (wired v)) 10)
+    (houseWires hem)
+    (listedOf flat lengths)
+    (listedOf flat′ lengths′)
+    (record { number = number; flat = numbers; wires = wires })
 
 abbrev pub HouseDone : List Edge → List ℕ → List ℕ → List ℕ → List ℕ → ℕ → ℕ → ℕ → Type 0
 HouseDone es flat lengths flat′ lengths′ number numbers wires =

@@ -6,6 +6,7 @@
 // verdict too.
 ghost use mathlib.Core.Path.{_≡_};
 ghost use Rattle.mesh.specs.Mesh.{meshOf, rings};
+ghost use Rattle.mesh.specs.Listed.{listedOf};
 ghost use Rattle.edges.specs.Edges.{edgesOf};
 ghost use Rattle.edges.specs.Answers.{verdictOf};
 ghost use Rattle.tracing.specs.Hems.{pairs, Written};
@@ -27,7 +28,11 @@ pub fn house_wires(
     flat: &mut [u32],
     lengths: &mut [u32],
 ) -> Wires
-    ensures { λ r. ⌜ HouseAnswer (meshOf (now (positions .entry)) (now (textures .entry)) (now (normals .entry)) (now (corners .entry)) (now (sizes .entry))) (now (flat .entry)) (now (lengths .entry)) (now (flat .exit)) (now (lengths .exit)) (r .number) (r .flat) (r .wires) ⌝ }
+    ensures { λ r. ⌜ HouseAnswer
+        (meshOf (now (positions .entry)) (now (textures .entry)) (now (normals .entry)) (now (corners .entry)) (now (sizes .entry)))
+        (listedOf (now (flat .entry)) (now (lengths .entry)))
+        (listedOf (now (flat .exit)) (now (lengths .exit)))
+        r ⌝ }
 {
     let number = mesh::number(positions, textures, normals, corners, sizes);
     if number != 0 {
@@ -52,7 +57,9 @@ pub fn house_of(
     lengths: &mut [u32],
 ) -> Wires
     requires { ⌜ HouseOf (now corners) (now sizes) positions (now flat) (now lengths) ⌝ }
-    ensures { λ r. ⌜ HouseDone (edgesOf (rings (now (sizes .entry)) (now (corners .entry)))) (now (flat .entry)) (now (lengths .entry)) (now (flat .exit)) (now (lengths .exit)) (r .number) (r .flat) (r .wires) ⌝ }
+    ensures { λ r. ⌜ HouseDone (edgesOf (rings (now (sizes .entry)) (now (corners .entry))))
+        (now (flat .entry)) (now (lengths .entry)) (now (flat .exit)) (now (lengths .exit))
+        (r .number) (r .flat) (r .wires) ⌝ }
 {
     let mut starts = [0u32; mesh::CORNERS];
     let mut ends = [0u32; mesh::CORNERS];
@@ -72,7 +79,9 @@ pub fn house_from(
     lengths: &mut [u32],
 ) -> Wires
     requires { ⌜ Foundable (verdictOf verdict) (now starts) (now ends) (now flat) (now lengths) ⌝ }
-    ensures { λ r. ⌜ HouseFound (verdictOf verdict) (pairs (now (starts .entry)) (now (ends .entry))) (now (flat .entry)) (now (lengths .entry)) (now (flat .exit)) (now (lengths .exit)) (r .number) (r .flat) (r .wires) ⌝ }
+    ensures { λ r. ⌜ HouseFound (verdictOf verdict) (pairs (now (starts .entry)) (now (ends .entry)))
+        (now (flat .entry)) (now (lengths .entry)) (now (flat .exit)) (now (lengths .exit))
+        (r .number) (r .flat) (r .wires) ⌝ }
 {
     if !is_wired(verdict) {
         return tracing::refused(10);
@@ -100,7 +109,9 @@ fn is_wired(verdict: ShellCondition) -> bool
 // The house wires of hem edges that are balanced and ascend, into `flat` and `lengths`. Room: one number and one wire per hem edge.
 fn trace_house(starts: &[u32], ends: &[u32], flat: &mut [u32], lengths: &mut [u32]) -> Traced
     requires { ⌜ Houseable (now starts) (now ends) (now flat) (now lengths) ⌝ }
-    ensures { λ r. ⌜ Written (houseWires (pairs (now (starts .entry)) (now (ends .entry)))) (now (flat .entry)) (now (lengths .entry)) (now (flat .exit)) (now (lengths .exit)) (r .flat) (r .wires) ⌝ }
+    ensures { λ r. ⌜ Written (houseWires (pairs (now (starts .entry)) (now (ends .entry))))
+        (now (flat .entry)) (now (lengths .entry)) (now (flat .exit)) (now (lengths .exit))
+        (r .flat) (r .wires) ⌝ }
 {
     let mut firsts = [tracing::NOBODY; mesh::ENTRIES];
     let mut nexts = [tracing::NOBODY; mesh::CORNERS];
@@ -116,7 +127,9 @@ fn house_in(
     lengths: &mut [u32],
 ) -> Traced
     requires { ⌜ HouseIn (now starts) (now ends) (now nexts) (now firsts) (now flat) (now lengths) ⌝ }
-    ensures { λ r. ⌜ Written (houseWires (pairs (now (starts .entry)) (now (ends .entry)))) (now (flat .entry)) (now (lengths .entry)) (now (flat .exit)) (now (lengths .exit)) (r .flat) (r .wires) ⌝ }
+    ensures { λ r. ⌜ Written (houseWires (pairs (now (starts .entry)) (now (ends .entry))))
+        (now (flat .entry)) (now (lengths .entry)) (now (flat .exit)) (now (lengths .exit))
+        (r .flat) (r .wires) ⌝ }
 {
     link_all(starts, nexts, firsts);
     tracing::trace_all(starts, ends, nexts, firsts, flat, lengths)
@@ -130,7 +143,7 @@ fn link_all(starts: &[u32], nexts: &mut [u32], firsts: &mut [u32])
     let mut k = starts.len();
     while k > 0 {
         k -= 1;
-        let s = tracing::wide(starts[k]);
+        let s = lists::wide(starts[k]);
         nexts[k] = firsts[s];
         firsts[s] = k as u32;
     }

@@ -10,11 +10,11 @@ use Rattle.lists.specs.Lists.{every}
 use Rattle.lists.proofs.Buckets.{length-front}
 use Rattle.mesh.specs.Limits.{width, cornerLimit, cornerNumbers}
 use Rattle.mesh.specs.Mesh.{Ring, rings}
-use Rattle.edges.specs.Edges.{ringEdges}
+use Rattle.mesh.specs.Edges.{ringEdges}
 use Rattle.keys.specs.Keys.{keyOf, faceKeys, Use, usesFrom, useFaces, noUse, FirstOf, FirstUses}
-use Rattle.keys.specs.Columns.{Keyable, chosen, entryOf, column, faceUses, Digits}
-use Rattle.keys.specs.Firsts.{KeyColumns, TwoRows, Marked}
-use Rattle.keys.proofs.Valid.{goodKey, uses-good, faces-good, key-columns, same-key, uses-corners}
+use Rattle.keys.specs.Columns.{Keyable, fewUses, FewRoom, chosen, entryOf, column, faceUses, Digits}
+use Rattle.keys.specs.Firsts.{KeyColumns, Plain, TwoRows, Marked}
+use Rattle.keys.proofs.Valid.{goodKey, uses-good, faces-good, key-columns, key-plain, same-key, uses-corners}
 
 -- ---- the first uses of a mesh
 
@@ -46,8 +46,20 @@ module _ (normals : Bool) (cs s : List ℕ) (k : Keyable cs s) where
     pub columns-row : (row : List ℕ) → length row ≡ length cs / width → KeyColumns lower higher n m (length row)
     columns-row row l = subst (KeyColumns lower higher n m) (long ∙ sym l) columns-uses
 
-    pub rows-ready : (order spare : List ℕ) → length order ≡ length cs / width → length spare ≡ length cs / width → TwoRows lower higher n m order spare
-    rows-ready order spare l w = record { columns = columns-row order l; spare-long = w ∙ sym l }
+    plain-uses : Plain normals n m (length uses)
+    unfolding column
+    plain-uses =
+        subst (λ (l : List ℕ). Plain normals l m (length uses)) (sym (d .n-is))
+        (subst (λ (l : List ℕ). Plain normals (map (entryOf 2) uses) l (length uses)) (sym (d .m-is)) (key-plain normals (rings s cs)))
+
+    pub rows-ready :
+        (order spare : List ℕ) → length order ≡ length cs / width → length spare ≡ length cs / width
+        → TwoRows normals lower higher n m order spare
+    rows-ready order spare l w = record {
+      columns = columns-row order l;
+      plain = subst (Plain normals n m) (long ∙ sym l) plain-uses;
+      spare-long = w ∙ sym l;
+    }
 
     module _ (order firsts : List ℕ) (l : length order ≡ length cs / width) (r : Marked lower higher n m (length order) firsts) where
       marked-uses : Marked (map (entryOf 0) uses) (map (entryOf 1) uses) (map (entryOf 2) uses) (map (entryOf 3) uses) (length uses) firsts
@@ -97,3 +109,6 @@ faces-column fs = refl
 
 pub corner-row : (cs s : List ℕ) → Keyable cs s → length (take {A = ℕ} (length cs / width) (replicate cornerLimit 0)) ≡ length cs / width
 corner-row cs s k = length-front 0 (length cs / width) cornerLimit (let a : length cs ≤ cornerNumbers = k .sound .fits in omega arith)
+
+pub few-row : (cs s firsts : List ℕ) → FewRoom cs s firsts → length (take {A = ℕ} (length cs / width) (replicate fewUses 0)) ≡ length cs / width
+few-row cs s firsts f = length-front 0 (length cs / width) fewUses (f .few)

@@ -8,7 +8,7 @@ use lib.Dec.{ltb, eqb}
 use lib.ListN.{length, getD, take, drop, length-append, length-map, length-drop, List·getD-map}
 use borrow.Author.Tests.{lt-ltb, ltb-true, eq-eqb, eqb-true, eqb-false}
 use Rattle.lists.specs.Lists.{every, sum}
-use Rattle.lists.proofs.Bools.{by-cases, and-both, and-left, and-right, or-left, or-right}
+use Rattle.lists.proofs.Bools.{by-cases, true-false, and-both, and-left, and-right, or-left, or-right}
 use Rattle.lists.proofs.Cases.{iff}
 use Rattle.lists.proofs.Mapping.{every-map, every-all}
 use Rattle.lists.proofs.Parts.{every-append, every-at}
@@ -17,11 +17,12 @@ use Rattle.mesh.specs.Mesh.{Mesh, Corner, Ring, position, normal, missing, corn
 use Rattle.mesh.proofs.Corners.{length-cornersIn, getD-cornersIn, cornersIn-split}
 use Rattle.mesh.proofs.Faces.{sizes-back}
 use Rattle.mesh.proofs.Accepted.{Accepted, Found}
-use Rattle.edges.specs.Edges.{runEdges, ringEdges}
-use Rattle.edges.proofs.Uses.{length-ring}
+use Rattle.mesh.specs.Edges.{runEdges, ringEdges}
+use Rattle.mesh.proofs.Edges.{length-ring}
 use Rattle.keys.specs.Keys.{Key, pairKey, keyOf, sameKey, faceKeys, Use, usesFrom, noUse}
-use Rattle.keys.specs.Columns.{Keyable, normalDigits, normalDigit, chosen, entryOf, faceUses}
-use Rattle.keys.specs.Firsts.{sameUse, KeyColumns}
+use Rattle.sorting.specs.Sorting.{keyLimit}
+use Rattle.keys.specs.Columns.{Keyable, normalDigit, chosen, entryOf, faceUses}
+use Rattle.keys.specs.Firsts.{sameUse, KeyColumns, Plain}
 
 -- a position, and a normal, as an accepted mesh has them
 abbrev pub isNormal : ℕ → Bool
@@ -125,39 +126,33 @@ keyable m a = record {
 normal-below : (n : ℕ) → isNormal n ≡ true → eqb n missing ≡ false → n < entryLimit
 normal-below n h t = ltb-true n entryLimit (rw t at h)
 
-digit-missing : (n : ℕ) → eqb n missing ≡ true → normalDigit n ≡ entryLimit
+digit-missing : (n : ℕ) → eqb n missing ≡ true → normalDigit n ≡ 0
 unfolding normalDigit
 digit-missing n t = rw t
 
-digit-there : (n : ℕ) → eqb n missing ≡ false → normalDigit n ≡ n
+digit-there : (n : ℕ) → eqb n missing ≡ false → normalDigit n ≡ n + 1
 unfolding normalDigit
 digit-there n t = rw t
 
-digit-injective : (a b : ℕ) → isNormal a ≡ true → isNormal b ≡ true → normalDigit a ≡ normalDigit b → a ≡ b
-digit-injective a b p q e =
+digit-injective : (a b : ℕ) → normalDigit a ≡ normalDigit b → a ≡ b
+digit-injective a b e =
     by-cases (eqb a missing)
     (λ s.
     by-cases (eqb b missing)
     (λ t. eqb-true a missing s ∙ sym (eqb-true b missing t))
-    (λ t.
-    let x : entryLimit ≡ b = sym (digit-missing a s) ∙ e ∙ digit-there b t in
-    let y : b < entryLimit = normal-below b q t in
-    absurd (omega arith)))
+    (λ t. let x : 0 ≡ b + 1 = sym (digit-missing a s) ∙ e ∙ digit-there b t in absurd (omega arith)))
     (λ s.
     by-cases (eqb b missing)
-    (λ t.
-    let x : a ≡ entryLimit = sym (digit-there a s) ∙ e ∙ digit-missing b t in
-    let y : a < entryLimit = normal-below a p s in
-    absurd (omega arith))
-    (λ t. sym (digit-there a s) ∙ e ∙ digit-there b t))
+    (λ t. let x : a + 1 ≡ 0 = sym (digit-there a s) ∙ e ∙ digit-missing b t in absurd (omega arith))
+    (λ t. let x : a + 1 ≡ b + 1 = sym (digit-there a s) ∙ e ∙ digit-there b t in omega arith))
 
-normal-same : (a b : ℕ) → isNormal a ≡ true → isNormal b ≡ true → eqb (normalDigit a) (normalDigit b) ≡ eqb a b
-normal-same a b p q =
+normal-same : (a b : ℕ) → eqb (normalDigit a) (normalDigit b) ≡ eqb a b
+normal-same a b =
     iff (eqb (normalDigit a) (normalDigit b)) (eqb a b)
-    (λ t. eq-eqb a b (digit-injective a b p q (eqb-true (normalDigit a) (normalDigit b) t)))
+    (λ t. eq-eqb a b (digit-injective a b (eqb-true (normalDigit a) (normalDigit b) t)))
     (λ t. eq-eqb (normalDigit a) (normalDigit b) (ap normalDigit (eqb-true a b t)))
 
-digit-below : (n : ℕ) → isNormal n ≡ true → normalDigit n < normalDigits
+digit-below : (n : ℕ) → isNormal n ≡ true → normalDigit n < keyLimit
 digit-below n h =
     by-cases (eqb n missing)
     (λ t. rw (digit-missing n t) (omega arith))
@@ -210,14 +205,10 @@ module _ (us : List Use) where
     pub key-columns : length us ≤ cornerLimit → KeyColumns (map (entryOf 0) us) (map (entryOf 1) us) (map (entryOf 2) us) (map (entryOf 3) us) (length us)
     key-columns few = record {
       few = few;
-      lower-long = length-map us (entryOf 0);
-      higher-long = length-map us (entryOf 1);
-      n-long = length-map us (entryOf 2);
-      m-long = length-map us (entryOf 3);
-      lower-below = λ x h. subst (λ (d : ℕ). d < entryLimit) (sym (lower-at x)) (lower-good x h);
-      higher-below = λ x h. subst (λ (d : ℕ). d < entryLimit) (sym (higher-at x)) (higher-good x h);
-      n-below = λ x h. subst (λ (d : ℕ). d < normalDigits) (sym (n-at x)) (digit-below (getD us x noUse .1 .2) (n-good x h));
-      m-below = λ x h. subst (λ (d : ℕ). d < normalDigits) (sym (m-at x)) (digit-below (getD us x noUse .1 .3) (m-good x h));
+      of-lower = record { long = length-map us (entryOf 0); below = λ x h. let b : _ = lower-good x h in let e : _ = lower-at x in omega arith };
+      of-higher = record { long = length-map us (entryOf 1); below = λ x h. let b : _ = higher-good x h in let e : _ = higher-at x in omega arith };
+      of-n = record { long = length-map us (entryOf 2); below = λ x h. subst (λ (d : ℕ). d < keyLimit) (sym (n-at x)) (digit-below (getD us x noUse .1 .2) (n-good x h)) };
+      of-m = record { long = length-map us (entryOf 3); below = λ x h. subst (λ (d : ℕ). d < keyLimit) (sym (m-at x)) (digit-below (getD us x noUse .1 .3) (m-good x h)) };
     }
 
     -- two uses have one key exactly where their digits are equal
@@ -228,8 +219,56 @@ module _ (us : List Use) where
         ap₂ _&&_
         (ap₂ _&&_
         (ap₂ _&&_ (ap₂ eqb (lower-at x) (lower-at y)) (ap₂ eqb (higher-at x) (higher-at y)))
-        (ap₂ eqb (n-at x) (n-at y) ∙ normal-same (getD us x noUse .1 .2) (getD us y noUse .1 .2) (n-good x h) (n-good y i)))
-        (ap₂ eqb (m-at x) (m-at y) ∙ normal-same (getD us x noUse .1 .3) (getD us y noUse .1 .3) (m-good x h) (m-good y i))
+        (ap₂ eqb (n-at x) (n-at y) ∙ normal-same (getD us x noUse .1 .2) (getD us y noUse .1 .2)))
+        (ap₂ eqb (m-at x) (m-at y) ∙ normal-same (getD us x noUse .1 .3) (getD us y noUse .1 .3))
+
+-- ---- without the normals setting
+
+-- no use looks at a normal
+abbrev noNormals : Key → Bool
+noNormals k = eqb (k .2) 0 && eqb (k .3) 0
+
+run-plain : (a : Corner) (r : Ring) (z : Corner) → every noNormals (map (keyOf false) (runEdges a r z)) ≡ true
+unfolding keyOf
+run-plain a [] z = and-both (noNormals (keyOf false (a, z))) true (go (ltb (position a) (position z))) refl
+  where
+    go : (t : Bool) → noNormals (cond t (pairKey false a z) (pairKey false z a)) ≡ true
+    go true = refl
+    go false = refl
+run-plain a (b ∷ r) z = and-both (noNormals (keyOf false (a, b))) (every noNormals (map (keyOf false) (runEdges b r z))) (go (ltb (position a) (position b))) (run-plain b r z)
+  where
+    go : (t : Bool) → noNormals (cond t (pairKey false a b) (pairKey false b a)) ≡ true
+    go true = refl
+    go false = refl
+
+face-plain : (f : Ring) → every noNormals (faceKeys false f) ≡ true
+face-plain [] = refl
+face-plain (a ∷ r) = run-plain a r a
+
+uses-plain : (i : ℕ) (fs : List Ring) → every (λ (u : Use). noNormals (u .1)) (usesFrom false i fs) ≡ true
+uses-plain i [] = refl
+uses-plain i (f ∷ fs) =
+    every-append (λ (u : Use). noNormals (u .1)) (faceUses false i f) (usesFrom false (suc i) fs)
+    ∙ and-both (every (λ (u : Use). noNormals (u .1)) (faceUses false i f)) (every (λ (u : Use). noNormals (u .1)) (usesFrom false (suc i) fs))
+    (every-map (λ k. (i, k)) (λ (u : Use). noNormals (u .1)) (faceKeys false f) ∙ face-plain f)
+    (uses-plain (suc i) fs)
+
+-- so all have the digit of the first normal
+plain-at :
+    (us : List Use) → every (λ (u : Use). noNormals (u .1)) us ≡ true → (x : ℕ) → x < length us
+    → (getD (map (entryOf 2) us) x 0 ≡ normalDigit 0) × (getD (map (entryOf 3) us) x 0 ≡ normalDigit 0)
+plain-at us p x h =
+    let k : Key = getD us x noUse .1 in
+    let q : (eqb (k .2) 0 && eqb (k .3) 0) ≡ true = every-at (λ (u : Use). noNormals (u .1)) noUse us x p h in (
+      n-at us x ∙ ap normalDigit (eqb-true (k .2) 0 (and-left (eqb (k .2) 0) (eqb (k .3) 0) q)),
+      m-at us x ∙ ap normalDigit (eqb-true (k .3) 0 (and-right (eqb (k .2) 0) (eqb (k .3) 0) q)),
+    )
+
+pub key-plain :
+    (normals : Bool) (fs : List Ring)
+    → Plain normals (map (entryOf 2) (usesFrom normals 0 fs)) (map (entryOf 3) (usesFrom normals 0 fs)) (length (usesFrom normals 0 fs))
+key-plain true fs e x h = true-false e
+key-plain false fs e x h = plain-at (usesFrom false 0 fs) (uses-plain 0 fs) x h
 
 -- ---- as many uses as corners
 

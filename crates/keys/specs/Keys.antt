@@ -5,8 +5,8 @@ use mathlib.Core.List.{List, [], _∷_, _++_, map}
 use Prim.Native.Nat.{ℕ, suc, _≤_, _<_}
 use lib.Dec.{ltb, eqb}
 use lib.ListN.{length, getD}
-use Rattle.mesh.specs.Mesh.{Corner, Ring, position, normal}
-use Rattle.edges.specs.Edges.{ringEdges}
+use Rattle.mesh.specs.Mesh.{Corner, Ring, position, normal, missing}
+use Rattle.mesh.specs.Edges.{ringEdges}
 
 -- an edge key: both positions, and with the normals setting also both normal indices (missing counts as a value)
 abbrev pub Key : Type 0
@@ -40,7 +40,7 @@ useFaces fs = map (λ (u : Use). u .0) (usesFrom false 0 fs)
 
 -- a use that no list has
 abbrev pub noUse : Use
-noUse = (0, (0, 0, 0, 0))
+noUse = (0, (0, 0, missing, missing))
 
 -- of the uses us, f is the first one that has the key of use x
 pub record FirstOf (us : List Use) (x f : ℕ) : Type 0 where

@@ -4,19 +4,53 @@
 // The uses are columns of numbers (columns.rt). A stable sort puts uses of one key together, the first one first (firsts.rt). All
 // of it is linear: no use is looked for.
 ghost use mathlib.Core.Path.{_≡_};
-ghost use Prim.Native.Nat.{_≤_};
-ghost use lib.ListN.{length};
-ghost use Rattle.lists.specs.Lists.{span};
-ghost use Rattle.mesh.specs.Limits.{cornerNumbers};
 ghost use Rattle.mesh.specs.Mesh.{rings};
 ghost use Rattle.keys.specs.Keys.{usesFrom, useFaces, FirstUses};
-ghost use Rattle.keys.specs.Columns.{ColumnRoom, FirstRoom, KeyRows};
+ghost use Rattle.keys.specs.Columns.{ColumnRoom, FirstRoom, FewRoom, KeyRows};
 
 mod columns;
 mod firsts;
 
-// The first use of each use's key, for a mesh that is accepted.
+// So many uses count as few.
+const FEW_USES: usize = 512;
+
+// The first use of each use's key, for a mesh that is accepted. Where there are few uses the rows to work in are short, since a long
+// row takes time to begin with.
 pub fn first_uses(corners: &[u32], sizes: &[u32], normals: bool, firsts: &mut [u32])
+    requires { ⌜ FirstRoom (now corners) (now sizes) (now firsts) ⌝ }
+    ensures { λ _. ⌜ FirstUses (usesFrom normals 0 (rings (now (sizes .entry)) (now (corners .entry)))) (now (firsts .exit)) ⌝ }
+{
+    if corners.len() / mesh::WIDTH <= FEW_USES {
+        first_of_few(corners, sizes, normals, firsts);
+    } else {
+        first_of_many(corners, sizes, normals, firsts);
+    }
+}
+
+fn first_of_few(corners: &[u32], sizes: &[u32], normals: bool, firsts: &mut [u32])
+    requires { ⌜ FewRoom (now corners) (now sizes) (now firsts) ⌝ }
+    ensures { λ _. ⌜ FirstUses (usesFrom normals 0 (rings (now (sizes .entry)) (now (corners .entry)))) (now (firsts .exit)) ⌝ }
+{
+    let mut lower = [0u32; FEW_USES];
+    let mut higher = [0u32; FEW_USES];
+    let mut n = [0u32; FEW_USES];
+    let mut m = [0u32; FEW_USES];
+    let mut order = [0u32; FEW_USES];
+    let u = corners.len() / mesh::WIDTH;
+    first_uses_in(
+        corners,
+        sizes,
+        normals,
+        &mut lower[..u],
+        &mut higher[..u],
+        &mut n[..u],
+        &mut m[..u],
+        &mut order[..u],
+        firsts,
+    );
+}
+
+fn first_of_many(corners: &[u32], sizes: &[u32], normals: bool, firsts: &mut [u32])
     requires { ⌜ FirstRoom (now corners) (now sizes) (now firsts) ⌝ }
     ensures { λ _. ⌜ FirstUses (usesFrom normals 0 (rings (now (sizes .entry)) (now (corners .entry)))) (now (firsts .exit)) ⌝ }
 {
@@ -55,7 +89,7 @@ fn first_uses_in(
     ensures { λ _. ⌜ FirstUses (usesFrom normals 0 (rings (now (sizes .entry)) (now (corners .entry)))) (now (firsts .exit)) ⌝ }
 {
     columns::put_digits(corners, sizes, normals, lower, higher, n, m);
-    firsts::put_firsts(lower, higher, n, m, order, firsts);
+    firsts::put_firsts(lower, higher, n, m, normals, order, firsts);
 }
 
 // The face of each use.
@@ -64,22 +98,4 @@ pub fn put_faces(corners: &[u32], sizes: &[u32], out: &mut [u32])
     ensures { λ _. ⌜ now (out .exit) ≡ useFaces (rings (now (sizes .entry)) (now (corners .entry))) ⌝ }
 {
     columns::put_column(corners, sizes, false, columns::FACE, out);
-}
-
-// 0, 1, 2, ..
-pub fn count_up(out: &mut [u32])
-    requires { ⌜ length (now out) ≤ cornerNumbers ⌝ }
-    ensures { λ _. ⌜ now (out .exit) ≡ span 0 (length (now (out .entry))) ⌝ }
-{
-    let mut i: usize = 0;
-    while i < out.len() {
-        out[i] = i as u32;
-        i += 1;
-    }
-}
-
-pub fn wide(x: u32) -> usize
-    ensures { λ r. ⌜ r ≡ x ⌝ }
-{
-    x as usize
 }

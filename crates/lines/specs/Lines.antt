@@ -51,6 +51,10 @@ sheetText f =
     ++ panelsLine (f .panels)
     ++ hemLines (f .wires)
 
+-- room for every sheet, in bytes
+abbrev pub sheetRoom : ℕ
+sheetRoom = 65536
+
 -- a refused file prints only `refused` and its number
 unfoldable pub refusal : ℕ → List ℕ
 refusal n = line "refused" (map decimal (n ∷ []))

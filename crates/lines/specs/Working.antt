@@ -1,22 +1,18 @@
--- What the functions of the crate hand to one another; a caller needs none of it. Assumes nothing.
+-- The steps of the code, and no rules of document 01: what its functions hand to one another. Assumes nothing.
 use Prim.Native.Nat.{ℕ, _≤_}
 use mathlib.Core.Path.{_≡_}
 use mathlib.Core.Option.{Option, none, some}
 use mathlib.Core.List.{List, [], _∷_}
-use lib.ListN.{length, take, drop}
+use lib.ListN.{length}
 use lib.Seq.{sets}
 use Rattle.lists.specs.Lists.{sum}
+use Rattle.lists.specs.Cutting.{parts}
 use Rattle.mesh.specs.Limits.{cornerLimit}
 use Rattle.mesh.specs.Table.{after}
 use Rattle.edges.specs.Answers.{verdictOf}
-use Rattle.text.specs.Text.{Room}
+use Rattle.lists.specs.Putting.{Room}
 use Rattle.lines.specs.declared.Findings.{Findings}
-use Rattle.lines.specs.Lines.{Found, hemLines}
-
--- the wires of a flat list: each takes as many numbers as its length says
-abbrev pub parts : List ℕ → List ℕ → List (List ℕ)
-parts [] flat = []
-parts (n ∷ s) flat = take n flat ∷ parts s (drop n flat)
+use Rattle.lines.specs.Lines.{Found, hemLines, sheetRoom}
 
 -- the wires, or none where house wires answered another number than 0
 unfoldable pub wiresBy : ℕ → List ℕ → List ℕ → Option (List (List ℕ))
@@ -44,7 +40,7 @@ pub record Ready (flat lengths out : List ℕ) : Type 0 where
   pub within : sum lengths ≤ length flat
   pub few : length flat ≤ cornerLimit
   pub few-wires : length lengths ≤ cornerLimit
-  pub room : 65536 ≤ length out
+  pub room : sheetRoom ≤ length out
 
 -- the text stands at the front of the list, n bytes long, and fits in it
 pub record Sheeted (text out out′ : List ℕ) (n : ℕ) : Type 0 where

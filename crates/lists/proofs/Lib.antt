@@ -6,6 +6,7 @@ pub mod Chains
 pub mod Classes
 pub mod Copies
 pub mod Counting
+pub mod Fronts
 pub mod Growing
 pub mod Mapping
 pub mod Members
@@ -16,3 +17,9 @@ pub mod Seeking
 pub mod Writing
 pub mod Others
 pub mod Same
+pub mod Changing
+pub mod Cutting
+pub mod Stores
+pub mod FirstUses
+pub mod Places
+pub mod Listing

@@ -1,7 +1,12 @@
--- How many numbers below a bound pass a test, and the first number that passes one. Assumes nothing.
+-- How many numbers below a bound pass a test, the first number that passes one, and the place behind another in a ring. Assumes nothing.
 use Prim.Native.Nat.{ℕ, zero, suc, _+_}
-use mathlib.Core.Bool.{Bool, true, false}
+use mathlib.Core.Bool.{Bool, true, false, cond}
+use lib.Dec.{ltb}
 use Rattle.lists.specs.Lists.{bump}
+
+-- the place behind i in a ring of n: the first one behind the last
+unfoldable pub nextOf : ℕ → ℕ → ℕ
+nextOf i n = cond (ltb (i + 1) n) (i + 1) 0
 
 -- how many numbers below n pass
 unfoldable pub countBelow : (ℕ → Bool) → ℕ → ℕ

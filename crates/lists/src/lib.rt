@@ -1,9 +1,26 @@
-// Copies of a part of one list to a place of another, and the laws on lists that all crates cite.
+// Small steps on lists that all crates take: copies of a part to a place, the place behind another in a ring; and the laws on lists
+// that all crates cite.
 // The definitions of specs/ are the words in which the rules are written; proofs/ has what is known of them.
 ghost use mathlib.Core.Path.{_≡_};
-ghost use Prim.Native.Nat.{_+_, _≤_};
+ghost use Prim.Native.Nat.{_+_, _<_, _≤_};
 ghost use lib.ListN.{length};
 ghost use lib.Seq.{sets};
+ghost use Rattle.lists.specs.Numbers.{nextOf};
+
+// A number of a list, as a place in another.
+pub fn wide(x: u32) -> usize
+    ensures { λ r. ⌜ r ≡ x ⌝ }
+{
+    x as usize
+}
+
+// The place behind `i` in a ring of `n`.
+pub fn next_of(i: usize, n: usize) -> usize
+    requires { ⌜ i < n ⌝ }
+    ensures { λ r. ⌜ (r ≡ nextOf i n) × (r < n) ⌝ }
+{
+    if i + 1 < n { i + 1 } else { 0 }
+}
 
 // The numbers of `part` go to `out`, from place `at` on.
 pub fn put(part: &[u32], out: &mut [u32], at: usize)

@@ -7,7 +7,9 @@ use native.Mathlib.Numerals.{add-one}
 use native.Mathlib.Omega.{arith}
 use lib.ListN.{length, getD, take, drop, length-append}
 use lib.Seq.{drop-at, drop-cons, drop-drop, getD-drop}
-use Rattle.little.specs.Little.{byte, half, word, long, halfBytes, wordBytes, longBytes}
+use Rattle.little.specs.Little.{halfValues, wordValues, longValues, byte, half, word, long, halfBytes, wordBytes, longBytes}
+use Rattle.little.specs.Promises.{WrittenThenRead, ReadThenWritten, ReadingUndoesWriting, WritingUndoesReading}
+pub use Rattle.little.specs.Little.{Bytes}
 
 -- ---- lengths
 
@@ -42,7 +44,7 @@ byte-here s i x r h = ap (byte s) (sym (add-zero i)) ∙ sym (getD-drop i s 0 0)
 mod-half : (x : ℕ) → x % 256 + 256 * (x / 256 % 256) ≡ x % 65536
 mod-half x = let y : ℕ = x / 256 in omega arith
 
-pub half-written : (s : List ℕ) (i x : ℕ) (r : List ℕ) → drop i s ≡ halfBytes x ++ r → half s i ≡ x % 65536
+pub half-written : WrittenThenRead half halfBytes halfValues
 unfolding half halfBytes
 half-written s i x r h =
     let a : byte s i ≡ x % 256 = byte-here s i (x % 256) (x / 256 % 256 ∷ r) h in
@@ -52,7 +54,7 @@ half-written s i x r h =
 mod-word : (x : ℕ) → x % 65536 + 65536 * (x / 65536 % 65536) ≡ x % 4294967296
 mod-word x = omega arith
 
-pub word-written : (s : List ℕ) (i x : ℕ) (r : List ℕ) → drop i s ≡ wordBytes x ++ r → word s i ≡ x % 4294967296
+pub word-written : WrittenThenRead word wordBytes wordValues
 unfolding word wordBytes
 word-written s i x r h =
     let e = in-front s i (halfBytes x) (halfBytes (x / 65536)) r h in
@@ -64,7 +66,7 @@ word-written s i x r h =
 mod-long : (x : ℕ) → x % 4294967296 + 4294967296 * (x / 4294967296 % 4294967296) ≡ x % 18446744073709551616
 mod-long x = omega arith
 
-pub long-written : (s : List ℕ) (i x : ℕ) (r : List ℕ) → drop i s ≡ longBytes x ++ r → long s i ≡ x % 18446744073709551616
+pub long-written : WrittenThenRead long longBytes longValues
 unfolding long longBytes
 long-written s i x r h =
     let e = in-front s i (wordBytes x) (wordBytes (x / 4294967296)) r h in
@@ -72,6 +74,9 @@ long-written s i x r h =
     let b : word s (i + 4) ≡ x / 4294967296 % 4294967296 =
     word-written s (i + 4) (x / 4294967296) r (behind s i 4 (wordBytes x) (wordBytes (x / 4294967296) ++ r) (length-word x) e) in
     ap₂ (λ (u v : ℕ). u + 4294967296 * v) a b ∙ mod-long x
+
+pub reading-undoes-writing : ReadingUndoesWriting
+reading-undoes-writing = record { two = half-written; four = word-written; eight = long-written }
 
 -- ---- only the lowest bytes count
 
@@ -97,10 +102,7 @@ word-cut x =
 
 -- ---- writing undoes reading, where every byte is below 256
 
-abbrev pub Bytes : List ℕ → Type 0
-Bytes s = (k : ℕ) → byte s k < 256
-
-pub half-again : (s : List ℕ) (i : ℕ) → Bytes s → i + 2 ≤ length s → drop i s ≡ halfBytes (half s i) ++ drop (i + 2) s
+pub half-again : ReadThenWritten half halfBytes 2
 unfolding half halfBytes
 half-again s i h l =
     let a = byte s i in
@@ -121,7 +123,7 @@ small-half : (s : List ℕ) (i : ℕ) → Bytes s → half s i < 65536
 unfolding half
 small-half s i h = omega (arith, h i, h (i + 1))
 
-pub word-again : (s : List ℕ) (i : ℕ) → Bytes s → i + 4 ≤ length s → drop i s ≡ wordBytes (word s i) ++ drop (i + 4) s
+pub word-again : ReadThenWritten word wordBytes 4
 unfolding word wordBytes
 word-again s i h l =
     let a = half s i in
@@ -137,7 +139,7 @@ small-word : (s : List ℕ) (i : ℕ) → Bytes s → word s i < 4294967296
 unfolding word
 small-word s i h = omega (arith, small-half s i h, small-half s (i + 2) h)
 
-pub long-again : (s : List ℕ) (i : ℕ) → Bytes s → i + 8 ≤ length s → drop i s ≡ longBytes (long s i) ++ drop (i + 8) s
+pub long-again : ReadThenWritten long longBytes 8
 unfolding long longBytes
 long-again s i h l =
     let a = word s i in
@@ -148,3 +150,6 @@ long-again s i h l =
     word-again s i h (omega arith)
     ∙ ap₂ (λ (u v : List ℕ). u ++ v) (sym (word-low a b)) (word-again s (i + 4) h (omega arith) ∙ ap₂ (λ (x k : ℕ). wordBytes x ++ drop k s) (sym e) j)
     ∙ sym (append-assoc (wordBytes (a + 4294967296 * b)) (wordBytes ((a + 4294967296 * b) / 4294967296)) (drop (i + 8) s))
+
+pub writing-undoes-reading : WritingUndoesReading
+writing-undoes-reading = record { two = half-again; four = word-again; eight = long-again }

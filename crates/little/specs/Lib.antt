@@ -1,1 +1,3 @@
+-- the rules, which a caller cites
 pub mod Little
+pub mod Promises

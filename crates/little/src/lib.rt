@@ -6,11 +6,18 @@ ghost use lib.ListN.{length};
 ghost use lib.Seq.{sets};
 ghost use Rattle.little.specs.Little as little;
 
+// How many values a byte, two bytes and four bytes have.
+const BYTE_VALUES: u32 = 256;
+
+const HALF_VALUES: u32 = BYTE_VALUES * BYTE_VALUES;
+
+const WORD_VALUES: u64 = 4294967296;
+
 // ---- reading
 
 // A byte as a number that fits more.
 pub fn wide(b: u8) -> u32
-    ensures { λ r. ⌜ (r ≡ b) × (r < 256) ⌝ }
+    ensures { λ r. ⌜ (r ≡ b) × (r < little.byteValues) ⌝ }
 {
     b as u32
 }
@@ -18,9 +25,9 @@ pub fn wide(b: u8) -> u32
 // Two bytes.
 pub fn half(s: &[u8], i: usize) -> u32
     requires { ⌜ i + 2 ≤ length (now s) ⌝ }
-    ensures { λ r. ⌜ (r ≡ little.half (now (s .entry)) i) × (r < 65536) ⌝ }
+    ensures { λ r. ⌜ (r ≡ little.half (now (s .entry)) i) × (r < little.halfValues) ⌝ }
 {
-    wide(s[i]) + 256 * wide(s[i + 1])
+    wide(s[i]) + BYTE_VALUES * wide(s[i + 1])
 }
 
 // Four bytes.
@@ -28,7 +35,7 @@ pub fn word(s: &[u8], i: usize) -> u32
     requires { ⌜ i + 4 ≤ length (now s) ⌝ }
     ensures { λ r. ⌜ r ≡ little.word (now (s .entry)) i ⌝ }
 {
-    half(s, i) + 65536 * half(s, i + 2)
+    half(s, i) + HALF_VALUES * half(s, i + 2)
 }
 
 // Eight bytes.
@@ -38,7 +45,7 @@ pub fn long(s: &[u8], i: usize) -> u64
 {
     let low = word(s, i) as u64;
     let high = word(s, i + 4) as u64;
-    low + 4294967296 * high
+    low + WORD_VALUES * high
 }
 
 // ---- writing
@@ -48,8 +55,8 @@ pub fn put_half(out: &mut [u8], at: usize, x: u32)
     requires { ⌜ at + 2 ≤ length (now out) ⌝ }
     ensures { λ _. ⌜ now (out .exit) ≡ sets (now (out .entry)) at (little.halfBytes x) ⌝ }
 {
-    out[at] = (x % 256) as u8;
-    out[at + 1] = (x / 256 % 256) as u8;
+    out[at] = (x % BYTE_VALUES) as u8;
+    out[at + 1] = (x / BYTE_VALUES % BYTE_VALUES) as u8;
 }
 
 // Its four bytes.
@@ -58,7 +65,7 @@ pub fn put_word(out: &mut [u8], at: usize, x: u32)
     ensures { λ _. ⌜ now (out .exit) ≡ sets (now (out .entry)) at (little.wordBytes x) ⌝ }
 {
     put_half(out, at, x);
-    put_half(out, at + 2, x / 65536);
+    put_half(out, at + 2, x / HALF_VALUES);
 }
 
 // The eight bytes of a number that has more.
@@ -66,8 +73,8 @@ pub fn put_long(out: &mut [u8], at: usize, x: u64)
     requires { ⌜ at + 8 ≤ length (now out) ⌝ }
     ensures { λ _. ⌜ now (out .exit) ≡ sets (now (out .entry)) at (little.longBytes x) ⌝ }
 {
-    let low = (x % 4294967296) as u32;
-    let high = (x / 4294967296) as u32;
+    let low = (x % WORD_VALUES) as u32;
+    let high = (x / WORD_VALUES) as u32;
     put_word(out, at, low);
     put_word(out, at + 4, high);
 }

@@ -14,7 +14,7 @@ use Rattle.lists.specs.Lists.{joined}
 use Rattle.lists.proofs.Bools.{by-cases}
 use Rattle.lists.proofs.Parts.{joined-append}
 use Rattle.lists.proofs.Writing.{sets-append}
-use Rattle.mesh.specs.Limits.{width}
+use Rattle.mesh.specs.Limits.{width, cornerNumbers}
 use Rattle.mesh.specs.Mesh.{Corner, missing, cornersIn, cornerAt}
 use Rattle.mesh.proofs.Corners.{length-cornersIn, getD-cornersIn}
 use Rattle.merging.specs.Merging.{unlessMissing}
@@ -40,24 +40,49 @@ pub record Writing (cs p t n out out' : List ℕ) (k : ℕ) : Type 0 where
   pub written : out' ≡ sets out 0 (joined (map (sentCorner p t n) (take k (cornersIn cs))))
   pub long : length out' ≡ length out
 
+-- corner k has its numbers in the list cs, and its places in the list out
+pub record Inside (cs out : List ℕ) (k : ℕ) : Type 0 where
+  pub few : length cs ≤ cornerNumbers
+  pub read : width * k + width ≤ length cs
+  pub write : width * k + width ≤ length out
+
+pub write-inside :
+    (cs p t n out out' : List ℕ) (k : ℕ) → Indexed cs p t n out → k < length cs / width → Writing cs p t n out out' k → Inside cs out' k
+write-inside cs p t n out out' k i h g = record {
+  few = i .few;
+  read = omega (arith, i .even);
+  write = omega (arith, i .even, i .room, g .long);
+}
+
 module _ (cs p t n out : List ℕ) where
   pub write-begins : Writing cs p t n out out 0
   write-begins = record { within = omega arith; written = refl; long = refl }
 
   module _ (out' : List ℕ) (k : ℕ) (h : k < length cs / width) (g : Writing cs p t n out out' k) where
-    f : Corner → Corner
-    f = sentCorner p t n
+    -- the first corners, as they are written
+    abbrev front : ℕ → List ℕ
+    front j = joined (map (sentCorner p t n) (take j (cornersIn cs)))
 
-    one-more : sets (sets out 0 (joined (map (sentCorner p t n) (take k (cornersIn cs))))) (width * k) (sentCorner p t n (cornerAt cs k)) ≡ sets out 0 (joined (map (sentCorner p t n) (take (k + 1) (cornersIn cs))))
+    abbrev corner : Corner
+    corner = sentCorner p t n (cornerAt cs k)
+
+    front-more : front (k + 1) ≡ front k ++ corner
+    front-more =
+        let l : length (cornersIn cs) ≡ length cs / width = length-cornersIn cs in
+        let first = take k (cornersIn cs) in
+        let q : take (k + 1) (cornersIn cs) ≡ first ++ (cornerAt cs k ∷ []) =
+        rw (add-one k, take-suc (cornersIn cs) k [] (omega arith), getD-cornersIn cs k h) in
+        ap (λ (r : List Corner). joined (map (sentCorner p t n) r)) q
+        ∙ ap joined (map-append (sentCorner p t n) first (cornerAt cs k ∷ []))
+        ∙ joined-append (map (sentCorner p t n) first) (corner ∷ [])
+        ∙ ap (λ (x : List ℕ). front k ++ x) (append-nil corner)
+
+    one-more : sets (sets out 0 (front k)) (width * k) corner ≡ sets out 0 (front (k + 1))
     one-more =
         let l : length (cornersIn cs) ≡ length cs / width = length-cornersIn cs in
-        let done = joined (map (sentCorner p t n) (take k (cornersIn cs))) in
-        let new = sentCorner p t n (cornerAt cs k) in
-        let e : width * k ≡ 0 + length done = omega (arith, length-sent p t n (take k (cornersIn cs)), length-take-le k (cornersIn cs) (omega arith)) in
-        let q : take (k + 1) (cornersIn cs) ≡ take k (cornersIn cs) ++ (cornerAt cs k ∷ []) = rw (add-one k, take-suc (cornersIn cs) k [] (omega arith), getD-cornersIn cs k h) in
-        ap (λ (j : ℕ). sets (sets out 0 done) j new) e
-        ∙ sym (sets-append out 0 done new)
-        ∙ ap (sets out 0) (sym (ap (λ (r : List Corner). joined (map (sentCorner p t n) r)) q ∙ ap joined (map-append (sentCorner p t n) (take k (cornersIn cs)) (cornerAt cs k ∷ [])) ∙ joined-append (map (sentCorner p t n) (take k (cornersIn cs))) (new ∷ []) ∙ ap (λ (x : List ℕ). done ++ x) (append-nil new)))
+        let e : width * k ≡ 0 + length (front k) =
+        omega (arith, length-sent p t n (take k (cornersIn cs)), length-take-le k (cornersIn cs) (omega arith)) in
+        ap (λ (j : ℕ). sets (sets out 0 (front k)) j corner) e ∙ sym (sets-append out 0 (front k) corner) ∙ ap (sets out 0) (sym front-more)
 
     pub write-turns :
         (a b c : ℕ)
@@ -71,14 +96,16 @@ module _ (cs p t n out : List ℕ) where
         let e' : width * k + 2 ≡ suc (suc (width * k)) = omega arith in
         let w : set (set (set out' (width * k) a) (width * k + 1) b) (width * k + 2) c ≡ sets out' (width * k) (a ∷ b ∷ c ∷ []) =
         ap (λ (j : ℕ). set (set (set out' (width * k) a) j b) (width * k + 2) c) e ∙ ap (λ (j : ℕ). set (set (set out' (width * k) a) (suc (width * k)) b) j c) e' in
-        let v : (a ∷ b ∷ c ∷ []) ≡ sentCorner p t n (cornerAt cs k) = cc in
+        let v : (a ∷ b ∷ c ∷ []) ≡ corner = cc in
         record {
           within = omega arith;
-          written = w ∙ ap (sets out' (width * k)) v ∙ ap (λ (o : List ℕ). sets o (width * k) (sentCorner p t n (cornerAt cs k))) (g .written) ∙ one-more;
+          written = w ∙ ap (sets out' (width * k)) v ∙ ap (λ (o : List ℕ). sets o (width * k) corner) (g .written) ∙ one-more;
           long = ap length w ∙ length-sets out' (width * k) (a ∷ b ∷ c ∷ []) ∙ g .long;
         }
 
-  pub write-ends : (out' : List ℕ) (k : ℕ) → length cs / width ≤ k → Writing cs p t n out out' k → out' ≡ sets out 0 (joined (map (sentCorner p t n) (cornersIn cs)))
+  pub write-ends :
+      (out' : List ℕ) (k : ℕ) → length cs / width ≤ k → Writing cs p t n out out' k
+      → out' ≡ sets out 0 (joined (map (sentCorner p t n) (cornersIn cs)))
   write-ends out' k h g =
-      g .written
-      ∙ ap (λ (r : List Corner). sets out 0 (joined (map (sentCorner p t n) r))) (take-all k (cornersIn cs) (let l : length (cornersIn cs) ≡ length cs / width = length-cornersIn cs in omega arith))
+      let l : length (cornersIn cs) ≡ length cs / width = length-cornersIn cs in
+      g .written ∙ ap (λ (r : List Corner). sets out 0 (joined (map (sentCorner p t n) r))) (take-all k (cornersIn cs) (omega arith))

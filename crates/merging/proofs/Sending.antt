@@ -53,7 +53,10 @@ module _ (w n : ℕ) (s : List Float) (order : List ℕ) (from to : ℕ) (g : Gr
     own-more j l e =
         by-cases (eqb j here)
         (λ t. ap (λ (x : ℕ). getD (set map' here rep) x 0) (eqb-true j here t) ∙ getD-set-same map' here rep 0 inside)
-        (λ t. getD-set-other map' here j rep 0 (eqb-false j here t) ∙ i .own j l (sym (ap (λ (b : Bool). has j (slice from k order) || (b || false)) t ∙ or-false (has j (slice from k order))) ∙ sym (one-more j) ∙ e))
+        (λ t.
+        let before = has j (slice from k order) in
+        let still : before ≡ true = sym (ap (λ (b : Bool). before || (b || false)) t ∙ or-false before) ∙ sym (one-more j) ∙ e in
+        getD-set-other map' here j rep 0 (eqb-false j here t) ∙ i .own j l still)
 
     others-more : (j : ℕ) → has j (slice from (k + 1) order) ≡ false → getD (set map' here rep) j 0 ≡ getD map j 0
     others-more j e =
@@ -70,7 +73,9 @@ module _ (w n : ℕ) (s : List Float) (order : List ℕ) (from to : ℕ) (g : Gr
       others = others-more;
     }
 
-  pub send-ends : (map' : List ℕ) (k : ℕ) → to ≤ k → rep ≡ representative w s (slice from to order) → rep < n → Sending n order from to rep map map' k → Sent w n s (slice from to order) map map'
+  pub send-ends :
+      (map' : List ℕ) (k : ℕ) → to ≤ k → rep ≡ representative w s (slice from to order) → rep < n → Sending n order from to rep map map' k
+      → Sent w n s (slice from to order) map map'
   send-ends map' k h e l i =
       let f : k ≡ to = omega (arith, i .upto) in
       record {

@@ -13,7 +13,7 @@ use Rattle.lists.specs.Lists.{has, joined}
 use Rattle.lists.proofs.Bools.{by-cases, true-false, or-false-left, or-false-right}
 use Rattle.lists.proofs.Parts.{some-append, joined-snoc}
 use Rattle.nearby.specs.Engine.{startOf, groupAt, laidOut}
-use Rattle.nearby.proofs.Gathering.{laid-more}
+use Rattle.nearby.proofs.Laying.{laid-more}
 use Rattle.merging.specs.Centre.{representative, sentTo}
 use Rattle.merging.specs.Working.{Grouped, InGroups, Sent, Settled}
 

@@ -35,17 +35,19 @@ sent-same f g n i h e =
     (λ t. rw t (e i (h (eqb-false i missing t))))
 
 -- a refusal
-pub refused : (m : Mesh) (t : Float) (out : List ℕ) (n : ℕ) → n ≡ mergeNumber m t (length out) → (n ≡ 0 → ⊥) → PutTogether m t out (record { number = n; positions = 0; textures = 0; normals = 0 }) out
+pub refused :
+    (m : Mesh) (t : Float) (out : List ℕ) (n : ℕ) → n ≡ mergeNumber m t (length out) → (n ≡ 0 → ⊥)
+    → PutTogether m t out out (record { number = n; positions = 0; textures = 0; normals = 0 })
 refused m t out n e h = record {
   number = e;
-  positions = sym (old _ 0);
-  textures = sym (old _ 0);
-  normals = sym (old _ 0);
+  position-pairs = sym (old _ 0);
+  texture-pairs = sym (old _ 0);
+  normal-pairs = sym (old _ 0);
   corners = sym (old _ out);
 }
   where
-    old : {A : Type 0} (x y : A) → after (mergeNumber m t (length out)) x y ≡ y
-    old x y = after-refused (mergeNumber m t (length out)) x y (λ z. h (e ∙ z))
+    old : {A : Type 0} (x y : A) → after n x y ≡ y
+    old x y = after-refused n x y h
 
 module _ (m : Mesh) (t : Float) (out : List ℕ) (earns : mergeNumber m t (length out) ≡ 0) where
   c : Clear m t (length out)
@@ -117,12 +119,12 @@ module _ (m : Mesh) (t : Float) (out : List ℕ) (earns : mergeNumber m t (lengt
         → j ≡ comparedPairs t 2 (m .textures)
         → k ≡ comparedPairs t 3 (m .normals)
         → out' ≡ sets out 0 (joined (map (sentCorner p u n) (cornersIn (m .corners))))
-        → PutTogether m t out (record { number = 0; positions = i; textures = j; normals = k }) out'
+        → PutTogether m t out out' (record { number = 0; positions = i; textures = j; normals = k })
     unfolding positionPairs texturePairs normalPairs mergedCorners
     accepted-call i j k out' ei ej ek eo = record {
       number = sym earns;
-      positions = rw earns ei;
-      textures = rw earns ej;
-      normals = rw earns ek;
-      corners = rw earns (eo ∙ ap (λ (r : List Corner). sets out 0 (joined r)) corners-same);
+      position-pairs = ei;
+      texture-pairs = ej;
+      normal-pairs = ek;
+      corners = eo ∙ ap (λ (r : List Corner). sets out 0 (joined r)) corners-same;
     }

@@ -1,5 +1,7 @@
+-- the rules, which a caller cites
 pub mod Centre
 pub mod Merging
 pub mod Nearest
-pub mod Working
 pub mod Promises
+-- steps of the code, which a caller does not need
+pub mod Working

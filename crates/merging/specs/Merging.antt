@@ -78,10 +78,11 @@ unfoldable pub mergedCorners : Mesh → Float → List ℕ
 unfolding mergedCorner
 mergedCorners m t = joined (map (mergedCorner m t) (cornersIn (m .corners)))
 
--- what the call answers and leaves: every number but 0 comes with no writing, and each count beside it is 0
-pub record PutTogether (m : Mesh) (t : Float) (out : List ℕ) (r : Merged) (out' : List ℕ) : Type 0 where
-  pub number : r .number ≡ mergeNumber m t (length out)
-  pub positions : r .positions ≡ after (mergeNumber m t (length out)) (positionPairs m t) 0
-  pub textures : r .textures ≡ after (mergeNumber m t (length out)) (texturePairs m t) 0
-  pub normals : r .normals ≡ after (mergeNumber m t (length out)) (normalPairs m t) 0
-  pub corners : out' ≡ after (mergeNumber m t (length out)) (sets out 0 (mergedCorners m t)) out
+-- what the call answers, and what the lent list of corners holds before and after it: on 0 the new corners from its beginning on, room
+-- past them unchanged, and how many pairs were compared; on any other number nothing is written, and each count is 0
+pub record PutTogether (m : Mesh) (t : Float) (before afterwards : List ℕ) (answer : Merged) : Type 0 where
+  pub number : answer .number ≡ mergeNumber m t (length before)
+  pub position-pairs : answer .positions ≡ after (answer .number) (positionPairs m t) 0
+  pub texture-pairs : answer .textures ≡ after (answer .number) (texturePairs m t) 0
+  pub normal-pairs : answer .normals ≡ after (answer .number) (normalPairs m t) 0
+  pub corners : afterwards ≡ after (answer .number) (sets before 0 (mergedCorners m t)) before

@@ -44,7 +44,9 @@ pub fn put_together_same_attrs(
     tolerance: f64,
     out: &mut [u32],
 ) -> Merged
-    ensures { λ r. ⌜ PutTogether (meshOf (now (positions .entry)) (now (textures .entry)) (now (normals .entry)) (now (corners .entry)) (now (sizes .entry))) tolerance (now (out .entry)) r (now (out .exit)) ⌝ }
+    ensures { λ r. ⌜ PutTogether
+        (meshOf (now (positions .entry)) (now (textures .entry)) (now (normals .entry)) (now (corners .entry)) (now (sizes .entry)))
+        tolerance (now (out .entry)) (now (out .exit)) r ⌝ }
 {
     let number = number(
         positions,
@@ -78,7 +80,9 @@ fn number(
     tolerance: f64,
     room: usize,
 ) -> u32
-    ensures { λ r. ⌜ r ≡ mergeNumber (meshOf (now (positions .entry)) (now (textures .entry)) (now (normals .entry)) (now (corners .entry)) (now (sizes .entry))) tolerance room ⌝ }
+    ensures { λ r. ⌜ r ≡ mergeNumber
+        (meshOf (now (positions .entry)) (now (textures .entry)) (now (normals .entry)) (now (corners .entry)) (now (sizes .entry)))
+        tolerance room ⌝ }
 {
     let number = mesh::number(positions, textures, normals, corners, sizes);
     if number != 0 {
@@ -160,7 +164,9 @@ fn merge(
     out: &mut [u32],
 ) -> Merged
     requires { ⌜ mergeNumber (meshOf (now positions) (now textures) (now normals) (now corners) (now sizes)) t (length (now out)) ≡ 0 ⌝ }
-    ensures { λ r. ⌜ PutTogether (meshOf (now (positions .entry)) (now (textures .entry)) (now (normals .entry)) (now (corners .entry)) (now (sizes .entry))) t (now (out .entry)) r (now (out .exit)) ⌝ }
+    ensures { λ r. ⌜ PutTogether
+        (meshOf (now (positions .entry)) (now (textures .entry)) (now (normals .entry)) (now (corners .entry)) (now (sizes .entry)))
+        t (now (out .entry)) (now (out .exit)) r ⌝ }
 {
     let mut pmap = [0u32; mesh::ENTRIES];
     let mut tmap = [0u32; mesh::ENTRIES];
@@ -180,7 +186,8 @@ fn merge(
 // Positions are first scaled; with no positions nothing is scaled.
 fn merge_positions(positions: &[f64], t: f64, map: &mut [u32]) -> usize
     requires { ⌜ (Scalable (now positions) t) × (length (now positions) / 3 ≤ length (now map)) ⌝ }
-    ensures { λ r. ⌜ (r ≡ comparedPairs t 3 (scaledList (now (positions .entry)))) × (Settled (length (now (positions .entry)) / 3) (mergedTo t 3 (scaledList (now (positions .entry)))) (now (map .entry)) (now (map .exit))) ⌝ }
+    ensures { λ r. ⌜ (r ≡ comparedPairs t 3 (scaledList (now (positions .entry))))
+        × (Settled (length (now (positions .entry)) / 3) (mergedTo t 3 (scaledList (now (positions .entry)))) (now (map .entry)) (now (map .exit))) ⌝ }
 {
     if positions.len() == 0 {
         return 0;

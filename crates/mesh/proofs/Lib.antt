@@ -4,4 +4,7 @@ pub mod Rows
 pub mod Narrow
 pub mod Numbers
 pub mod Accepted
+pub mod Edges
 pub mod After
+pub mod MeshFronts
+pub mod Walking

@@ -5,7 +5,10 @@ use Prim.Native.Nat.{ℕ, _*_}
 abbrev pub width : ℕ
 width = 3
 
--- the most corners that a face may have
+-- the fewest and the most corners that a face may have
+abbrev pub leastRing : ℕ
+leastRing = 3
+
 abbrev pub ringLimit : ℕ
 ringLimit = 32
 

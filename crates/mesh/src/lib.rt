@@ -21,7 +21,9 @@ pub const MISSING: u32 = 4294967295;
 // How many numbers a corner has: position, texture, normal.
 pub const WIDTH: usize = 3;
 
-// The most corners that a face may have.
+// The fewest and the most corners that a face may have.
+pub const LEAST_RING: usize = 3;
+
 pub const RING: usize = 32;
 
 // The most positions, texture points or normals, the most corners and the most faces of a mesh.

@@ -42,13 +42,22 @@ module _ (w n : ℕ) (cells : List ℕ) (g : Points w n cells) (i j : ℕ) (p : 
   unfolding besideAt
   at-two e =
       subst (λ (k : ℕ). besides (row k cells i) (row k cells j) ≡ (beside (c (k * i)) (c (k * j)) && (beside (c (k * i + 1)) (c (k * j + 1)) && true))) (sym e)
-      (rw (row-two 0 cells i (subst (λ (k : ℕ). k * i + k ≤ length cells) e (spot w n cells g i p)), row-two 0 cells j (subst (λ (k : ℕ). k * j + k ≤ length cells) e (spot w n cells g j q))))
+      (rw (
+        row-two 0 cells i (subst (λ (k : ℕ). k * i + k ≤ length cells) e (spot w n cells g i p)),
+        row-two 0 cells j (subst (λ (k : ℕ). k * j + k ≤ length cells) e (spot w n cells g j q)),
+      ))
 
   at-three : w ≡ 3 → besideAt w cells i j ≡ (first && (second && (third && true)))
   unfolding besideAt
   at-three e =
-      subst (λ (k : ℕ). besides (row k cells i) (row k cells j) ≡ (beside (c (k * i)) (c (k * j)) && (beside (c (k * i + 1)) (c (k * j + 1)) && (beside (c (k * i + 2)) (c (k * j + 2)) && true)))) (sym e)
-      (rw (row-three 0 cells i (subst (λ (k : ℕ). k * i + k ≤ length cells) e (spot w n cells g i p)), row-three 0 cells j (subst (λ (k : ℕ). k * j + k ≤ length cells) e (spot w n cells g j q))))
+      subst
+      (λ (k : ℕ).
+      besides (row k cells i) (row k cells j)
+      ≡ (beside (c (k * i)) (c (k * j)) && (beside (c (k * i + 1)) (c (k * j + 1)) && (beside (c (k * i + 2)) (c (k * j + 2)) && true)))) (sym e)
+      (rw (
+        row-three 0 cells i (subst (λ (k : ℕ). k * i + k ≤ length cells) e (spot w n cells g i p)),
+        row-three 0 cells j (subst (λ (k : ℕ). k * j + k ≤ length cells) e (spot w n cells g j q)),
+      ))
 
   either : (x : Bool) → (w ≡ 2 → besideAt w cells i j ≡ x) → (w ≡ 3 → besideAt w cells i j ≡ x) → x ≡ besideAt w cells i j
   either x f h =

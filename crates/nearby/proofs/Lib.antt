@@ -3,10 +3,16 @@ pub mod Beside
 pub mod Counting
 pub mod Fresh
 pub mod Flags
+pub mod Turns
 pub mod Frames
+pub mod TopFrame
+pub mod FirstFrame
+pub mod Depth
 pub mod Walking
 pub mod Laws
+pub mod Laying
 pub mod Gathering
+pub mod NewGroup
 pub mod Both
 pub mod Reaching
 pub mod Connected

@@ -19,7 +19,7 @@ use Rattle.lists.proofs.Members.{In, in-cases, in-left, in-right, in-append, in
 use Rattle.nearby.specs.Walk.{descending, Walk, at, walk, often, groupFrom}
 use Rattle.nearby.specs.Promises.{Near}
 use Rattle.nearby.proofs.Counting.{count-le}
-use Rattle.nearby.proofs.Frames.{turn-old, turn-new, walk-ends}
+use Rattle.nearby.proofs.Turns.{turn-old, turn-new, walk-ends}
 use Rattle.lists.proofs.Chains.{Reach, here, reach-trans, reach-one}
 use Rattle.lists.proofs.Classes.{Ended}
 

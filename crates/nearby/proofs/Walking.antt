@@ -5,9 +5,22 @@ use mathlib.Core.List.{List}
 use Prim.Native.Nat.{ℕ, _+_, _-_, _≤_, _<_}
 use native.Mathlib.Omega.{arith}
 use lib.ListN.{length, getD, set, length-set}
+use Rattle.mesh.specs.Limits.{entryLimit}
 use Rattle.nearby.specs.Engine.{fresh, Next}
 use Rattle.nearby.proofs.Fresh.{fresh-near, fresh-new, fresh-not}
-use Rattle.nearby.proofs.Frames.{Good, work, frame-goes, frame-goes-less, next-small, room-left, depth-under, frame-comes, frame-comes-less}
+use Rattle.nearby.proofs.Frames.{Good, work}
+use Rattle.nearby.proofs.Depth.{frame-goes, frame-goes-less, next-small, room-left, depth-under, frame-comes, frame-comes-less}
+
+-- what is in range where a frame comes: the new point, its place in the order and its frame; and the room of the lists
+pub record Inside (n taken depth next : ℕ) (order : List ℕ) (seen : List Bool) (node left : List ℕ) : Type 0 where
+  pub point : next - 1 < n
+  pub place : taken < n
+  pub frame : depth < n
+  pub few : n ≤ entryLimit
+  pub order-room : n ≤ length order
+  pub seen-room : n ≤ length seen
+  pub node-room : n ≤ length node
+  pub left-room : n ≤ length left
 
 module _
     {r : ℕ → ℕ → Bool} {n : ℕ} {before : List ℕ} {start : ℕ} {order : List ℕ} {seen : List Bool} {node left : List ℕ} {taken depth next : ℕ}
@@ -35,16 +48,21 @@ module _
     new : getD seen (next - 1) false ≡ false
     new = fresh-new r seen i (next - 1) here
 
-    pub next-in : next - 1 < n
-    next-in = next-small g some (fresh r seen i) next q old found close new
+    pub comes-inside : n ≤ entryLimit → Inside n taken depth next order seen node left
+    comes-inside few = record {
+      point = next-small g some (fresh r seen i) next q old found close new;
+      place = room-left g some (fresh r seen i) next q old found close new;
+      frame = depth-under g some (fresh r seen i) next q old found close new;
+      few = few;
+      order-room = g .held .order-room;
+      seen-room = g .held .seen-room;
+      node-room = g .node-room;
+      left-room = g .left-room;
+    }
 
-    pub taken-in : taken < n
-    taken-in = room-left g some (fresh r seen i) next q old found close new
-
-    pub deeper-in : depth < n
-    deeper-in = depth-under g some (fresh r seen i) next q old found close new
-
-    pub comes : Good r n before start (set order taken (next - 1)) (set seen (next - 1) true) (set node depth (next - 1)) (set (set left (depth - 1) (next - 1)) depth n) (taken + 1) (depth + 1)
+    pub comes :
+        Good r n before start (set order taken (next - 1)) (set seen (next - 1) true) (set node depth (next - 1))
+        (set (set left (depth - 1) (next - 1)) depth n) (taken + 1) (depth + 1)
     comes = frame-comes g some (fresh r seen i) next q old found close new
 
     pub comes-less : work n (set (set left (depth - 1) (next - 1)) depth n) (taken + 1) (depth + 1) < work n left taken depth

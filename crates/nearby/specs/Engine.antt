@@ -3,7 +3,7 @@
 use mathlib.Core.Bool.{Bool, true, false, not, _&&_}
 use mathlib.Core.List.{List, [], _∷_, map, _++_}
 use mathlib.Core.Path.{_≡_}
-use Prim.Native.Nat.{ℕ, zero, suc, _*_, _-_, _≤_, _<_, _^_}
+use Prim.Native.Nat.{ℕ, zero, suc, _*_, _-_, _≤_, _<_}
 use lib.ListN.{length, getD, take}
 use lib.Seq.{slice}
 use lib.Ieee.{Float}
@@ -11,7 +11,7 @@ use Rattle.lists.specs.Lists.{has, joined}
 use Rattle.lists.specs.Numbers.{countBelow}
 use Rattle.mesh.specs.Limits.{entryLimit}
 use Rattle.floating.specs.Points.{row}
-use Rattle.floating.specs.Cells.{cell, place, besides}
+use Rattle.floating.specs.Cells.{cell, place, placeMost, besides}
 use Rattle.floating.specs.Near.{below}
 use Rattle.nearby.specs.Walk.{groupFrom, groups}
 
@@ -29,7 +29,7 @@ nearBy t w s cells i j = besideAt w cells i j && below t (row w s i) (row w s j)
 
 -- cells so small that two more do not leave their range
 pub record Small (cells : List ℕ) : Type 0 where
-  pub each : (k : ℕ) → k < length cells → getD cells k 0 ≤ 2 ^ 54
+  pub each : (k : ℕ) → k < length cells → getD cells k 0 ≤ placeMost
 
 -- n points of width w, with their cells
 pub record Points (w n : ℕ) (cells : List ℕ) : Type 0 where

@@ -17,6 +17,9 @@ ghost use Rattle.floating.specs.Cells.{beside};
 ghost use Rattle.nearby.specs.Pairs.{pairs};
 ghost use Rattle.nearby.specs.Engine.{cellsOf, besideAt, nearBy, fresh, Small, Points, Listed, Next, Starts, Walked, Roomy, Components};
 
+// Points are compared whose cells differ by at most this, on every axis.
+const REACH: u64 = 2;
+
 // ---- cells
 
 // The cells of all coordinates of `s` go to `cells`, each as its place among the numbers from 0.
@@ -38,8 +41,8 @@ fn is_beside(cells: &[u64], a: usize, b: usize) -> bool
 {
     let x = cells[a];
     let y = cells[b];
-    if x <= y + 2 {
-        return y <= x + 2;
+    if x <= y + REACH {
+        return y <= x + REACH;
     }
     false
 }

@@ -15,7 +15,7 @@ use Rattle.mesh.specs.Limits.{width}
 use Rattle.mesh.specs.Mesh.{Corner, Ring, position, cornersIn, cornerAt}
 use Rattle.mesh.proofs.Corners.{isCorner, cornersIn-step, length-cornersIn, getD-cornersIn}
 use Rattle.grouping.specs.Push.{Placed}
-use Rattle.folding.proofs.Placing.{placed-ring}
+use Rattle.grouping.proofs.Placing.{placed-ring}
 
 -- three corners, four corners
 pub cornersIn-3 : (cs : List ℕ) → length cs ≡ width * 3 → cornersIn cs ≡ cornerAt cs 0 ∷ cornerAt cs 1 ∷ cornerAt cs 2 ∷ []
@@ -89,22 +89,3 @@ pub triangle-placed : (t : Ring) (o o1 o2 o3 l : List ℕ) (c f : ℕ) → lengt
     → o2 ≡ sets o1 (width * c + width) (getD t 1 []) → o3 ≡ sets o2 (width * c + width * 2) (getD t 2 []) → Placed (t ∷ []) o o3 l (set l f 3) c f (c + 3) (f + 1)
 triangle-placed t o o1 o2 o3 l c f h w x y z =
     rw h at (placed-ring t o o3 l c f (triangle-written t o o1 o2 o3 (width * c) h w x y z))
-
-quadrangle-written : (t : Ring) (o o1 o2 o3 o4 : List ℕ) (b : ℕ) → length t ≡ 4 → every isCorner t ≡ true → o1 ≡ sets o b (getD t 0 [])
-    → o2 ≡ sets o1 (b + width) (getD t 1 []) → o3 ≡ sets o2 (b + width * 2) (getD t 2 []) → o4 ≡ sets o3 (b + width * 3) (getD t 3 []) → o4 ≡ sets o b (joined t)
-quadrangle-written [] o o1 o2 o3 o4 b h w e f g j = absurd (let z : _≡_ {A = ℕ} 0 4 = h in omega arith)
-quadrangle-written (x ∷ t) o o1 o2 o3 o4 b h w e f g j =
-    let i : b + width + width ≡ b + width * 2 = omega arith in
-    let k : b + width + width * 2 ≡ b + width * 3 = omega arith in
-    let v = and-right (isCorner x) (every isCorner t) w in
-    let l : length t ≡ 3 = let z : suc (length t) ≡ 4 = h in omega arith in
-    let g' = g ∙ ap (λ (n : ℕ). sets o2 n (getD t 1 [])) (sym i) in
-    let j' = j ∙ ap (λ (n : ℕ). sets o3 n (getD t 2 [])) (sym k) in
-    sym (corner-then x t o o1 b (and-left (isCorner x) (every isCorner t) w) e
-    ∙ sym (triangle-written t o1 o2 o3 o4 (b + width) l v f g' j'))
-
-pub quadrangle-placed : (t : Ring) (o o1 o2 o3 o4 l : List ℕ) (c f : ℕ) → length t ≡ 4 → every isCorner t ≡ true → o1 ≡ sets o (width * c) (getD t 0 [])
-    → o2 ≡ sets o1 (width * c + width) (getD t 1 []) → o3 ≡ sets o2 (width * c + width * 2) (getD t 2 []) → o4 ≡ sets o3 (width * c + width * 3) (getD t 3 [])
-    → Placed (t ∷ []) o o4 l (set l f 4) c f (c + 4) (f + 1)
-quadrangle-placed t o o1 o2 o3 o4 l c f h w x y z u =
-    rw h at (placed-ring t o o4 l c f (quadrangle-written t o o1 o2 o3 o4 (width * c) h w x y z u))

@@ -12,7 +12,7 @@ use Rattle.mesh.specs.Limits.{width}
 use Rattle.mesh.specs.Mesh.{Ring, position, cornersIn}
 use Rattle.mesh.proofs.Corners.{length-cornersIn}
 use Rattle.grouping.specs.Push.{Placed, Room}
-use Rattle.grouping.proofs.Placing.{placed-none}
+use Rattle.grouping.proofs.Placing.{placed-none, placed-as}
 use Rattle.splitting.specs.Splitting.{firstMated, firstBy}
 use Rattle.splitting.proofs.Search.{folded-found, folded-missing}
 use Rattle.splitting.proofs.Pieces.{pieces-stay}
@@ -20,10 +20,6 @@ use Rattle.folding.specs.Folding.{folded, trianglePieces, foldOf, left, quadran
 use Rattle.folding.specs.declared.Fold.{Fold}
 use Rattle.folding.proofs.Pieces.{triangle-goes, triangle-stays, changes, quadrangle-left, quadrangle-tells, pieces-triangle, pieces-quadrangle, pieces-ring}
 use Rattle.oneface.specs.Working.{Corners, Face}
-
--- other words for the faces that are written
-pub placed-as : {ps qs : List Ring} {o o' l l' : List ℕ} {c f c' f' : ℕ} → qs ≡ ps → Placed ps o o' l l' c f c' f' → Placed qs o o' l l' c f c' f'
-placed-as e h = rw e h
 
 module _ (face : List ℕ) (n : ℕ) (out lens : List ℕ) (c f : ℕ) (h : Face face n out lens c f) where
   pub corners : length (cornersIn face) ≡ n
@@ -59,10 +55,10 @@ module _ (face : List ℕ) (tri : Ring) (b : Bool) where
   pub triangle-none : (o l : List ℕ) (c f : ℕ) → tri ≡ cornersIn face → b ≡ folded tri → b ≡ true → Placed (trianglePieces (cornersIn face)) o o l l c f c f
   triangle-none o l c f e h t = placed-as (ap trianglePieces (sym e) ∙ triangle-goes tri (sym h ∙ t)) (placed-none o l c f)
 
-  pub triangle-put :
-      {o o' l l' : List ℕ} {c f c' f' : ℕ} → tri ≡ cornersIn face → b ≡ folded tri → b ≡ false → Placed (tri ∷ []) o o' l l' c f c' f'
+  pub triangle-kept :
+      {o o' l l' : List ℕ} {c f c' f' : ℕ} → tri ≡ cornersIn face → b ≡ folded tri → b ≡ false → Placed (cornersIn face ∷ []) o o' l l' c f c' f'
       → Placed (trianglePieces (cornersIn face)) o o' l l' c f c' f'
-  triangle-put e h t p = placed-as (ap trianglePieces (sym e) ∙ triangle-stays tri (sym h ∙ t)) p
+  triangle-kept e h t p = placed-as (triangle-stays (cornersIn face) (ap folded (sym e) ∙ sym h ∙ t)) p
 
 -- a quadrangle by the answer on it
 pub quad-tells :

@@ -14,12 +14,10 @@ use grouping::Filled;
 use mesh::RING;
 use mesh::WIDTH;
 
-// Where the second, third and fourth corner of a face begin.
+// Where the second and third corner of a triangle begin.
 const SECOND: usize = WIDTH;
 
 const THIRD: usize = 2 * WIDTH;
-
-const FOURTH: usize = 3 * WIDTH;
 
 // Whether a face of n corners is folded.
 pub fn is_folded(face: &[u32], n: usize) -> bool
@@ -124,7 +122,7 @@ fn row_of(face: &[u32], n: usize) -> [[u32; WIDTH]; RING]
     row
 }
 
-// A triangle, behind what is written.
+// The triangle that is left of a quadrangle, behind what is written.
 fn put_triangle(tri: [[u32; WIDTH]; 3], out: &mut [u32], lens: &mut [u32], at: Filled) -> Filled
     requires { ⌜ (width * (at .corners + 3) ≤ length (now out)) × (at .faces < length (now lens)) ⌝ }
     ensures { λ r. ⌜ Placed (tri ∷ [])
@@ -143,27 +141,7 @@ fn put_triangle(tri: [[u32; WIDTH]; 3], out: &mut [u32], lens: &mut [u32], at: F
     }
 }
 
-// A quadrangle, behind what is written.
-fn put_quadrangle(quad: [[u32; WIDTH]; 4], out: &mut [u32], lens: &mut [u32], at: Filled) -> Filled
-    requires { ⌜ (width * (at .corners + 4) ≤ length (now out)) × (at .faces < length (now lens)) ⌝ }
-    ensures { λ r. ⌜ Placed (quad ∷ [])
-        (now (out .entry)) (now (out .exit)) (now (lens .entry)) (now (lens .exit))
-        (at .corners) (at .faces) (r .corners) (r .faces) ⌝ }
-{
-    let c = at.corners;
-    let f = at.faces;
-    folding::put_corner(quad[0], out, WIDTH * c);
-    folding::put_corner(quad[1], out, WIDTH * c + SECOND);
-    folding::put_corner(quad[2], out, WIDTH * c + THIRD);
-    folding::put_corner(quad[3], out, WIDTH * c + FOURTH);
-    lens[f] = 4;
-    Filled {
-        corners: c + 4,
-        faces: f + 1,
-    }
-}
-
-// A triangle, if it is not folded.
+// A triangle, as it stands if it is not folded.
 fn triangle_pieces(face: &[u32], out: &mut [u32], lens: &mut [u32], at: Filled) -> Filled
     requires { ⌜ Face (now face) 3 (now out) (now lens) (at .corners) (at .faces) ⌝ }
     ensures { λ r. ⌜ Placed (trianglePieces (cornersIn (now (face .entry))))
@@ -174,7 +152,7 @@ fn triangle_pieces(face: &[u32], out: &mut [u32], lens: &mut [u32], at: Filled) 
     if folding::degenerate_triangle(tri) {
         return at;
     }
-    put_triangle(tri, out, lens, at)
+    grouping::put_face(face, out, lens, at)
 }
 
 // What is left of a quadrangle.
@@ -189,7 +167,7 @@ fn quadrangle_pieces(face: &[u32], out: &mut [u32], lens: &mut [u32], at: Filled
         Fold::Goes => at,
         Fold::WithoutQ1 => put_triangle(folding::without_q1(quad), out, lens, at),
         Fold::WithoutQ3 => put_triangle(folding::without_q3(quad), out, lens, at),
-        Fold::Stays => put_quadrangle(quad, out, lens, at),
+        Fold::Stays => grouping::put_face(face, out, lens, at),
     }
 }
 

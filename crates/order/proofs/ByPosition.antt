@@ -6,11 +6,12 @@ use mathlib.Core.List.{List, [], _∷_, _++_, map}
 use Prim.Native.Nat.{ℕ, suc, _<_}
 use native.Mathlib.Omega.{arith}
 use lib.ListN.{length, getD, length-map, List·getD-map}
+use Rattle.lists.specs.Lists.{together}
 use Rattle.mesh.specs.Mesh.{Corner, Ring, position}
 use Rattle.edges.specs.Edges.{runEdges}
 use Rattle.keys.specs.Keys.{Key, keyOf, Use, faceKeys, usesFrom}
 use Rattle.searching.specs.Search.{panelsFrom}
-use Rattle.panels.specs.Panels.{joinsFrom, panels, together}
+use Rattle.panels.specs.Panels.{joinsFrom, panels}
 use Rattle.order.specs.Same.{Turned, Matching}
 use Rattle.order.specs.Demand.{byPosition}
 use Rattle.order.specs.Pairs.{bare}

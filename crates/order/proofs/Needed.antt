@@ -8,7 +8,7 @@ use mathlib.Core.List.{[]}
 use Prim.Native.Nat.{ℕ, _<_}
 use native.Mathlib.Omega.{arith}
 use lib.ListN.{length, getD}
-use Rattle.lists.specs.Lists.{some}
+use Rattle.lists.specs.Lists.{some, together}
 use Rattle.lists.proofs.Counting.{clash}
 use Rattle.mesh.specs.Mesh.{Mesh, faces}
 use Rattle.mesh.specs.Table.{overLimits, uneven, misfit, ungrouped, astray, shapeNumber, meshNumber}
@@ -16,7 +16,7 @@ use Rattle.edges.specs.Edges.{edgesOf, same, key, Irregular, verdict, hems}
 use Rattle.house.specs.House.{walk, wiresIn, houseWires}
 use Rattle.keys.specs.Keys.{keyOf}
 use Rattle.searching.specs.Search.{searchFrom, panelsFrom}
-use Rattle.panels.specs.Panels.{panels, together}
+use Rattle.panels.specs.Panels.{panels}
 use Rattle.order.specs.Same.{Turned, Same, face, swap}
 use Rattle.order.specs.Demand.{byPosition}
 use Rattle.order.specs.Pairs.{thriceUsed, exchanged, empties, smooth, creased}

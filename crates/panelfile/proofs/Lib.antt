@@ -1,5 +1,6 @@
-pub mod Taking
-pub mod Stepping
 pub mod Sane
 pub mod Looping
+pub mod Fronts
 pub mod Ending
+pub mod Handing
+pub mod Calling

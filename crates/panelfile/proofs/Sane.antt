@@ -19,9 +19,9 @@ use Rattle.grouping.proofs.Accepting.{sized, Orderly}
 use Rattle.floating.specs.Points.{coordinates}
 use Rattle.records.specs.declared.Record.{Record}
 use Rattle.records.specs.declared.Record.the-variants.{Position, Texture, Normal, Face, End, Refused}
-use Rattle.records.specs.Records.{recordFrom}
+use Rattle.records.specs.Lengths.{cornerLength, pointRecord, texelRecord}
+use Rattle.records.specs.Records.{recordFrom, ringFrom}
 use Rattle.panelfile.specs.Reading.{Drawn, Reader, reader, nothing, limited, takeRecord, going, readFrom, readAll, withPosition, withTexture, withNormal, withFace}
-use Rattle.records.specs.Records.{ringFrom}
 use Rattle.records.proofs.Ringing.{ring-length, ring-corners}
 use Rattle.records.proofs.Fitting.{Fitted, record-fits}
 
@@ -47,7 +47,7 @@ take-sane : (s : List ℕ) (z : Reader) (r : Record) → Fitted (length s) (z .a
 unfolding takeRecord
 take-sane s z (Position p) f h =
     let d = z .drawn in
-    limited-sane (length s) (ltb pointNumbers (length (d .positions) + 3)) z (reader (z .at + 28) 0 false (withPosition (coordinates p) d)) h
+    limited-sane (length s) (ltb pointNumbers (length (d .positions) + 3)) z (reader (z .at + pointRecord) 0 false (withPosition (coordinates p) d)) h
     (λ e. record {
       place = f .fits;
       drawn = record {
@@ -64,7 +64,7 @@ take-sane s z (Position p) f h =
     })
 take-sane s z (Texture t) f h =
     let d = z .drawn in
-    limited-sane (length s) (ltb texelNumbers (length (d .textures) + 2)) z (reader (z .at + 20) 0 false (withTexture (t .u ∷ t .v ∷ []) d)) h
+    limited-sane (length s) (ltb texelNumbers (length (d .textures) + 2)) z (reader (z .at + texelRecord) 0 false (withTexture (t .u ∷ t .v ∷ []) d)) h
     (λ e. record {
       place = f .fits;
       drawn = record {
@@ -81,7 +81,7 @@ take-sane s z (Texture t) f h =
     })
 take-sane s z (Normal p) f h =
     let d = z .drawn in
-    limited-sane (length s) (ltb pointNumbers (length (d .normals) + 3)) z (reader (z .at + 28) 0 false (withNormal (coordinates p) d)) h
+    limited-sane (length s) (ltb pointNumbers (length (d .normals) + 3)) z (reader (z .at + pointRecord) 0 false (withNormal (coordinates p) d)) h
     (λ e. record {
       place = f .fits;
       drawn = record {
@@ -103,7 +103,7 @@ take-sane s z (Face a n) f h =
     let d = z .drawn in
     let ring = ringFrom s n a in
     rw e
-    (limited-sane (length s) (ltb cornerLimit (cornerCount (d .faces) + n)) z (reader (a + 12 * n) 0 false (withFace ring d)) h
+    (limited-sane (length s) (ltb cornerLimit (cornerCount (d .faces) + n)) z (reader (a + cornerLength * n) 0 false (withFace ring d)) h
     (λ g. record {
       place = f .fits;
       drawn = record {

@@ -1,4 +1,6 @@
+-- the rules, which a caller cites
 pub mod Reading
-pub mod Working
 pub mod Answer
 pub mod Promises
+-- steps of the code, which a caller does not need
+pub mod Working

@@ -1,15 +1,15 @@
 // The reading of a whole file into lists of the reader's own, and what is done with them once the end record is met.
 ghost use mathlib.Core.Path.{_≡_};
 ghost use mathlib.Core.Bool.{not, _&&_};
-ghost use lib.ListN.{length};
 ghost use lib.Dec.{eqb};
 ghost use Rattle.mesh.specs.Mesh.{meshOf};
 ghost use Rattle.mesh.specs.Table.{short};
 ghost use Rattle.panelfile.specs.Reading.{readAll, finish, fullRoom, panelMesh};
-ghost use Rattle.panelfile.specs.Working.{Within, Long, Holds, Full, Drawing};
+ghost use Rattle.steps.specs.Working.{Long};
+ghost use Rattle.panelfile.specs.Working.{Full, Drawing};
 ghost use Rattle.panelfile.specs.Answer.{refusedWith, Handed};
 use crate::MeshRead;
-use crate::Progress;
+use steps::Progress;
 
 // Record by record, until a refusal or the end record.
 pub fn read_records(
@@ -20,8 +20,9 @@ pub fn read_records(
     corners: &mut [u32],
     sizes: &mut [u32],
 ) -> Progress
-    requires { ⌜ Long (now positions) (now textures) (now normals) (now corners) (now sizes) ⌝ }
-    ensures { λ x. ⌜ Within (length (now (file .entry))) x × Holds (readAll (now (file .entry))) x (now (positions .exit)) (now (textures .exit)) (now (normals .exit)) (now (corners .exit)) (now (sizes .exit)) ⌝ }
+    requires { ⌜ Long (meshOf (now positions) (now textures) (now normals) (now corners) (now sizes)) ⌝ }
+    ensures { λ x. ⌜ Drawing (now (file .entry)) x
+        (meshOf (now (positions .exit)) (now (textures .exit)) (now (normals .exit)) (now (corners .exit)) (now (sizes .exit))) ⌝ }
 {
     let mut x = Progress {
         at: 0,
@@ -35,7 +36,7 @@ pub fn read_records(
     };
     let mut go = true;
     while go {
-        x = crate::steps::step(file, positions, textures, normals, corners, sizes, x);
+        x = steps::step(file, positions, textures, normals, corners, sizes, x);
         go = goes_on(x);
     }
     x
@@ -94,7 +95,7 @@ pub fn number_at_end(
     c: &[u32],
     s: &[u32],
 ) -> u32
-    requires { ⌜ Drawing (now file) x (now p) (now t) (now n) (now c) (now s) ⌝ }
+    requires { ⌜ Drawing (now file) x (meshOf (now p) (now t) (now n) (now c) (now s)) ⌝ }
     ensures { λ r. ⌜ r ≡ finish (now (file .entry)) (readAll (now (file .entry))) ⌝ }
 {
     let number = x.number;
@@ -131,7 +132,8 @@ pub fn hand_over(
     corners: &mut [u32],
     sizes: &mut [u32],
 ) -> MeshRead
-    requires { ⌜ Drawing (now file) x (now p) (now t) (now n) (now c) (now s) × Full (now positions) (now textures) (now normals) (now corners) (now sizes) ⌝ }
+    requires { ⌜ Drawing (now file) x (meshOf (now p) (now t) (now n) (now c) (now s))
+        × Full (now positions) (now textures) (now normals) (now corners) (now sizes) ⌝ }
     ensures { λ r. ⌜ Handed (panelMesh (now (file .entry)))
         (meshOf (now (positions .entry)) (now (textures .entry)) (now (normals .entry)) (now (corners .entry)) (now (sizes .entry)))
         (meshOf (now (positions .exit)) (now (textures .exit)) (now (normals .exit)) (now (corners .exit)) (now (sizes .exit)))

@@ -1,27 +1,22 @@
 -- What is known of the panels of a mesh: two faces stand in one panel exactly where a chain of faces, each sharing an edge key
 -- with the next, leads from the one to the other; and each face stands in exactly one panel, once. Assumes nothing.
-use mathlib.Core.Path.{_≡_, refl, sym, ap, _∙_}
-use mathlib.Core.Bool.{Bool, true, _&&_, _||_}
-use mathlib.Core.List.{List, [], _∷_}
+use mathlib.Core.Path.{_≡_}
+use mathlib.Core.Bool.{Bool, true}
+use mathlib.Core.List.{List, []}
 use Prim.Native.Nat.{ℕ, _≤_, _<_}
 use native.Mathlib.Omega.{arith}
 use lib.Dec.{eqb}
 use lib.ListN.{length}
-use Rattle.lists.specs.Lists.{has, joined, count}
+use Rattle.lists.specs.Lists.{joined, count}
 use Rattle.lists.proofs.Chains.{Reach, reach-one, reach-bind}
-use Rattle.lists.proofs.Classes.{together as inOne, Parted, together-reach, reach-together}
+use Rattle.lists.proofs.Classes.{Parted, together-reach, reach-together}
 use Rattle.lists.proofs.Members.{In, once-in, once-length}
 use Rattle.mesh.specs.Mesh.{Ring}
-use Rattle.panels.specs.Panels.{joins, panels, together}
+use Rattle.panels.specs.Panels.{joins, panels}
 use Rattle.panels.specs.Promises.{EachFaceOnce, OnlyByChains, WhereverChains}
 use Rattle.searching.proofs.Parting.{parted, panels-few}
 use Rattle.searching.proofs.Looking.{Beside}
 use Rattle.panels.proofs.Sharing.{beside-share, share-beside, beside-below}
-
--- to stand in one panel, as the rule says it and as it is said of any lists
-one-panel : (a b : ℕ) (ps : List (List ℕ)) → together a b ps ≡ inOne a b ps
-one-panel a b [] = refl
-one-panel a b (p ∷ ps) = ap (λ (t : Bool). (has a p && has b p) || t) (one-panel a b ps)
 
 module _ (normals : Bool) (fs : List Ring) where
   panels-parted : Parted (Beside (joins normals fs)) (length fs) (length fs) (panels normals fs)
@@ -32,12 +27,11 @@ module _ (normals : Bool) (fs : List Ring) where
   together-share a b t =
       reach-bind
       (λ x y h. reach-one (beside-share normals fs x y h))
-      (together-reach (Beside (joins normals fs)) (panels normals fs) (panels-parted .classes) a b (sym (one-panel a b (panels normals fs)) ∙ t))
+      (together-reach (Beside (joins normals fs)) (panels normals fs) (panels-parted .classes) a b t)
 
   pub share-together : WhereverChains normals fs
   share-together a b l t =
-      one-panel a b (panels normals fs)
-      ∙ reach-together
+      reach-together
       (Beside (joins normals fs))
       (panels normals fs)
       (panels-parted .classes)

@@ -11,9 +11,11 @@ use lib.Seq.{sets, length-take-le}
 use borrow.Author.Tests.{ltb-true}
 use Rattle.lists.specs.Lists.{joined, sum}
 use Rattle.lists.proofs.Parts.{every-at}
-use Rattle.lists.proofs.Copies.{take-written}
+use Rattle.lists.specs.Putting.{Front}
+use Rattle.lists.proofs.Fronts.{front}
 use Rattle.mesh.specs.Limits.{width, cornerLimit}
 use Rattle.mesh.specs.Mesh.{Mesh, Ring, rings, faces}
+use Rattle.mesh.specs.Listed.{listedOf}
 use Rattle.mesh.specs.Table.{meshNumber}
 use Rattle.mesh.proofs.Faces.{length-rings}
 use Rattle.mesh.proofs.Accepted.{Accepted}
@@ -27,11 +29,11 @@ use Rattle.searching.specs.Walk.{panelsBelow, Parted}
 use Rattle.searching.specs.Rows.{Divisible}
 use Rattle.searching.proofs.Nearby.{joins-back}
 use Rattle.panels.specs.Panels.{joins, panels}
-use Rattle.panels.specs.Contract.{Answered}
+use Rattle.panels.specs.Contract.{PanelsAnswer}
 use Rattle.panels.specs.Joins.{Wrote}
 use Rattle.panels.specs.Rows.{PanelRoom, JoinRoom}
 use Rattle.panels.proofs.Joinable.{joins-below, uses-below, joins-few}
-use Rattle.panels.proofs.Refusing.{number-0, long-enough}
+use Rattle.panels.proofs.Refusing.{number-0}
 
 -- ---- the row of joins, and its panels
 
@@ -73,7 +75,9 @@ module _ (normals : Bool) (cs s flat lengths : List ℕ) (k : PanelRoom cs s fla
     row-counts g = sym (length-take-le n row′ (row-inside g))
 
     row-is : take n row′ ≡ flatRow
-    row-is = ap (take n) (w .written) ∙ take-written row flatRow n (omega (arith, w .behind)) (omega (arith, w .behind, row-few))
+    row-is =
+        let f : Front row′ flatRow n = front row (w .written) (omega (arith, w .behind)) (omega (arith, w .behind, row-few)) in
+        f .is
 
     pub row-divides : Divisible (take n row′) (length s) flat lengths
     row-divides =
@@ -121,14 +125,14 @@ module _ (m : Mesh) (a : Accepted m) (flat lengths : List ℕ) (g : length (m .c
       record { keyable = keyable m a; faces-room = omega arith; panels-room = omega arith }
 
   pub answered :
-      (normals : Bool) (number f p : ℕ) (flat′ lengths′ : List ℕ) → number ≡ meshNumber m → number ≡ 0
+      (normals : Bool) (k f p : ℕ) (flat′ lengths′ : List ℕ) → k ≡ meshNumber m → k ≡ 0
       → Parted (panels normals (rings (m .sizes) (m .corners))) flat lengths flat′ lengths′ f p
-      → Answered m normals flat lengths 0 f p flat′ lengths′
+      → PanelsAnswer m normals (listedOf flat lengths) (listedOf flat′ lengths′) (record { number = 0; faces = f; panels = p })
   unfolding faces
-  answered normals number f p flat′ lengths′ e z r = record {
-    number = number-0 m normals flat lengths (sym e ∙ z) (long-enough m normals flat lengths g l);
-    faces = r .faces-are;
-    panels = r .count-is;
+  answered normals k f p flat′ lengths′ e z r = record {
+    number = number-0 m normals flat lengths (sym e ∙ z) g l;
+    face-count = r .faces-are;
+    panel-count = r .count-is;
     flat = r .flat-is;
     lengths = r .lengths-are;
   }

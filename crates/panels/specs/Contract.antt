@@ -8,8 +8,10 @@ use lib.Seq.{sets}
 use Rattle.lists.specs.Lists.{joined}
 use Rattle.mesh.specs.Limits.{width}
 use Rattle.mesh.specs.Mesh.{Mesh, faces}
+use Rattle.mesh.specs.Listed.{Listed}
 use Rattle.mesh.specs.Table.{firstOf, when, lent, short, meshNumber, after}
 use Rattle.panels.specs.Panels.{panels}
+use Rattle.panels.specs.declared.Answer.{Answer}
 
 -- numbers 0 to 5, and 9: there is room in each list for one number per corner
 unfoldable pub componentsNumber : Mesh → ℕ → ℕ → ℕ
@@ -20,11 +22,16 @@ componentsNumber m flat lengths =
 abbrev pub panelsOf : Bool → Mesh → List (List ℕ)
 panelsOf normals m = panels normals (faces m)
 
--- a flat list of faces and a list of lengths, one for each panel; beside a number that is not 0 the counts are 0 and nothing is
--- written; past the result the room is unchanged
-pub record Answered (m : Mesh) (normals : Bool) (flat₀ lengths₀ : List ℕ) (n f p : ℕ) (flat₁ lengths₁ : List ℕ) : Type 0 where
-  pub number : n ≡ componentsNumber m (length flat₀) (length lengths₀)
-  pub faces : f ≡ after n (length (joined (panelsOf normals m))) 0
-  pub panels : p ≡ after n (length (panelsOf normals m)) 0
-  pub flat : flat₁ ≡ after n (sets flat₀ 0 (joined (panelsOf normals m))) flat₀
-  pub lengths : lengths₁ ≡ after n (sets lengths₀ 0 (map length (panelsOf normals m))) lengths₀
+-- the call: a mesh and the normals setting are given. What it answers, and what the two lent lists hold before and after it: on 0 the
+-- faces of all panels and how many each has from their beginning on, room past them unchanged, and how many faces and panels there
+-- are; on any other number nothing is written, and each count is 0
+pub record PanelsAnswer (m : Mesh) (normals : Bool) (before afterwards : Listed) (answer : Answer) : Type 0 where
+  pub number : answer .number ≡ componentsNumber m (length (before .flat)) (length (before .lengths))
+  pub face-count : answer .faces ≡ after (answer .number) (length (joined (panelsOf normals m))) 0
+  pub panel-count : answer .panels ≡ after (answer .number) (length (panelsOf normals m)) 0
+  pub flat : afterwards .flat ≡ after (answer .number) (sets (before .flat) 0 (joined (panelsOf normals m))) (before .flat)
+  pub lengths : afterwards .lengths ≡ after (answer .number) (sets (before .lengths) 0 (map length (panelsOf normals m))) (before .lengths)
+
+-- a refusal: each count beside the number is 0
+abbrev pub refusedBy : ℕ → Answer
+refusedBy n = record { number = n; faces = 0; panels = 0 }

@@ -1,10 +1,9 @@
 -- Panels, as document 01 has them: edge keys (crate keys) make joins, and joins make panels (crate searching). Assumes nothing.
-use mathlib.Core.Bool.{Bool, true, false, cond, _&&_, _||_}
+use mathlib.Core.Bool.{Bool, cond}
 use mathlib.Core.Option.{Option, none, some}
 use mathlib.Core.List.{List, [], _∷_, _++_}
 use Prim.Native.Nat.{ℕ}
 use lib.ListN.{length}
-use Rattle.lists.specs.Lists.{has}
 use Rattle.mesh.specs.Mesh.{Ring}
 use Rattle.keys.specs.Keys.{Key, sameKey, Use, usesFrom}
 use Rattle.searching.specs.Search.{Join, panelsFrom}
@@ -28,8 +27,3 @@ joins normals fs = joinsFrom [] (usesFrom normals 0 fs)
 
 unfoldable pub panels : Bool → List Ring → List (List ℕ)
 panels normals fs = panelsFrom (length fs) 0 (length fs) (joins normals fs) []
-
--- whether faces a and b are together in one panel
-abbrev pub together : ℕ → ℕ → List (List ℕ) → Bool
-together a b [] = false
-together a b (p ∷ ps) = (has a p && has b p) || together a b ps

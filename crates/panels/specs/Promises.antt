@@ -5,11 +5,11 @@ use mathlib.Core.List.{List, [], _∷_}
 use Prim.Native.Nat.{ℕ, suc, _≤_, _<_}
 use lib.Dec.{eqb}
 use lib.ListN.{length, getD}
-use Rattle.lists.specs.Lists.{has, some, joined, count}
+use Rattle.lists.specs.Lists.{has, some, joined, count, together}
 use Rattle.lists.proofs.Chains.{Reach}
 use Rattle.mesh.specs.Mesh.{Ring}
 use Rattle.keys.specs.Keys.{Key, sameKey, faceKeys}
-use Rattle.panels.specs.Panels.{panels, together}
+use Rattle.panels.specs.Panels.{panels}
 
 -- each face stands in exactly one panel, once
 abbrev pub EachFaceOnce : Bool → List Ring → Type 0

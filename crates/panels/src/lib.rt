@@ -8,10 +8,11 @@
 ghost use mathlib.Core.Path.{_≡_};
 ghost use lib.ListN.{length};
 ghost use Rattle.mesh.specs.Mesh.{meshOf, rings};
+ghost use Rattle.mesh.specs.Listed.{listedOf};
 ghost use Rattle.searching.specs.Joins.{flatJoins};
 ghost use Rattle.searching.specs.Walk.{Parted};
 ghost use Rattle.panels.specs.Panels.{joins, panels};
-ghost use Rattle.panels.specs.Contract.{Answered};
+ghost use Rattle.panels.specs.Contract.{PanelsAnswer, refusedBy};
 ghost use Rattle.panels.specs.Joins.{Wrote};
 ghost use Rattle.panels.specs.Rows.{PanelRoom, JoinRoom, JoinRows};
 
@@ -40,9 +41,11 @@ pub fn components(
     flat: &mut [u32],
     lengths: &mut [u32],
 ) -> Answer
-    ensures { λ r. ⌜ Answered
+    ensures { λ r. ⌜ PanelsAnswer
         (meshOf (now (positions .entry)) (now (textures .entry)) (now (normals .entry)) (now (corners .entry)) (now (sizes .entry))) «use_normal»
-        (now (flat .entry)) (now (lengths .entry)) (r .number) (r .faces) (r .panels) (now (flat .exit)) (now (lengths .exit)) ⌝ }
+        (listedOf (now (flat .entry)) (now (lengths .entry)))
+        (listedOf (now (flat .exit)) (now (lengths .exit)))
+        r ⌝ }
 {
     let number = mesh::number(positions, textures, normals, corners, sizes);
     if number != 0 {
@@ -63,8 +66,9 @@ pub fn components(
     }
 }
 
+// A refusal: each count beside it is 0.
 fn refused(number: u32) -> Answer
-    ensures { λ r. ⌜ (r .number ≡ number) × (r .faces ≡ 0) × (r .panels ≡ 0) ⌝ }
+    ensures { λ r. ⌜ r ≡ refusedBy number ⌝ }
 {
     Answer {
         number: number,

@@ -6,6 +6,7 @@
 // `extract_boundaries` checks the mesh; `ported_of` is for crates that have checked it.
 ghost use mathlib.Core.Path.{_≡_};
 ghost use Rattle.mesh.specs.Mesh.{meshOf, rings};
+ghost use Rattle.mesh.specs.Listed.{listedOf};
 ghost use Rattle.edges.specs.Edges.{edgesOf, hems};
 ghost use Rattle.tracing.specs.Hems.{pairs, Written};
 ghost use Rattle.tracing.specs.Tables.{Startable};
@@ -26,7 +27,11 @@ pub fn extract_boundaries(
     flat: &mut [u32],
     lengths: &mut [u32],
 ) -> Wires
-    ensures { λ r. ⌜ PortedAnswer (meshOf (now (positions .entry)) (now (textures .entry)) (now (normals .entry)) (now (corners .entry)) (now (sizes .entry))) (now (flat .entry)) (now (lengths .entry)) (now (flat .exit)) (now (lengths .exit)) (r .number) (r .flat) (r .wires) ⌝ }
+    ensures { λ r. ⌜ PortedAnswer
+        (meshOf (now (positions .entry)) (now (textures .entry)) (now (normals .entry)) (now (corners .entry)) (now (sizes .entry)))
+        (listedOf (now (flat .entry)) (now (lengths .entry)))
+        (listedOf (now (flat .exit)) (now (lengths .exit)))
+        r ⌝ }
 {
     let number = mesh::number(positions, textures, normals, corners, sizes);
     if number != 0 {
@@ -56,7 +61,9 @@ pub fn ported_of(
     lengths: &mut [u32],
 ) -> Traced
     requires { ⌜ PortedOf (now corners) (now sizes) positions (now flat) (now lengths) ⌝ }
-    ensures { λ r. ⌜ Written (portedWires (hems (edgesOf (rings (now (sizes .entry)) (now (corners .entry)))))) (now (flat .entry)) (now (lengths .entry)) (now (flat .exit)) (now (lengths .exit)) (r .flat) (r .wires) ⌝ }
+    ensures { λ r. ⌜ Written (portedWires (hems (edgesOf (rings (now (sizes .entry)) (now (corners .entry))))))
+        (now (flat .entry)) (now (lengths .entry)) (now (flat .exit)) (now (lengths .exit))
+        (r .flat) (r .wires) ⌝ }
 {
     let mut starts = [0u32; mesh::CORNERS];
     let mut ends = [0u32; mesh::CORNERS];
@@ -68,7 +75,9 @@ pub fn ported_of(
 // The ported wires of hem edges, into `flat` and `lengths`. Room: two numbers and one wire per hem edge.
 fn trace_ported(starts: &[u32], ends: &[u32], flat: &mut [u32], lengths: &mut [u32]) -> Traced
     requires { ⌜ Portable (now starts) (now ends) (now flat) (now lengths) ⌝ }
-    ensures { λ r. ⌜ Written (portedWires (pairs (now (starts .entry)) (now (ends .entry)))) (now (flat .entry)) (now (lengths .entry)) (now (flat .exit)) (now (lengths .exit)) (r .flat) (r .wires) ⌝ }
+    ensures { λ r. ⌜ Written (portedWires (pairs (now (starts .entry)) (now (ends .entry))))
+        (now (flat .entry)) (now (lengths .entry)) (now (flat .exit)) (now (lengths .exit))
+        (r .flat) (r .wires) ⌝ }
 {
     let mut firsts = [tracing::NOBODY; mesh::ENTRIES];
     let nexts = [tracing::NOBODY; mesh::CORNERS];
@@ -84,7 +93,9 @@ fn ported_in(
     lengths: &mut [u32],
 ) -> Traced
     requires { ⌜ PortedIn (now starts) (now ends) (now nexts) (now firsts) (now flat) (now lengths) ⌝ }
-    ensures { λ r. ⌜ Written (portedWires (pairs (now (starts .entry)) (now (ends .entry)))) (now (flat .entry)) (now (lengths .entry)) (now (flat .exit)) (now (lengths .exit)) (r .flat) (r .wires) ⌝ }
+    ensures { λ r. ⌜ Written (portedWires (pairs (now (starts .entry)) (now (ends .entry))))
+        (now (flat .entry)) (now (lengths .entry)) (now (flat .exit)) (now (lengths .exit))
+        (r .flat) (r .wires) ⌝ }
 {
     keep_last(starts, firsts);
     tracing::trace_all(starts, ends, nexts, firsts, flat, lengths)
@@ -97,7 +108,7 @@ fn keep_last(starts: &[u32], firsts: &mut [u32])
 {
     let mut k: usize = 0;
     while k < starts.len() {
-        let s = tracing::wide(starts[k]);
+        let s = lists::wide(starts[k]);
         firsts[s] = k as u32;
         k += 1;
     }

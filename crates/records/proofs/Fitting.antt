@@ -13,6 +13,7 @@ use Rattle.mesh.proofs.Numbers.{first-head, first-tail, when-not}
 use Rattle.records.specs.declared.Record.{Record}
 use Rattle.records.specs.declared.Record.the-variants.{Face, Refused}
 use Rattle.little.specs.Little.{byte, half}
+use Rattle.records.specs.Lengths.{headerLength, pointLength, texelLength, faceLength, lastKind}
 use Rattle.records.specs.Records.{endOf, Placed, lengthFits, unless, faceFrom, bodyFrom, recordFrom}
 
 -- an answer at a place of a file of that size
@@ -28,24 +29,29 @@ unless-fits : (size at k : ℕ) (r : Record) → at ≤ size → (k ≡ 0 → Fi
 unless-fits size at zero r h f = f refl
 unless-fits size at (suc k) r h f = refused-fits size at k h
 
-face-fits : (s : List ℕ) (at n : ℕ) → at ≤ length s → at + 4 + n ≤ length s → Fitted (length s) at (faceFrom s (at + 4) n)
+face-fits : (s : List ℕ) (at n : ℕ) → at ≤ length s → at + headerLength + n ≤ length s → Fitted (length s) at (faceFrom s (at + headerLength) n)
 unfolding faceFrom
 face-fits s at n h l =
-    let b = at + 4 in
+    let b = at + headerLength in
     let c = byte s b in
     let other = when (ltb ringLimit c) 3 ∷ [] in
-    unless-fits (length s) at (firstOf (when (not (eqb (1 + 12 * c) n)) 12 ∷ other)) (Face (b + 1) c) h
+    unless-fits (length s) at (firstOf (when (not (eqb (faceLength c) n)) 12 ∷ other)) (Face (b + 1) c) h
     (λ e.
-    let i : 1 + 12 * c ≡ n = eqb-true (1 + 12 * c) n (not-false (eqb (1 + 12 * c) n) (when-not (not (eqb (1 + 12 * c) n)) 11 (first-head (when (not (eqb (1 + 12 * c) n)) 12) other e))) in
-    let j : c ≤ ringLimit = ltb-false ringLimit c (when-not (ltb ringLimit c) 2 (first-head (when (ltb ringLimit c) 3) [] (first-tail (when (not (eqb (1 + 12 * c) n)) 12) other e))) in
+    let unlike = not (eqb (faceLength c) n) in
+    let i : faceLength c ≡ n =
+    eqb-true (faceLength c) n (not-false (eqb (faceLength c) n) (when-not unlike 11 (first-head (when unlike 12) other e))) in
+    let j : c ≤ ringLimit =
+    ltb-false ringLimit c (when-not (ltb ringLimit c) 2 (first-head (when (ltb ringLimit c) 3) [] (first-tail (when unlike 12) other e))) in
     record { fits = omega arith; placed = (omega arith, j) })
 
-body-fits : (s : List ℕ) (at n k : ℕ) → at ≤ length s → at + 4 + n ≤ length s → lengthFits k n ≡ true → Fitted (length s) at (bodyFrom s (at + 4) n k)
+body-fits :
+    (s : List ℕ) (at n k : ℕ) → at ≤ length s → at + headerLength + n ≤ length s → lengthFits k n ≡ true
+    → Fitted (length s) at (bodyFrom s (at + headerLength) n k)
 unfolding bodyFrom lengthFits
 body-fits s at n zero h l e = record { fits = omega arith; placed = tt }
-body-fits s at n (suc zero) h l e = record { fits = let i : n ≡ 24 = eqb-true n 24 e in omega arith; placed = tt }
-body-fits s at n (suc (suc zero)) h l e = record { fits = let i : n ≡ 16 = eqb-true n 16 e in omega arith; placed = tt }
-body-fits s at n (suc (suc (suc zero))) h l e = record { fits = let i : n ≡ 24 = eqb-true n 24 e in omega arith; placed = tt }
+body-fits s at n (suc zero) h l e = record { fits = let i : n ≡ pointLength = eqb-true n pointLength e in omega arith; placed = tt }
+body-fits s at n (suc (suc zero)) h l e = record { fits = let i : n ≡ texelLength = eqb-true n texelLength e in omega arith; placed = tt }
+body-fits s at n (suc (suc (suc zero))) h l e = record { fits = let i : n ≡ pointLength = eqb-true n pointLength e in omega arith; placed = tt }
 body-fits s at n (suc (suc (suc (suc k)))) h l e = face-fits s at n h l
 
 pub record-fits : (s : List ℕ) (at : ℕ) → at ≤ length s → Fitted (length s) at (recordFrom s at)
@@ -53,15 +59,17 @@ unfolding recordFrom
 record-fits s at h =
     let n = half s at in
     let k = half s (at + 2) in
-    let a = when (ltb (length s - at) 4) 11 in
-    let b = when (ltb 4 k) 12 in
+    let a = when (ltb (length s - at) headerLength) 11 in
+    let b = when (ltb lastKind k) 12 in
     let c = when (not (lengthFits k n)) 12 in
-    let d = when (ltb (length s - (at + 4)) n) 11 in
-    unless-fits (length s) at (firstOf (a ∷ b ∷ c ∷ d ∷ [])) (bodyFrom s (at + 4) n k) h
+    let d = when (ltb (length s - (at + headerLength)) n) 11 in
+    unless-fits (length s) at (firstOf (a ∷ b ∷ c ∷ d ∷ [])) (bodyFrom s (at + headerLength) n k) h
     (λ e.
     let e1 = first-tail a (b ∷ c ∷ d ∷ []) e in
     let e2 = first-tail b (c ∷ d ∷ []) e1 in
     let e3 = first-tail c (d ∷ []) e2 in
-    let i : 4 ≤ length s - at = ltb-false (length s - at) 4 (when-not (ltb (length s - at) 4) 10 (first-head a (b ∷ c ∷ d ∷ []) e)) in
-    let j : n ≤ length s - (at + 4) = ltb-false (length s - (at + 4)) n (when-not (ltb (length s - (at + 4)) n) 10 (first-head d [] e3)) in
+    let i : headerLength ≤ length s - at =
+    ltb-false (length s - at) headerLength (when-not (ltb (length s - at) headerLength) 10 (first-head a (b ∷ c ∷ d ∷ []) e)) in
+    let j : n ≤ length s - (at + headerLength) =
+    ltb-false (length s - (at + headerLength)) n (when-not (ltb (length s - (at + headerLength)) n) 10 (first-head d [] e3)) in
     body-fits s at n k h (omega arith) (not-false (lengthFits k n) (when-not (not (lengthFits k n)) 11 (first-head c (d ∷ []) e2))))

@@ -14,24 +14,28 @@ use Rattle.mesh.specs.Limits.{ringLimit}
 use Rattle.records.specs.declared.Record.{Record}
 use Rattle.records.specs.declared.Record.the-variants.{Position, Texture, Normal, Face, End, Refused}
 use Rattle.little.specs.Little.{byte, half}
+use Rattle.records.specs.Lengths.{headerLength, cornerLength, pointLength, faceLength, countMost, lastKind}
 use Rattle.records.specs.Records.{lengthFits, faceFrom, bodyFrom, recordFrom, numberOf}
 use Rattle.records.proofs.Record.{the-type}
 
 -- ---- the length of a body
 
-pub fits-24 : (k n : ℕ) → k ≤ 4 → (k ≡ 0 → ⊥) → (k ≡ 2 → ⊥) → (k ≡ 4 → ⊥) → lengthFits k n ≡ eqb n 24
+pub fits-point : (k n : ℕ) → k ≤ lastKind → (k ≡ 0 → ⊥) → (k ≡ 2 → ⊥) → (k ≡ 4 → ⊥) → lengthFits k n ≡ eqb n pointLength
 unfolding lengthFits
-fits-24 zero n h a b c = absurd (a refl)
-fits-24 (suc zero) n h a b c = refl
-fits-24 (suc (suc zero)) n h a b c = absurd (b refl)
-fits-24 (suc (suc (suc zero))) n h a b c = refl
-fits-24 (suc (suc (suc (suc zero)))) n h a b c = absurd (c refl)
-fits-24 (suc (suc (suc (suc (suc k))))) n h a b c = absurd (let z : suc (suc (suc (suc (suc k)))) ≤ 4 = h in omega arith)
+fits-point zero n h a b c = absurd (a refl)
+fits-point (suc zero) n h a b c = refl
+fits-point (suc (suc zero)) n h a b c = absurd (b refl)
+fits-point (suc (suc (suc zero))) n h a b c = refl
+fits-point (suc (suc (suc (suc zero)))) n h a b c = absurd (c refl)
+fits-point (suc (suc (suc (suc (suc k))))) n h a b c = absurd (let z : suc (suc (suc (suc (suc k)))) ≤ 4 = h in omega arith)
 
 -- a face's body has at least its count
 pub face-some : (n : ℕ) → lengthFits 4 n ≡ true → 0 < n
 unfolding lengthFits
-face-some n h = let e : n % 12 ≡ 1 = eqb-true (n % 12) 1 (and-right (leb n (1 + 12 * 255)) (eqb (n % 12) 1) h) in omega arith
+face-some n h =
+    let odd = eqb (n % cornerLength) 1 in
+    let e : n % cornerLength ≡ 1 = eqb-true (n % cornerLength) 1 (and-right (leb n (faceLength countMost)) odd h) in
+    omega arith
 
 -- the length of a body of a kind that is known
 pub body-is : (k k' n m : ℕ) → k ≡ k' → lengthFits k' n ≡ eqb n m → lengthFits k n ≡ true → n ≡ m
@@ -39,34 +43,36 @@ body-is k k' n m e f h = eqb-true n m (sym f ∙ (rw e at h))
 
 -- ---- the last kind
 
-four : (k : ℕ) → k ≤ 4 → (k ≡ 0 → ⊥) → (k ≡ 1 → ⊥) → (k ≡ 2 → ⊥) → (k ≡ 3 → ⊥) → k ≡ 4
+four : (k : ℕ) → k ≤ lastKind → (k ≡ 0 → ⊥) → (k ≡ 1 → ⊥) → (k ≡ 2 → ⊥) → (k ≡ 3 → ⊥) → k ≡ 4
 four zero h a b c d = absurd (a refl)
 four (suc zero) h a b c d = absurd (b refl)
 four (suc (suc zero)) h a b c d = absurd (c refl)
 four (suc (suc (suc zero))) h a b c d = absurd (d refl)
 four (suc (suc (suc (suc k)))) h a b c d = omega arith
 
-pub a-face : (k n : ℕ) → k ≤ 4 → (k ≡ 0 → ⊥) → (k ≡ 1 → ⊥) → (k ≡ 2 → ⊥) → (k ≡ 3 → ⊥) → lengthFits k n ≡ true → 0 < n
+pub a-face : (k n : ℕ) → k ≤ lastKind → (k ≡ 0 → ⊥) → (k ≡ 1 → ⊥) → (k ≡ 2 → ⊥) → (k ≡ 3 → ⊥) → lengthFits k n ≡ true → 0 < n
 a-face k n h a b c d e = face-some n (rw (four k h a b c d) at e)
 
-pub body-face : (s : List ℕ) (b n k : ℕ) → k ≤ 4 → (k ≡ 0 → ⊥) → (k ≡ 1 → ⊥) → (k ≡ 2 → ⊥) → (k ≡ 3 → ⊥) → faceFrom s b n ≡ bodyFrom s b n k
+pub body-face :
+    (s : List ℕ) (b n k : ℕ) → k ≤ lastKind → (k ≡ 0 → ⊥) → (k ≡ 1 → ⊥) → (k ≡ 2 → ⊥) → (k ≡ 3 → ⊥)
+    → faceFrom s b n ≡ bodyFrom s b n k
 unfolding bodyFrom
 body-face s b n k h x y z w = rw (four k h x y z w)
 
 -- ---- a face, with c its count
 
 module _ (s : List ℕ) (b n c : ℕ) (e : c ≡ byte s b) where
-  pub face-unlike : (1 + 12 * c ≡ n → ⊥) → Refused 12 ≡ faceFrom s b n
+  pub face-unlike : (faceLength c ≡ n → ⊥) → Refused 12 ≡ faceFrom s b n
   unfolding faceFrom
-  face-unlike h = rw (← e, ne-eqb (1 + 12 * c) n h)
+  face-unlike h = rw (← e, ne-eqb (faceLength c) n h)
 
-  pub face-many : 1 + 12 * c ≡ n → ringLimit < c → Refused 3 ≡ faceFrom s b n
+  pub face-many : faceLength c ≡ n → ringLimit < c → Refused 3 ≡ faceFrom s b n
   unfolding faceFrom
-  face-many h l = rw (← e, eq-eqb (1 + 12 * c) n h, lt-ltb ringLimit c l)
+  face-many h l = rw (← e, eq-eqb (faceLength c) n h, lt-ltb ringLimit c l)
 
-  pub face-good : 1 + 12 * c ≡ n → c ≤ ringLimit → Face (b + 1) c ≡ faceFrom s b n
+  pub face-good : faceLength c ≡ n → c ≤ ringLimit → Face (b + 1) c ≡ faceFrom s b n
   unfolding faceFrom
-  face-good h l = rw (← e, eq-eqb (1 + 12 * c) n h, le-ltb ringLimit c l)
+  face-good h l = rw (← e, eq-eqb (faceLength c) n h, le-ltb ringLimit c l)
 
 -- ---- a record, with n and k its length and its kind
 

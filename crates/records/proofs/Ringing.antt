@@ -14,6 +14,7 @@ use Rattle.mesh.specs.Limits.{width}
 use Rattle.mesh.specs.Mesh.{Corner, Ring}
 use Rattle.mesh.proofs.Corners.{isCorner, length-corners}
 use Rattle.little.specs.Little.{word}
+use Rattle.records.specs.Lengths.{cornerLength}
 use Rattle.records.specs.Records.{ringFrom}
 
 -- the corner at a place of the file
@@ -21,13 +22,13 @@ abbrev pub cornerFrom : List ℕ → ℕ → Corner
 cornerFrom s a = word s a ∷ word s (a + 4) ∷ word s (a + 8) ∷ []
 
 -- one corner more
-pub ring-more : (s : List ℕ) (k a : ℕ) → ringFrom s (k + 1) a ≡ ringFrom s k a ++ (cornerFrom s (a + 12 * k) ∷ [])
+pub ring-more : (s : List ℕ) (k a : ℕ) → ringFrom s (k + 1) a ≡ ringFrom s k a ++ (cornerFrom s (a + cornerLength * k) ∷ [])
 ring-more s k a = rw (add-one k) (go s k a)
   where
-    go : (s : List ℕ) (k a : ℕ) → ringFrom s (suc k) a ≡ ringFrom s k a ++ (cornerFrom s (a + 12 * k) ∷ [])
-    go s zero a = let e : a ≡ a + 12 * 0 = omega arith in ap (λ (i : ℕ). cornerFrom s i ∷ []) e
+    go : (s : List ℕ) (k a : ℕ) → ringFrom s (suc k) a ≡ ringFrom s k a ++ (cornerFrom s (a + cornerLength * k) ∷ [])
+    go s zero a = let e : a ≡ a + cornerLength * 0 = omega arith in ap (λ (i : ℕ). cornerFrom s i ∷ []) e
     go s (suc k) a =
-        let e : a + 12 + 12 * k ≡ a + 12 * suc k = omega arith in
+        let e : a + cornerLength + cornerLength * k ≡ a + cornerLength * suc k = omega arith in
         ap (λ (r : Ring). cornerFrom s a ∷ r) (go s k (a + 12) ∙ ap (λ (i : ℕ). ringFrom s k (a + 12) ++ (cornerFrom s i ∷ [])) e)
 
 pub ring-length : (s : List ℕ) (k a : ℕ) → length (ringFrom s k a) ≡ k
@@ -56,12 +57,12 @@ three l b x y z = rw (add-one b, let e : b + 2 ≡ suc (suc b) = omega arith in 
 
 pub ringing-turns :
     (s : List ℕ) (a n : ℕ) (o o' : List ℕ) (at k x y z : ℕ) → k < n
-    → x ≡ word s (a + 12 * k) → y ≡ word s (a + 12 * k + 4) → z ≡ word s (a + 12 * k + 8)
+    → x ≡ word s (a + cornerLength * k) → y ≡ word s (a + cornerLength * k + 4) → z ≡ word s (a + cornerLength * k + 8)
     → Ringing s a n o o' at k
     → Ringing s a n o (set (set (set o' (width * (at + k)) x) (width * (at + k) + 1) y) (width * (at + k) + 2) z) at (k + 1)
 ringing-turns s a n o o' at k x y z h ex ey ez r =
     let i : width * (at + k) ≡ width * at + length (joined (ringFrom s k a)) = omega (arith, ring-flat s k a) in
-    let v : x ∷ y ∷ z ∷ [] ≡ cornerFrom s (a + 12 * k) = rw (ex, ey, ez) in
+    let v : x ∷ y ∷ z ∷ [] ≡ cornerFrom s (a + cornerLength * k) = rw (ex, ey, ez) in
     record {
       within = omega arith;
       written =
@@ -69,10 +70,16 @@ ringing-turns s a n o o' at k x y z h ex ey ez r =
           ∙ ap (λ (j : ℕ). sets o' j (x ∷ y ∷ z ∷ [])) i
           ∙ ap (λ (l : List ℕ). sets l (width * at + length (joined (ringFrom s k a))) (x ∷ y ∷ z ∷ [])) (r .written)
           ∙ sym (sets-append o (width * at) (joined (ringFrom s k a)) (x ∷ y ∷ z ∷ []))
-          ∙ ap (λ (l : List ℕ). sets o (width * at) (joined (ringFrom s k a) ++ l)) (v ∙ sym (append-nil (cornerFrom s (a + 12 * k))))
-          ∙ ap (sets o (width * at)) (sym (joined-append (ringFrom s k a) (cornerFrom s (a + 12 * k) ∷ [])) ∙ ap joined (sym (ring-more s k a)));
-      long = length-set (set (set o' (width * (at + k)) x) (width * (at + k) + 1) y) (width * (at + k) + 2) z ∙ length-set (set o' (width * (at + k)) x) (width * (at + k) + 1) y ∙ length-set o' (width * (at + k)) x ∙ r .long;
+          ∙ ap (λ (l : List ℕ). sets o (width * at) (joined (ringFrom s k a) ++ l)) (v ∙ sym (append-nil (cornerFrom s (a + cornerLength * k))))
+          ∙ ap (sets o (width * at)) (sym (joined-append (ringFrom s k a) (cornerFrom s (a + cornerLength * k) ∷ [])) ∙ ap joined (sym (ring-more s k a)));
+      long =
+          length-set (set (set o' (width * (at + k)) x) (width * (at + k) + 1) y) (width * (at + k) + 2) z
+          ∙ length-set (set o' (width * (at + k)) x) (width * (at + k) + 1) y
+          ∙ length-set o' (width * (at + k)) x
+          ∙ r .long;
     }
 
-pub ringing-ends : (s : List ℕ) (a n : ℕ) (o o' : List ℕ) (at k : ℕ) → n ≤ k → Ringing s a n o o' at k → o' ≡ sets o (width * at) (joined (ringFrom s n a))
+pub ringing-ends :
+    (s : List ℕ) (a n : ℕ) (o o' : List ℕ) (at k : ℕ) → n ≤ k → Ringing s a n o o' at k
+    → o' ≡ sets o (width * at) (joined (ringFrom s n a))
 ringing-ends s a n o o' at k h r = let e : k ≡ n = omega (arith, r .within) in r .written ∙ ap (λ (j : ℕ). sets o (width * at) (joined (ringFrom s j a))) e

@@ -1,1 +1,3 @@
+-- the rules, which a caller cites
+pub mod Lengths
 pub mod Records

@@ -13,6 +13,7 @@ use Rattle.mesh.specs.Table.{when, firstOf}
 use Rattle.floating.specs.declared.Point.{Point}
 use Rattle.floating.specs.declared.Texel.{Texel}
 use Rattle.floating.specs.Points.{point, texel, coordinates}
+use Rattle.records.specs.Lengths.{headerLength, coordinateLength, cornerLength, pointLength, texelLength, faceLength, pointRecord, texelRecord, countMost, lastKind}
 use Rattle.records.specs.declared.Record.{Record}
 use Rattle.records.specs.declared.Record.the-variants.{Position, Texture, Normal, Face, End, Refused}
 
@@ -21,18 +22,18 @@ unfoldable pub coordinate : List ℕ → ℕ → Float
 coordinate s i = ofBits binary64 (long s i)
 
 unfoldable pub pointFrom : List ℕ → ℕ → Point
-pointFrom s i = point (coordinate s i) (coordinate s (i + 8)) (coordinate s (i + 16))
+pointFrom s i = point (coordinate s i) (coordinate s (i + coordinateLength)) (coordinate s (i + 2 * coordinateLength))
 
 unfoldable pub texelFrom : List ℕ → ℕ → Texel
-texelFrom s i = texel (coordinate s i) (coordinate s (i + 8))
+texelFrom s i = texel (coordinate s i) (coordinate s (i + coordinateLength))
 
 -- the length of a body by its kind: end 0, position 24, texture 16, normal 24, and of a face 1 + 12m for some m up to 255
 unfoldable pub lengthFits : ℕ → ℕ → Bool
 lengthFits zero n = eqb n 0
-lengthFits (suc zero) n = eqb n 24
-lengthFits (suc (suc zero)) n = eqb n 16
-lengthFits (suc (suc (suc zero))) n = eqb n 24
-lengthFits (suc (suc (suc (suc k)))) n = leb n (1 + 12 * 255) && eqb (n % 12) 1
+lengthFits (suc zero) n = eqb n pointLength
+lengthFits (suc (suc zero)) n = eqb n texelLength
+lengthFits (suc (suc (suc zero))) n = eqb n pointLength
+lengthFits (suc (suc (suc (suc k)))) n = leb n (faceLength countMost) && eqb (n % cornerLength) 1
 
 -- a refusal where a number is given, else the record
 abbrev pub unless : ℕ → Record → Record
@@ -42,7 +43,7 @@ unless (suc n) r = Refused (suc n)
 -- a face: n unlike m gives 12, n over 32 gives 3; its first corner stands behind the byte n
 unfoldable pub faceFrom : List ℕ → ℕ → ℕ → Record
 faceFrom s b n =
-    unless (firstOf (when (not (eqb (1 + 12 * byte s b) n)) 12 ∷ when (ltb ringLimit (byte s b)) 3 ∷ [])) (Face (b + 1) (byte s b))
+    unless (firstOf (when (not (eqb (faceLength (byte s b)) n)) 12 ∷ when (ltb ringLimit (byte s b)) 3 ∷ [])) (Face (b + 1) (byte s b))
 
 -- the body of n bytes at b, by its kind
 unfoldable pub bodyFrom : List ℕ → ℕ → ℕ → ℕ → Record
@@ -57,9 +58,15 @@ unfoldable pub recordFrom : List ℕ → ℕ → Record
 recordFrom s at =
     let n = half s at in
     let kind = half s (at + 2) in
+    let b = at + headerLength in
     unless
-    (firstOf (when (ltb (length s - at) 4) 11 ∷ when (ltb 4 kind) 12 ∷ when (not (lengthFits kind n)) 12 ∷ when (ltb (length s - (at + 4)) n) 11 ∷ []))
-    (bodyFrom s (at + 4) n kind)
+    (firstOf
+    (when (ltb (length s - at) headerLength) 11
+    ∷ when (ltb lastKind kind) 12
+    ∷ when (not (lengthFits kind n)) 12
+    ∷ when (ltb (length s - b) n) 11
+    ∷ []))
+    (bodyFrom s b n kind)
 
 -- this paper's number for each answer: that of a refusal, 0 for every other
 abbrev pub numberOf : Record → ℕ
@@ -82,15 +89,15 @@ valuesOf (Refused n) = []
 -- n corners from a place on, three four-byte numbers each
 abbrev pub ringFrom : List ℕ → ℕ → ℕ → Ring
 ringFrom s zero a = []
-ringFrom s (suc n) a = (word s a ∷ word s (a + 4) ∷ word s (a + 8) ∷ []) ∷ ringFrom s n (a + 12)
+ringFrom s (suc n) a = (word s a ∷ word s (a + 4) ∷ word s (a + 8) ∷ []) ∷ ringFrom s n (a + cornerLength)
 
 -- where the record at a place ends; a refused one ends where it begins
 abbrev pub endOf : ℕ → Record → ℕ
-endOf at (Position p) = at + 28
-endOf at (Texture t) = at + 20
-endOf at (Normal p) = at + 28
-endOf at (Face a n) = a + 12 * n
-endOf at End = at + 4
+endOf at (Position p) = at + pointRecord
+endOf at (Texture t) = at + texelRecord
+endOf at (Normal p) = at + pointRecord
+endOf at (Face a n) = a + cornerLength * n
+endOf at End = at + headerLength
 endOf at (Refused n) = at
 
 -- a face begins behind its header and its count, and has at most 32 corners; a refusal has a number

@@ -12,9 +12,32 @@ ghost use lib.ListN.{length};
 ghost use lib.Seq.{sets};
 ghost use Rattle.lists.specs.Lists.{joined};
 ghost use Rattle.mesh.specs.Limits.{width};
+ghost use Rattle.records.specs.Lengths.{cornerLength, lastKind};
 ghost use Rattle.records.specs.Records as records;
 use floating::Point;
 use floating::Texel;
+
+// How many bytes a header has, a coordinate and a corner; the body of a position or a normal, of a texture point, and the longest of a face,
+// whose count is one byte.
+pub const HEADER_LENGTH: usize = 4;
+
+const COORDINATE_LENGTH: usize = 8;
+
+pub const CORNER_LENGTH: usize = 12;
+
+const POINT_LENGTH: usize = 3 * COORDINATE_LENGTH;
+
+const TEXEL_LENGTH: usize = 2 * COORDINATE_LENGTH;
+
+const LONGEST_FACE: usize = 1 + CORNER_LENGTH * 255;
+
+// How many bytes the records have: that of a position or a normal, and that of a texture point.
+pub const POINT_RECORD: usize = HEADER_LENGTH + POINT_LENGTH;
+
+pub const TEXEL_RECORD: usize = HEADER_LENGTH + TEXEL_LENGTH;
+
+// The last of the kinds, that of a face.
+const LAST_KIND: u32 = 4;
 
 // What one record answers.
 pub enum Record {
@@ -32,18 +55,18 @@ pub fn record_at(s: &[u8], at: usize) -> Record
     requires { ⌜ at ≤ length (now s) ⌝ }
     ensures { λ r. ⌜ r ≡ records.recordFrom (now (s .entry)) at ⌝ }
 {
-    if s.len() - at < 4 {
+    if s.len() - at < HEADER_LENGTH {
         return Record::Refused(11);
     }
     let n = little::half(s, at) as usize;
     let kind = little::half(s, at + 2);
-    if 4 < kind {
+    if LAST_KIND < kind {
         return Record::Refused(12);
     }
     if misfits(kind, n) {
         return Record::Refused(12);
     }
-    let b = at + 4;
+    let b = at + HEADER_LENGTH;
     if s.len() - b < n {
         return Record::Refused(11);
     }
@@ -52,27 +75,27 @@ pub fn record_at(s: &[u8], at: usize) -> Record
 
 // Whether a body of n bytes is wrong for its kind.
 fn misfits(kind: u32, n: usize) -> bool
-    requires { ⌜ kind ≤ 4 ⌝ }
+    requires { ⌜ kind ≤ lastKind ⌝ }
     ensures { λ r. ⌜ r ≡ not (records.lengthFits kind n) ⌝ }
 {
     if kind == 0 {
         return n != 0;
     }
     if kind == 2 {
-        return n != 16;
+        return n != TEXEL_LENGTH;
     }
-    if kind == 4 {
-        if n <= 3061 {
-            return n % 12 != 1;
+    if kind == LAST_KIND {
+        if n <= LONGEST_FACE {
+            return n % CORNER_LENGTH != 1;
         }
         return true;
     }
-    n != 24
+    n != POINT_LENGTH
 }
 
 // The body of n bytes at b.
 fn body(s: &[u8], b: usize, n: usize, kind: u32) -> Record
-    requires { ⌜ (kind ≤ 4) × ((b + n ≤ length (now s)) × (records.lengthFits kind n ≡ true)) ⌝ }
+    requires { ⌜ (kind ≤ lastKind) × ((b + n ≤ length (now s)) × (records.lengthFits kind n ≡ true)) ⌝ }
     ensures { λ r. ⌜ r ≡ records.bodyFrom (now (s .entry)) b n kind ⌝ }
 {
     if kind == 0 {
@@ -97,7 +120,7 @@ fn face(s: &[u8], b: usize, n: usize) -> Record
 {
     let count = little::wide(s[b]);
     let m = count as usize;
-    if 1 + 12 * m != n {
+    if 1 + CORNER_LENGTH * m != n {
         return Record::Refused(12);
     }
     if mesh::RING < m {
@@ -118,12 +141,12 @@ pub fn number_of(r: Record) -> u32
 
 // The n corners from place a of the file, behind `at` corners of the list.
 pub fn put_ring(file: &[u8], a: usize, n: usize, out: &mut [u32], at: usize)
-    requires { ⌜ (a + 12 * n ≤ length (now file)) × (width * (at + n) ≤ length (now out)) ⌝ }
+    requires { ⌜ (a + cornerLength * n ≤ length (now file)) × (width * (at + n) ≤ length (now out)) ⌝ }
     ensures { λ _. ⌜ now (out .exit) ≡ sets (now (out .entry)) (width * at) (joined (records.ringFrom (now (file .entry)) n a)) ⌝ }
 {
     let mut k: usize = 0;
     while k < n {
-        let from = a + 12 * k;
+        let from = a + CORNER_LENGTH * k;
         let to = mesh::WIDTH * (at + k);
         out[to] = little::word(file, from);
         out[to + 1] = little::word(file, from + 4);

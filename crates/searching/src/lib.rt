@@ -59,7 +59,7 @@ fn part_in(
         (panelsBelow (length (now (ends .entry))) (length (now (ends .entry))) (now (joins .entry))) (now (flat .entry)) (now (lengths .entry))
         (now (flat .exit)) (now (lengths .exit)) (r .faces) (r .panels) ⌝ }
 {
-    keys::count_up(entries);
+    sorting::count_up(entries);
     sorting::sort_ends(joins, entries, ends, order);
     search::list_panels(joins, order, ends, seen, stack, flat, lengths)
 }

@@ -1,159 +1,203 @@
--- What is found in an accepted mesh: how many panels it has, and its house wires at the front of the two lists, as the sheet's lines
--- take them. Assumes nothing.
-use mathlib.Core.Path.{_∙_}
+-- What is found in an accepted mesh: how many panels it has, its hem edges, and its house wires at the front of the two lists, as the
+-- sheet's lines take them. Assumes nothing.
+use mathlib.Core.Path.{_≡_, _∙_, sym, ap}
 use mathlib.Core.List.{List, [], map}
-use Prim.Native.Nat.{_/_, _≤_, ℕ, zero, suc}
-use mathlib.Core.Path.{_≡_, refl, sym, ap}
 use mathlib.Core.Bool.{true, false, cond, not}
 use mathlib.Core.Option.{none, some}
+use Prim.Native.Nat.{_/_, _≤_, ℕ}
 use native.Mathlib.Omega.{arith}
 use lib.ListN.{length, take, length-map}
-use lib.Seq.{sets, length-sets, length-take-le}
-use borrow.Author.Tests.{le-ltb}
+use lib.Seq.{length-sets, length-take-le}
 use Rattle.lists.specs.Lists.{joined, sum}
+use Rattle.lists.specs.Putting.{Front}
 use Rattle.lists.proofs.Bools.{by-cases}
+use Rattle.lists.proofs.Cutting.{parts-back}
+use Rattle.lists.proofs.Fronts.{front}
 use Rattle.lists.proofs.Parts.{length-joined}
 use Rattle.mesh.specs.Limits.{width, cornerLimit, faceLimit}
-use Rattle.mesh.specs.Mesh.{Mesh, faces, positionCount, textureCount, normalCount}
-use Rattle.mesh.specs.Table.{after, short, when}
-use Rattle.mesh.proofs.Accepted.{Accepted, accepted}
-use Rattle.mesh.proofs.After.{after-done, after-refused}
+use Rattle.mesh.specs.Mesh.{Ring, rings}
+use Rattle.mesh.specs.Table.{when}
+use Rattle.mesh.proofs.After.{after-done, after-refused, after-length}
 use Rattle.mesh.proofs.Faces.{length-rings}
 use Rattle.edges.specs.Edges.{Edge, edgesOf, hems, verdict}
-use Rattle.edges.specs.Answers.{verdictOf}
-use Rattle.edges.specs.declared.ShellCondition.{ShellCondition}
-use Rattle.edges.proofs.OfHems.{mesh-hems-within}
+use Rattle.edges.specs.Answers.{start, end, verdictOf, Hemmed}
+use Rattle.edges.specs.declared.Hems.{Hems}
+use Rattle.edges.proofs.OfHems.{hems-within}
+use Rattle.tracing.specs.Hems.{pairs}
 use Rattle.house.specs.House.{houseWires}
-use Rattle.house.specs.Answers.{wired, houseNumber, HouseAnswer}
-use Rattle.house.proofs.Given.{house-uses}
-use Rattle.house.proofs.Answering.{house-verdict}
+use Rattle.house.specs.Answers.{wired, HouseOf, HouseFound, HouseDone}
+use Rattle.house.specs.Linking.{Foundable}
+use Rattle.house.proofs.Given.{house-uses, foundable, house-done}
 use Rattle.panels.specs.Panels.{joins, panels}
+use Rattle.panels.specs.Rows.{PanelRoom}
+use Rattle.searching.specs.Walk.{Parted}
 use Rattle.searching.proofs.Parting.{panels-few}
-use Rattle.lines.specs.Working.{wiresBy, foundBy, Ready as LinesReady}
+use Rattle.lines.specs.Working.{wiresBy, foundBy, Ready}
 use Rattle.lines.specs.Lines.{sheetText}
-use Rattle.lines.proofs.Wiring.{parts-back}
-use Rattle.sheet.specs.Sheet.{foundIn}
-use Rattle.sheet.specs.Working.{WireRoom}
-use Rattle.sheet.proofs.Fronts.{Front, front}
-use Rattle.panels.specs.Contract as panelling
+use Rattle.sheet.specs.Working.{WireRoom, foundOf}
 
--- a call leaves a list as long as it was
-after-length : (n : ℕ) (l xs : List ℕ) → length (after n (sets l 0 xs) l) ≡ length l
-after-length zero l xs = length-sets l 0 xs
-after-length (suc n) l xs = refl
+module _ {p t n : ℕ} {c s starts ends flat lengths out : List ℕ} (room : WireRoom p t n c s starts ends flat lengths out) where
+  abbrev fs : List Ring
+  fs = rings s c
 
-module _ {m : Mesh} {flat flat₁ flat₂ lengths lengths₁ lengths₂ out : List ℕ} {pn pf panel number numbers wires : ℕ}
-    (room : WireRoom m flat lengths out)
-    (parted : panelling.Answered m false flat lengths pn pf panel flat₁ lengths₁)
-    (traced : HouseAnswer m flat₁ lengths₁ flat₂ lengths₂ number numbers wires) where
-  abbrev a : Accepted m
-  a = accepted m (room .ready .accepted)
+  abbrev es : List Edge
+  es = edgesOf fs
+
+  few-corners : length c / width ≤ cornerLimit
+  few-corners = omega (arith, room .findable .edged .sound .fits)
+
+  few-hems : length (hems es) ≤ length c / width
+  few-hems = hems-within c s p (room .findable .edged)
 
   -- ---- panels
 
-  parts-done : pn ≡ 0
-  unfolding panelling.componentsNumber short
-  parts-done =
-      rw (parted .number, room .ready .accepted, le-ltb (length flat) (length (m .corners) / width) (omega (arith, room .numbers, a .limits .corners)), le-ltb (length lengths) (length (m .corners) / width) (omega (arith, room .wires, a .limits .corners)))
-
-  parts-count : panel ≡ length (panels false (faces m))
-  parts-count = parted .panels ∙ after-done _ _ _ parts-done
-
-  pub parts-few : panel ≤ faceLimit
-  unfolding panels faces
-  parts-few =
-      omega (arith, parts-count, panels-few (length (faces m)) 0 (length (faces m)) (joins false (faces m)) [], length-rings (m .sizes) (m .corners), a .limits .sizes)
-
-  -- ---- house wires
-
-  abbrev es : List Edge
-  es = edgesOf (faces m)
-
-  abbrev ws : List (List ℕ)
-  ws = houseWires (hems es)
-
-  long-flat : length flat₁ ≡ cornerLimit
-  long-flat = ap length (parted .flat) ∙ after-length pn flat (joined (panels false (faces m))) ∙ room .numbers
-
-  long-lengths : length lengths₁ ≡ cornerLimit
-  long-lengths = ap length (parted .lengths) ∙ after-length pn lengths (map length (panels false (faces m))) ∙ room .wires
-
-  wires-number : number ≡ when (not (wired (verdict es))) 10
-  wires-number =
-      traced .number-is
-      ∙ house-verdict m (length flat₁) (length lengths₁) (room .ready .accepted) (omega (arith, long-flat, a .limits .corners)) (omega (arith, long-lengths, a .limits .corners))
-
-  -- where the verdict allows house wires, they stand at the front of the lists, one number for each hem edge
-  module _ (yes : wired (verdict es) ≡ true) where
-    wires-done : number ≡ 0
-    wires-done = wires-number ∙ rw yes
-
-    done : houseNumber m (length flat₁) (length lengths₁) ≡ 0
-    done = sym (traced .number-is) ∙ wires-done
-
-    front-flat : Front flat₂ (joined ws) numbers
-    front-flat =
-        front flat₁ (traced .flat-is ∙ after-done _ _ _ done) (sym (traced .flat-count ∙ after-done _ _ _ done))
-        (omega (arith, traced .flat-count ∙ after-done _ _ _ done, house-uses (faces m) yes .numbers, mesh-hems-within m (room .ready .accepted), long-flat, a .limits .corners))
-
-    front-lengths : Front lengths₂ (map length ws) wires
-    front-lengths =
-        front lengths₁ (traced .lengths-is ∙ after-done _ _ _ done) (length-map ws length ∙ sym (traced .wire-count ∙ after-done _ _ _ done))
-        (omega (arith, traced .wire-count ∙ after-done _ _ _ done, house-uses (faces m) yes .wires, mesh-hems-within m (room .ready .accepted), long-lengths, a .limits .corners))
-
-    wires-some : wiresBy number (take numbers flat₂) (take wires lengths₂) ≡ some ws
-    unfolding wiresBy
-    wires-some = rw (wires-done, front-flat .is, front-lengths .is, parts-back ws)
-
-    within-some : sum (take wires lengths₂) ≤ length (take numbers flat₂)
-    within-some = omega (arith, ap sum (front-lengths .is), ap length (front-flat .is), length-joined ws)
-
-  -- where it does not, there are none
-  module _ (no : wired (verdict es) ≡ false) where
-    not-done : houseNumber m (length flat₁) (length lengths₁) ≡ 0 → ⊥
-    not-done z = let q : when (not (wired (verdict es))) 10 ≡ 0 = sym wires-number ∙ traced .number-is ∙ z in let y : _≡_ {A = ℕ} 10 0 = rw no at q in omega arith
-
-    no-numbers : numbers ≡ 0
-    no-numbers = traced .flat-count ∙ after-refused _ _ _ not-done
-
-    no-wires : wires ≡ 0
-    no-wires = traced .wire-count ∙ after-refused _ _ _ not-done
-
-    wires-none : wiresBy number (take numbers flat₂) (take wires lengths₂) ≡ none
-    unfolding wiresBy
-    wires-none = after-refused number _ _ (λ z. not-done (sym (traced .number-is) ∙ z))
-
-  -- ---- either way
-
-  pub flat-fits : numbers ≤ length flat₂
-  flat-fits = by-cases (wired (verdict es)) (λ y. front-flat y .within) (λ n. omega (arith, no-numbers n))
-
-  pub lengths-fit : wires ≤ length lengths₂
-  lengths-fit = by-cases (wired (verdict es)) (λ y. front-lengths y .within) (λ n. omega (arith, no-wires n))
-
-  pub flat-counted : numbers ≡ length (take numbers flat₂)
-  flat-counted = sym (length-take-le numbers flat₂ flat-fits)
-
-  pub lengths-counted : wires ≡ length (take wires lengths₂)
-  lengths-counted = sym (length-take-le wires lengths₂ lengths-fit)
-
-  within-either : sum (take wires lengths₂) ≤ length (take numbers flat₂)
-  within-either = by-cases (wired (verdict es)) within-some (λ n. rw (no-wires n) (omega arith))
-
-  pub lines-ready : LinesReady (take numbers flat₂) (take wires lengths₂) out
-  lines-ready = record {
-    within = within-either;
-    few = omega (arith, flat-counted, flat-fits, ap length (traced .flat-is), after-length (houseNumber m (length flat₁) (length lengths₁)) flat₁ (joined ws), long-flat);
-    few-wires = omega (arith, lengths-counted, lengths-fit, ap length (traced .lengths-is), after-length (houseNumber m (length flat₁) (length lengths₁)) lengths₁ (map length ws), long-lengths);
-    room = room .ready .room;
+  pub panel-room : PanelRoom c s flat lengths
+  panel-room = record {
+    keyable = room .findable .keyable;
+    faces-room = omega (arith, room .findable .keyable .sound .few, room .flat-long);
+    panels-room = omega (arith, room .findable .keyable .sound .few, room .lengths-long);
   }
 
-  wires-are : wiresBy number (take numbers flat₂) (take wires lengths₂) ≡ cond (wired (verdict es)) (some ws) none
-  wires-are = by-cases (wired (verdict es)) (λ y. rw y (wires-some y)) (λ n. rw n (wires-none n))
+  module _ {flat₁ lengths₁ : List ℕ} {listed panel : ℕ} (parted : Parted (panels false fs) flat lengths flat₁ lengths₁ listed panel) where
+    pub parts-few : panel ≤ faceLimit
+    unfolding panels
+    parts-few =
+        omega (arith, parted .count-is, panels-few (length fs) 0 (length fs) (joins false fs) [], length-rings s c, room .findable .keyable .sound .few)
 
-  pub found-are :
-      (v : ShellCondition) → verdictOf v ≡ verdict es
-      → sheetText (foundBy (record { positions = positionCount m; textures = textureCount m; normals = normalCount m; faces = length (m .sizes); verdict = v; panels = panel; number = number }) (take numbers flat₂) (take wires lengths₂))
-      ≡ sheetText (foundIn m)
-  unfolding foundBy foundIn
-  found-are v e = rw (e, parts-count, wires-are)
+    long-flat : length flat₁ ≡ cornerLimit
+    long-flat = ap length (parted .flat-is) ∙ length-sets flat 0 (joined (panels false fs)) ∙ room .flat-long
+
+    long-lengths : length lengths₁ ≡ cornerLimit
+    long-lengths = ap length (parted .lengths-are) ∙ length-sets lengths 0 (map length (panels false fs)) ∙ room .lengths-long
+
+    -- ---- hem edges
+
+    pub starts-room : length c / width ≤ length starts
+    starts-room = omega (arith, few-corners, room .starts-long)
+
+    pub ends-room : length c / width ≤ length ends
+    ends-room = omega (arith, few-corners, room .ends-long)
+
+    module _ {starts′ ends′ : List ℕ} {r : Hems} (hemmed : Hemmed es starts ends starts′ ends′ r) where
+      pub front-starts : Front starts′ (map start (hems es)) (r .count)
+      front-starts =
+          front starts (hemmed .starting) (length-map (hems es) start ∙ sym (hemmed .count)) (omega (arith, hemmed .count, few-hems, starts-room))
+
+      pub front-ends : Front ends′ (map end (hems es)) (r .count)
+      front-ends =
+          front ends (hemmed .ending) (length-map (hems es) end ∙ sym (hemmed .count)) (omega (arith, hemmed .count, few-hems, ends-room))
+
+      house-of : HouseOf c s p flat₁ lengths₁
+      house-of = record {
+        edged = room .findable .edged;
+        numbers = omega (arith, few-corners, long-flat);
+        wires = omega (arith, few-corners, long-lengths);
+      }
+
+      pub house-room : Foundable (verdictOf (r .verdict)) (take (r .count) starts′) (take (r .count) ends′) flat₁ lengths₁
+      house-room = foundable house-of (hemmed .verdict) (front-starts .is) (front-ends .is)
+
+      -- ---- house wires
+
+      module _ {flat₂ lengths₂ : List ℕ} {number numbers wires : ℕ}
+          (traced :
+          HouseFound (verdictOf (r .verdict)) (pairs (take (r .count) starts′) (take (r .count) ends′)) flat₁ lengths₁ flat₂ lengths₂ number
+          numbers wires) where
+        abbrev ws : List (List ℕ)
+        ws = houseWires (hems es)
+
+        -- 10 where the verdict does not allow them
+        abbrev refusal : ℕ
+        refusal = when (not (wired (verdict es))) 10
+
+        wired-by : HouseDone es flat₁ lengths₁ flat₂ lengths₂ number numbers wires
+        wired-by = house-done es (hemmed .verdict) (front-starts .is) (front-ends .is) traced
+
+        -- where the verdict allows house wires, they stand at the front of the lists, one number for each hem edge
+        module _ (yes : wired (verdict es) ≡ true) where
+          done : refusal ≡ 0
+          done = rw yes
+
+          count-flat : numbers ≡ length (joined ws)
+          count-flat = wired-by .flat-count ∙ after-done _ _ _ done
+
+          count-wires : wires ≡ length ws
+          count-wires = wired-by .wire-count ∙ after-done _ _ _ done
+
+          front-flat : Front flat₂ (joined ws) numbers
+          front-flat =
+              front flat₁ (wired-by .flat-is ∙ after-done _ _ _ done) (sym count-flat)
+              (omega (arith, count-flat, house-uses fs yes .numbers, few-hems, few-corners, long-flat))
+
+          front-lengths : Front lengths₂ (map length ws) wires
+          front-lengths =
+              front lengths₁ (wired-by .lengths-is ∙ after-done _ _ _ done) (length-map ws length ∙ sym count-wires)
+              (omega (arith, count-wires, house-uses fs yes .wires, few-hems, few-corners, long-lengths))
+
+          wires-some : wiresBy number (take numbers flat₂) (take wires lengths₂) ≡ some ws
+          unfolding wiresBy
+          wires-some = rw (wired-by .number-is, done, front-flat .is, front-lengths .is, parts-back ws)
+
+          within-some : sum (take wires lengths₂) ≤ length (take numbers flat₂)
+          within-some = omega (arith, ap sum (front-lengths .is), ap length (front-flat .is), length-joined ws)
+
+        -- where it does not, there are none
+        module _ (no : wired (verdict es) ≡ false) where
+          not-done : refusal ≡ 0 → ⊥
+          not-done z = let y : _≡_ {A = ℕ} 10 0 = rw no at z in omega arith
+
+          no-numbers : numbers ≡ 0
+          no-numbers = wired-by .flat-count ∙ after-refused _ _ _ not-done
+
+          no-wires : wires ≡ 0
+          no-wires = wired-by .wire-count ∙ after-refused _ _ _ not-done
+
+          wires-none : wiresBy number (take numbers flat₂) (take wires lengths₂) ≡ none
+          unfolding wiresBy
+          wires-none = after-refused number _ _ (λ z. not-done (sym (wired-by .number-is) ∙ z))
+
+        -- ---- either way
+
+        pub flat-fits : numbers ≤ length flat₂
+        flat-fits = by-cases (wired (verdict es)) (λ y. front-flat y .within) (λ x. omega (arith, no-numbers x))
+
+        pub lengths-fit : wires ≤ length lengths₂
+        lengths-fit = by-cases (wired (verdict es)) (λ y. front-lengths y .within) (λ x. omega (arith, no-wires x))
+
+        pub flat-counted : numbers ≡ length (take numbers flat₂)
+        flat-counted = sym (length-take-le numbers flat₂ flat-fits)
+
+        pub lengths-counted : wires ≡ length (take wires lengths₂)
+        lengths-counted = sym (length-take-le wires lengths₂ lengths-fit)
+
+        within-either : sum (take wires lengths₂) ≤ length (take numbers flat₂)
+        within-either = by-cases (wired (verdict es)) within-some (λ x. rw (no-wires x) (omega arith))
+
+        pub lines-ready : Ready (take numbers flat₂) (take wires lengths₂) out
+        lines-ready = record {
+          within = within-either;
+          few = omega (arith, flat-counted, flat-fits, ap length (wired-by .flat-is), after-length refusal flat₁ (joined ws), long-flat);
+          few-wires =
+              omega (arith, lengths-counted, lengths-fit, ap length (wired-by .lengths-is), after-length refusal lengths₁ (map length ws), long-lengths);
+          room = room .findable .room;
+        }
+
+        wires-are : wiresBy number (take numbers flat₂) (take wires lengths₂) ≡ cond (wired (verdict es)) (some ws) none
+        wires-are = by-cases (wired (verdict es)) (λ y. rw y (wires-some y)) (λ x. rw x (wires-none x))
+
+        pub found-are :
+            sheetText
+            (foundBy
+            (record {
+              positions = p;
+              textures = t;
+              normals = n;
+              faces = length s;
+              verdict = r .verdict;
+              panels = panel;
+              number = number;
+            })
+            (take numbers flat₂) (take wires lengths₂))
+            ≡ sheetText (foundOf p t n c s)
+        unfolding foundBy foundOf
+        found-are = rw (hemmed .verdict, parted .count-is, wires-are)

@@ -1,27 +1,96 @@
--- The ways out of `sheet`: its room is too short, the file is too long, or the sheet is the file's. Assumes nothing.
+-- The sheet of a file by its number and by its mesh after cleaning, and the ways out of `sheet`: its room is too short, the file is too
+-- long, or the sheet is the file's. Assumes nothing.
 use mathlib.Core.Path.{_≡_, _∙_, refl, sym, ap}
 use mathlib.Core.List.{_∷_, List, []}
-use Prim.Native.Nat.{_≤_, _<_, ℕ, zero, suc}
+use Prim.Native.Nat.{_*_, _≤_, _<_, ℕ, zero, suc}
 use native.Mathlib.Omega.{arith}
-use lib.ListN.{length}
+use lib.ListN.{length, take}
 use lib.Seq.{sets}
 use borrow.Author.Tests.{lt-ltb, le-ltb}
-use Rattle.mesh.specs.Table.{firstOf, short}
-use Rattle.lines.specs.Lines.{refusal}
+use Rattle.mesh.specs.Limits.{width, cornerNumbers}
+use Rattle.mesh.specs.Mesh.{Mesh, faces, positionCount, textureCount, normalCount}
+use Rattle.mesh.specs.Table.{firstOf, short, meshNumber}
+use Rattle.mesh.proofs.Accepted.{Accepted, accepted}
+use Rattle.edges.proofs.Answering.{edged}
+use Rattle.keys.proofs.Valid.{keyable}
+use Rattle.lines.specs.Lines.{sheetText, sheetRoom, refusal}
 use Rattle.lines.specs.Working.{Sheeted}
+use Rattle.panelfile.specs.declared.MeshRead.{MeshRead}
 use Rattle.panelfile.specs.Reading.{readingNumber, panelMesh}
-use Rattle.sheet.specs.Sheet.{printed, fileNumber, sheetOf, sheetNumber, Printed}
+use Rattle.cleaning.specs.Cleaning.{cleaned}
+use Rattle.sheet.specs.Sheet.{foundIn, printed, fileLimit, fileNumber, sheetOf, sheetNumber, Printed}
+use Rattle.sheet.specs.Working.{Kept, Cleaned, Findable, foundOf}
 
-pub short-of-room : (file out : List ℕ) → length out < 65536 → Printed file out out (record { number = 9; length = 0 })
-unfolding sheetNumber short
-short-of-room file out h = record { number = rw (lt-ltb (length out) 65536 h); count = refl; bytes = refl; fits = omega arith }
+-- ---- the file's number, and its mesh after cleaning
 
-room-enough : (out : List ℕ) → 65536 ≤ length out → sheetNumber (length out) ≡ 0
+pub sheeted-as : {a b out out′ : List ℕ} {n : ℕ} → a ≡ b → Sheeted a out out′ n → Sheeted b out out′ n
+sheeted-as e w = rw (sym e) w
+
+printed-refused : (n : ℕ) (m : Mesh) → (n ≡ 0 → ⊥) → refusal n ≡ printed n m
+unfolding printed
+printed-refused zero m h = absurd (h refl)
+printed-refused (suc n) m h = refl
+
+printed-done : (n : ℕ) (m : Mesh) → n ≡ 0 → sheetText (foundIn (cleaned m)) ≡ printed n m
+unfolding printed
+printed-done zero m h = refl
+printed-done (suc n) m h = cc
+
+-- what is found in a mesh is found by its counts, corners and sizes
+found-by : (m : Mesh) → foundOf (positionCount m) (textureCount m) (normalCount m) (m .corners) (m .sizes) ≡ foundIn m
+unfolding foundOf foundIn faces
+found-by m = refl
+
+-- what of an accepted mesh the search rests on
+findable :
+    (m : Mesh) → meshNumber m ≡ 0 → {out : List ℕ} → sheetRoom ≤ length out
+    → Findable (positionCount m) (textureCount m) (normalCount m) (m .corners) (m .sizes) out
+findable m ok room =
+    let a : Accepted m = accepted m ok in
+    record {
+      edged = edged m ok;
+      keyable = keyable m a;
+      textures-few = omega (arith, a .limits .textures);
+      normals-few = omega (arith, a .limits .normals);
+      room = room;
+    }
+
+module _ {file c s : List ℕ} {r : MeshRead} (left : Cleaned file r c s) where
+  pub refused-text : (r .number ≡ 0 → ⊥) → refusal (r .number) ≡ printed (readingNumber [] file) (panelMesh file)
+  refused-text h = ap refusal (left .number) ∙ printed-refused (readingNumber [] file) (panelMesh file) (λ z. h (left .number ∙ z))
+
+  module _ (z : r .number ≡ 0) where
+    abbrev k : Kept (cleaned (panelMesh file)) r c s
+    k = left .kept z
+
+    pub corners-few : width * r .corners ≤ cornerNumbers
+    corners-few =
+        omega (arith, k .corner-front .long, ap length (k .corner-front .is), accepted (cleaned (panelMesh file)) (k .accepted) .limits .corners)
+
+    pub kept-findable :
+        {out : List ℕ} → sheetRoom ≤ length out
+        → Findable (r .positions) (r .textures) (r .normals) (take (width * r .corners) c) (take (r .faces) s) out
+    kept-findable room = rw (k .positions, k .textures, k .normals, k .corner-front .is, k .size-front .is) (findable (cleaned (panelMesh file)) (k .accepted) room)
+
+    pub kept-text :
+        sheetText (foundOf (r .positions) (r .textures) (r .normals) (take (width * r .corners) c) (take (r .faces) s))
+        ≡ printed (readingNumber [] file) (panelMesh file)
+    kept-text =
+        rw (k .positions, k .textures, k .normals, k .corner-front .is, k .size-front .is)
+        (ap sheetText (found-by (cleaned (panelMesh file))) ∙ printed-done _ (panelMesh file) (sym (left .number) ∙ z))
+
+-- ---- the ways out of the call
+
+pub short-of-room : (file out : List ℕ) → length out < sheetRoom → Printed file out out (record { number = 9; length = 0 })
 unfolding sheetNumber short
-room-enough out h = rw (le-ltb (length out) 65536 h)
+short-of-room file out h = record { number = rw (lt-ltb (length out) sheetRoom h); count = refl; bytes = refl; fits = omega arith }
+
+room-enough : (out : List ℕ) → sheetRoom ≤ length out → sheetNumber (length out) ≡ 0
+unfolding sheetNumber short
+room-enough out h = rw (le-ltb (length out) sheetRoom h)
 
 pub done :
-    {file out out′ text : List ℕ} {n : ℕ} → 65536 ≤ length out → text ≡ sheetOf file → Sheeted text out out′ n
+    {file out out′ text : List ℕ} {n : ℕ} → sheetRoom ≤ length out → text ≡ sheetOf file → Sheeted text out out′ n
     → Printed file out out′ (record { number = 0; length = n })
 done {file} {out} room e w = record {
   number = sym (room-enough out room);
@@ -34,10 +103,10 @@ one-alone : (n : ℕ) → firstOf (n ∷ []) ≡ n
 one-alone zero = refl
 one-alone (suc n) = refl
 
-pub long-file : (file : List ℕ) → 65536 < length file → refusal 1 ≡ sheetOf file
+pub long-file : (file : List ℕ) → fileLimit < length file → refusal 1 ≡ sheetOf file
 unfolding sheetOf fileNumber printed
-long-file file h = rw (lt-ltb 65536 (length file) h)
+long-file file h = rw (lt-ltb fileLimit (length file) h)
 
-pub short-file : (file : List ℕ) → length file ≤ 65536 → printed (readingNumber [] file) (panelMesh file) ≡ sheetOf file
+pub short-file : (file : List ℕ) → length file ≤ fileLimit → printed (readingNumber [] file) (panelMesh file) ≡ sheetOf file
 unfolding sheetOf fileNumber
-short-file file h = rw (le-ltb 65536 (length file) h, one-alone (readingNumber [] file))
+short-file file h = rw (le-ltb fileLimit (length file) h, one-alone (readingNumber [] file))

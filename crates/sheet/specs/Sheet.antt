@@ -11,18 +11,13 @@ use lib.Dec.{ltb}
 use Rattle.mesh.specs.Mesh.{Mesh, faces, positionCount, textureCount, normalCount}
 use Rattle.mesh.specs.Table.{when, firstOf, lent, short, after}
 use Rattle.panelfile.specs.Reading.{readingNumber, panelMesh}
-use Rattle.folded.specs.Folded.{unfoldedMesh}
-use Rattle.compaction.specs.Compaction.{compacted}
+use Rattle.cleaning.specs.Cleaning.{cleaned}
 use Rattle.edges.specs.Edges.{Edge, edgesOf, hems, verdict}
 use Rattle.house.specs.House.{houseWires}
 use Rattle.house.specs.Answers.{wired}
 use Rattle.panels.specs.Panels.{panels}
-use Rattle.lines.specs.Lines.{Found, sheetText, refusal}
+use Rattle.lines.specs.Lines.{Found, sheetText, sheetRoom, refusal}
 use Rattle.sheet.specs.declared.Answer.{Answer}
-
--- removes folded faces, compacts
-unfoldable pub cleaned : Mesh → Mesh
-cleaned m = compacted (unfoldedMesh m)
 
 -- positions, texture points, normals, faces; the verdict; panels without the normals setting; the house wires, where the verdict allows
 -- them
@@ -45,20 +40,23 @@ printed zero m = sheetText (foundIn (cleaned m))
 printed (suc n) m = refusal (suc n)
 
 -- a file of at most 65,536 bytes; more gives 1
+abbrev pub fileLimit : ℕ
+fileLimit = 65536
+
 unfoldable pub fileNumber : List ℕ → ℕ
-fileNumber file = firstOf (when (ltb 65536 (length file)) 1 ∷ readingNumber [] file ∷ [])
+fileNumber file = firstOf (when (ltb fileLimit (length file)) 1 ∷ readingNumber [] file ∷ [])
 
 unfoldable pub sheetOf : List ℕ → List ℕ
 sheetOf file = printed (fileNumber file) (panelMesh file)
 
--- 9: the lent list is shorter than 65,536 bytes, which are room for every sheet
+-- 9: the lent list is shorter than its stated room, which is room for every sheet
 unfoldable pub sheetNumber : ℕ → ℕ
-sheetNumber room = when (short (lent room 65536 ∷ [])) 9
+sheetNumber room = when (short (lent room sheetRoom ∷ [])) 9
 
--- what the call answers and leaves: the sheet from the front on, room past it unchanged, and its length, which is never more than the
--- list has; with 9 nothing is written, and the length is 0
-pub record Printed (file out out′ : List ℕ) (r : Answer) : Type 0 where
-  pub number : r .number ≡ sheetNumber (length out)
-  pub count : r .length ≡ after (r .number) (length (sheetOf file)) 0
-  pub bytes : out′ ≡ after (r .number) (sets out 0 (sheetOf file)) out
-  pub fits : r .length ≤ length out
+-- what the call answers, and what the lent list holds before and after it: on 0 the sheet from its beginning on, room past it unchanged,
+-- and the sheet's length, which is never more than the list has; with 9 nothing is written, and the length is 0
+pub record Printed (file before afterwards : List ℕ) (answer : Answer) : Type 0 where
+  pub number : answer .number ≡ sheetNumber (length before)
+  pub count : answer .length ≡ after (answer .number) (length (sheetOf file)) 0
+  pub bytes : afterwards ≡ after (answer .number) (sets before 0 (sheetOf file)) before
+  pub fits : answer .length ≤ length before

@@ -4,14 +4,15 @@
 use mathlib.Core.Path.{_≡_, refl, sym, ap, ap₂, _∙_, fun-ext}
 use mathlib.Core.Bool.{Bool, true, _||_}
 use mathlib.Core.List.{List, [], _∷_, _++_, map, map-append, map-map}
-use Prim.Native.Nat.{ℕ, zero, suc, _+_, _-_, _≤_, _<_}
-use native.Mathlib.Nat.{le-of-suc-le-suc, not-suc-le-zero}
+use Prim.Native.Nat.{ℕ, _+_, _-_, _≤_, _<_}
+use native.Mathlib.Nat.{not-suc-le-zero}
 use native.Mathlib.Omega.{arith}
 use lib.ListN.{length, getD, take, drop, length-map}
 use lib.Dec.{ltb, leb, eqb}
 use Rattle.lists.specs.Lists.{has, every, only, span}
-use Rattle.lists.specs.Numbers.{seek, stopAt}
+use Rattle.lists.specs.Numbers.{seek}
 use Rattle.lists.proofs.Bools.{and-left, and-right, and-both}
+use Rattle.lists.proofs.Changing.{map-at, map-drop, seek-same}
 use Rattle.lists.proofs.Copies.{map-take}
 use Rattle.lists.proofs.Mapping.{only-map, map-span}
 use Rattle.lists.proofs.Parts.{every-append, every-at, every-take, every-drop}
@@ -21,17 +22,12 @@ use Rattle.splitting.proofs.Splitting.{one, two, split-whole, split-cut
 -- ---- a map
 
 module _ {A B : Type 0} (f : A → B) where
-  map-drop : (n : ℕ) (l : List A) → map f (drop n l) ≡ drop n (map f l)
-  map-drop zero l = refl
-  map-drop (suc n) [] = refl
-  map-drop (suc n) (x ∷ l) = map-drop n l
-
   map-between : (l : List A) (i j : ℕ) → between (map f l) i j ≡ map f (between l i j)
-  map-between l i j = ap (take (j - i)) (sym (map-drop i l)) ∙ sym (map-take f (j - i) (drop i l))
+  map-between l i j = ap (take (j - i)) (sym (map-drop f i l)) ∙ sym (map-take f (j - i) (drop i l))
 
   map-around : (l : List A) (i j : ℕ) → around (map f l) i j ≡ map f (around l i j)
   map-around l i j =
-      ap₂ (λ (a b : List B). a ++ b) (sym (map-drop j l)) (sym (map-take f i l)) ∙ sym (map-append f (drop j l) (take i l))
+      ap₂ (λ (a b : List B). a ++ b) (sym (map-drop f j l)) (sym (map-take f i l)) ∙ sym (map-append f (drop j l) (take i l))
 
   module _ (key : B → ℕ) where
     abbrev under : A → ℕ
@@ -73,22 +69,6 @@ module _ {A B : Type 0} (f : A → B) where
         ∙ only-map (map f) isPiece (splitBy under l)
         ∙ ap (λ (t : List A → Bool). map (map f) (only t (splitBy under l))) (fun-ext (λ (q : List A). ap (leb 3) (length-map q f)))
 
--- ---- a search and a list of values, at a place
-
--- two tests that agree on what is searched
-seek-same : (p q : ℕ → Bool) (c k : ℕ) → ((j : ℕ) → k ≤ j → j < k + c → p j ≡ q j) → seek p c k ≡ seek q c k
-unfolding seek
-seek-same p q zero k h = refl
-seek-same p q (suc c) k h =
-    ap₂ (λ (b : Bool) (n : ℕ). stopAt b k n)
-    (h k (omega arith) (omega arith))
-    (seek-same p q c (suc k) (λ j a b. h j (let a' : suc k ≤ j = a in omega arith) (let b' : j < suc k + c = b in omega arith)))
-
-map-at : {A : Type 0} (f : A → ℕ) (d : A) (l : List A) (k : ℕ) → k < length l → getD (map f l) k 0 ≡ f (getD l k d)
-map-at f d [] k h = absurd (not-suc-le-zero h)
-map-at f d (x ∷ l) zero h = refl
-map-at f d (x ∷ l) (suc k) h = map-at f d l k (le-of-suc-le-suc h)
-
 -- ---- two keys that agree on which elements are equal, among those that pass a test
 
 module _ {A : Type 0} (k k' : A → ℕ) (p : A → Bool)
@@ -111,9 +91,9 @@ module _ {A : Type 0} (k k' : A → ℕ) (p : A → Bool)
   at-same [] g i j a b = absurd (not-suc-le-zero a)
   at-same (x ∷ l) g i j a b =
       let r = x ∷ l in
-      ap₂ eqb (map-at k x r i a) (map-at k x r j b)
+      ap₂ eqb (map-at k x 0 r i a) (map-at k x 0 r j b)
       ∙ agree (getD r i x) (getD r j x) (every-at p x r i g a) (every-at p x r j g b)
-      ∙ sym (ap₂ eqb (map-at k' x r i a) (map-at k' x r j b))
+      ∙ sym (ap₂ eqb (map-at k' x 0 r i a) (map-at k' x 0 r j b))
 
   as-long : (l : List A) → length (map k l) ≡ length (map k' l)
   as-long l = length-map l k ∙ sym (length-map l k')

@@ -21,6 +21,10 @@ mateOf ks i = seek (λ j. eqb (getD ks i 0) (getD ks j 0)) (length ks - (i + 1))
 unfoldable pub firstMated : List ℕ → ℕ
 firstMated ks = seek (λ i. ltb (mateOf ks i) (length ks)) (length ks) 0
 
+-- the fewest elements of a piece
+abbrev pub leastPiece : ℕ
+leastPiece = 3
+
 module _ {A : Type 0} where
   -- one ring is elements i to j-1; the other is j to the last, then 0 to i-1
   abbrev pub between : List A → ℕ → ℕ → List A
@@ -29,9 +33,9 @@ module _ {A : Type 0} where
   abbrev pub around : List A → ℕ → ℕ → List A
   around r i j = drop j r ++ take i r
 
-  -- three elements or more
+  -- a piece has three elements or more
   abbrev pub isPiece : List A → Bool
-  isPiece r = leb 3 (length r)
+  isPiece r = leb leastPiece (length r)
 
 module _ {A : Type 0} (key : A → ℕ) where
   -- two elements have equal keys

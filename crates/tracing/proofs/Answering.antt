@@ -1,37 +1,36 @@
 -- What a call on wires answers and leaves: a refusal, a result. Assumes nothing.
-use mathlib.Core.Path.{_≡_, refl, sym, _∙_, subst}
-use mathlib.Core.Bool.{Bool, true, false}
-use mathlib.Core.List.{List, [], _∷_, map}
-use Prim.Native.Nat.{ℕ, _*_, _≤_, _<_}
+use mathlib.Core.Path.{_≡_, refl, sym, ap, _∙_, subst}
+use mathlib.Core.List.{List, map}
+use Prim.Native.Nat.{ℕ}
 use lib.ListN.{length}
 use lib.Seq.{sets}
 use Rattle.lists.specs.Lists.{joined}
-use Rattle.mesh.specs.Mesh.{Mesh}
-use Rattle.mesh.specs.Table.{meshNumber, when, firstOf}
-use Rattle.mesh.proofs.After.{after-refused, after-done, two-roomy, first-short, second-short}
-use Rattle.mesh.proofs.Numbers.{first-is, first-on, row-given, row-passed}
+use Rattle.mesh.specs.Listed.{Listed, listedOf}
+use Rattle.mesh.proofs.After.{after-refused, after-done}
 use Rattle.tracing.specs.Hems.{Written}
-use Rattle.tracing.specs.Answers.{cornerCount, Answered, Refused}
+use Rattle.tracing.specs.Answers.{Answered, refusedBy}
+use Rattle.tracing.specs.declared.Wires.{Wires}
 
 pub refusal :
-    {n k : ℕ} {ws : List (List ℕ)} (flat lengths : List ℕ) {number numbers wires : ℕ} → n ≡ k → (k ≡ 0 → ⊥) → Refused k number numbers wires
-    → Answered n ws flat lengths flat lengths number numbers wires
+    {n k : ℕ} {ws : List (List ℕ)} (flat lengths : List ℕ) {answer : Wires} → n ≡ k → (k ≡ 0 → ⊥) → answer ≡ refusedBy k
+    → Answered n ws (listedOf flat lengths) (listedOf flat lengths) answer
 refusal {n} {k} {ws} flat lengths e h r =
     let z : n ≡ 0 → ⊥ = λ q. h (sym e ∙ q) in
     record {
-      number-is = r .number-is ∙ sym e;
-      flat-count = r .no-numbers ∙ sym (after-refused n (length (joined ws)) 0 z);
-      wire-count = r .no-wires ∙ sym (after-refused n (length ws) 0 z);
+      number-is = ap (λ (a : Wires). a .number) r ∙ sym e;
+      flat-count = ap (λ (a : Wires). a .flat) r ∙ sym (after-refused n (length (joined ws)) 0 z);
+      wire-count = ap (λ (a : Wires). a .wires) r ∙ sym (after-refused n (length ws) 0 z);
       flat-is = sym (after-refused n (sets flat 0 (joined ws)) flat z);
       lengths-is = sym (after-refused n (sets lengths 0 (map length ws)) lengths z);
     }
 
 pub result :
-    {n : ℕ} {ws : List (List ℕ)} {flat lengths flat′ lengths′ : List ℕ} {number numbers wires : ℕ} → number ≡ 0 → n ≡ 0
-    → Written ws flat lengths flat′ lengths′ numbers wires → Answered n ws flat lengths flat′ lengths′ number numbers wires
-result {n} {ws} {flat} {lengths} {flat′} {lengths′} {number} e z w =
+    {n : ℕ} {ws : List (List ℕ)} {flat lengths flat′ lengths′ : List ℕ} {numbers wires : ℕ} → n ≡ 0
+    → Written ws flat lengths flat′ lengths′ numbers wires
+    → Answered n ws (listedOf flat lengths) (listedOf flat′ lengths′) (record { number = 0; flat = numbers; wires = wires })
+result {n} {ws} {flat} {lengths} z w =
     record {
-      number-is = e ∙ sym z;
+      number-is = sym z;
       flat-count = w .numbers-is ∙ sym (after-done n (length (joined ws)) 0 z);
       wire-count = w .wires-is ∙ sym (after-done n (length ws) 0 z);
       flat-is = w .flat-is ∙ sym (after-done n (sets flat 0 (joined ws)) flat z);
@@ -40,7 +39,6 @@ result {n} {ws} {flat} {lengths} {flat′} {lengths′} {number} e z w =
 
 -- the same answer, under another name of its number
 pub renumbered :
-    {n k : ℕ} {ws : List (List ℕ)} {flat lengths flat′ lengths′ : List ℕ} {number numbers wires : ℕ} → k ≡ n
-    → Answered n ws flat lengths flat′ lengths′ number numbers wires → Answered k ws flat lengths flat′ lengths′ number numbers wires
-renumbered {n} {k} {ws} {flat} {lengths} {flat′} {lengths′} {number} {numbers} {wires} e a =
-    subst (λ (i : ℕ). Answered i ws flat lengths flat′ lengths′ number numbers wires) (sym e) a
+    {n k : ℕ} {ws : List (List ℕ)} {before afterwards : Listed} {answer : Wires} → k ≡ n
+    → Answered n ws before afterwards answer → Answered k ws before afterwards answer
+renumbered {n} {k} {ws} {before} {afterwards} {answer} e a = subst (λ (i : ℕ). Answered i ws before afterwards answer) (sym e) a

@@ -5,13 +5,13 @@ use mathlib.Core.List.{List, map}
 use Prim.Native.Nat.{ℕ, _/_, _≤_, _<_}
 use native.Mathlib.Omega.{arith}
 use lib.Dec.{ltb}
-use lib.ListN.{length, getD, take, drop, replicate, length-map, length-replicate, List·getD-map}
-use lib.Seq.{sets, length-sets, take-append-seam}
+use lib.ListN.{length, getD, take, replicate, length-map, length-replicate, List·getD-map}
 use borrow.Author.Tests.{ltb-true}
 use Rattle.lists.specs.Lists.{every}
 use Rattle.lists.proofs.Bools.{and-left, and-right}
+use Rattle.lists.specs.Putting.{Front}
+use Rattle.lists.proofs.Fronts.{front}
 use Rattle.lists.proofs.Parts.{every-at}
-use Rattle.lists.proofs.Writing.{sets-front}
 use Rattle.mesh.specs.Limits.{width, entryLimit, cornerLimit}
 use Rattle.mesh.specs.Mesh.{Ring, position, rings}
 use Rattle.edges.specs.Edges.{Edge, edgesOf, Verdict, Irregular, Regular, verdict, hems}
@@ -20,23 +20,10 @@ use Rattle.edges.specs.Runs.{Edged}
 use Rattle.edges.specs.Answers.{Hemmed}
 use Rattle.edges.specs.declared.Hems.{Hems}
 use Rattle.edges.proofs.OfHems.{hems-few, hems-every}
-use Rattle.edges.proofs.Grouped.{inside}
-use Rattle.edges.proofs.Uses.{length-uses, uses-inside}
+use Rattle.uses.proofs.Sides.{inside, length-uses, uses-inside}
 use Rattle.tracing.specs.Answers.{cornerCount}
 use Rattle.tracing.proofs.Balance.{hems-balanced}
 use Rattle.tracing.proofs.Tables.{startsOf, endsOf, pairs-of}
-
--- ---- what is written from 0 on is what the first part holds
-
-module _ {k : ℕ} (l : List ℕ) {l′ : List ℕ} (vs : List ℕ) (e : l′ ≡ sets l 0 vs) (n : k ≡ length vs) (h : length vs ≤ length l) where
-  pub part-fits : k ≤ length l′
-  part-fits = let z : length l′ ≡ length l = ap length e ∙ length-sets l 0 vs in omega arith
-
-  pub part-is : take k l′ ≡ vs
-  part-is = ap₂ take n (e ∙ sets-front l vs h) ∙ take-append-seam vs (drop (length vs) l)
-
-  pub part-count : k ≡ length (take k l′)
-  part-count = n ∙ sym (ap length part-is)
 
 -- ---- the hem edges as lists of starts and ends
 
@@ -91,29 +78,33 @@ module _
   ends-count : length (endsOf h) ≡ length h
   ends-count = length-map h (λ (x : Edge). x .1)
 
-  starts-room : length (startsOf h) ≤ length starts₀
-  starts-room = let a : length starts₀ ≡ cornerLimit = ap length starts-blank ∙ length-replicate {A = ℕ} cornerLimit 0 in omega (arith, starts-count, hem-few e)
+  starts-front : Front starts′ (startsOf h) (r .count)
+  starts-front =
+      let a : length starts₀ ≡ cornerLimit = ap length starts-blank ∙ length-replicate {A = ℕ} cornerLimit 0 in
+      front starts₀ (g .starting) (starts-count ∙ sym (g .count)) (omega (arith, g .count, hem-few e))
 
-  ends-room : length (endsOf h) ≤ length ends₀
-  ends-room = let a : length ends₀ ≡ cornerLimit = ap length ends-blank ∙ length-replicate {A = ℕ} cornerLimit 0 in omega (arith, ends-count, hem-few e)
+  ends-front : Front ends′ (endsOf h) (r .count)
+  ends-front =
+      let a : length ends₀ ≡ cornerLimit = ap length ends-blank ∙ length-replicate {A = ℕ} cornerLimit 0 in
+      front ends₀ (g .ending) (ends-count ∙ sym (g .count)) (omega (arith, g .count, hem-few e))
 
   pub starts-fit : r .count ≤ length starts′
-  starts-fit = part-fits starts₀ (startsOf h) (g .starting) (g .count ∙ sym starts-count) starts-room
+  starts-fit = starts-front .within
 
   pub starts-counted : r .count ≡ length (take (r .count) starts′)
-  starts-counted = part-count starts₀ (startsOf h) (g .starting) (g .count ∙ sym starts-count) starts-room
+  starts-counted = starts-front .long
 
   pub starts-are : take (r .count) starts′ ≡ startsOf h
-  starts-are = part-is starts₀ (startsOf h) (g .starting) (g .count ∙ sym starts-count) starts-room
+  starts-are = starts-front .is
 
   pub ends-fit : r .count ≤ length ends′
-  ends-fit = part-fits ends₀ (endsOf h) (g .ending) (g .count ∙ sym ends-count) ends-room
+  ends-fit = ends-front .within
 
   pub ends-counted : r .count ≡ length (take (r .count) ends′)
-  ends-counted = part-count ends₀ (endsOf h) (g .ending) (g .count ∙ sym ends-count) ends-room
+  ends-counted = ends-front .long
 
   pub ends-are : take (r .count) ends′ ≡ endsOf h
-  ends-are = part-is ends₀ (endsOf h) (g .ending) (g .count ∙ sym ends-count) ends-room
+  ends-are = ends-front .is
 
 -- the wires of the two lists are those of the hem edges
 pub same-wires : (f : List Edge → List (List ℕ)) (h : List Edge) {ss zs : List ℕ} → ss ≡ startsOf h → zs ≡ endsOf h → f (pairs ss zs) ≡ f h

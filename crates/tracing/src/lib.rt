@@ -6,7 +6,7 @@ ghost use mathlib.Core.Path.{_≡_};
 ghost use Rattle.tracing.specs.Tables.{left};
 ghost use Rattle.tracing.specs.Tracing.{trace, traces, Underway, StepTaken, Begun, Ended, Unwritten, OneMore, AllLeft};
 ghost use Rattle.tracing.specs.Hems.{Written};
-ghost use Rattle.tracing.specs.Answers.{Refused};
+ghost use Rattle.tracing.specs.Answers.{refusedBy};
 
 // What a call answers: its number, how many numbers the flat list holds, and how many wires there are.
 pub struct Wires {
@@ -26,19 +26,13 @@ pub const NOBODY: u32 = 4294967295;
 
 // A refusal: each count beside it is 0.
 pub fn refused(number: u32) -> Wires
-    ensures { λ r. ⌜ Refused number (r .number) (r .flat) (r .wires) ⌝ }
+    ensures { λ r. ⌜ r ≡ refusedBy number ⌝ }
 {
     Wires {
         number: number,
         flat: 0,
         wires: 0,
     }
-}
-
-pub fn wide(x: u32) -> usize
-    ensures { λ r. ⌜ r ≡ x ⌝ }
-{
-    x as usize
 }
 
 // All wires, from the smallest start on, from the front of `flat` and `lengths` on. A position is left only when no edge is left there.
@@ -51,12 +45,14 @@ pub fn trace_all(
     lengths: &mut [u32],
 ) -> Traced
     requires { ⌜ AllLeft (now starts) (now ends) (now nexts) (now firsts) (now flat) (now lengths) ⌝ }
-    ensures { λ r. ⌜ Written (traces (left (now (starts .entry)) (now (ends .entry)) (now (firsts .entry)))) (now (flat .entry)) (now (lengths .entry)) (now (flat .exit)) (now (lengths .exit)) (r .flat) (r .wires) ⌝ }
+    ensures { λ r. ⌜ Written (traces (left (now (starts .entry)) (now (ends .entry)) (now (firsts .entry))))
+        (now (flat .entry)) (now (lengths .entry)) (now (flat .exit)) (now (lengths .exit))
+        (r .flat) (r .wires) ⌝ }
 {
     let mut done = Traced { flat: 0, wires: 0 };
     let mut p: usize = 0;
     while p < firsts.len() {
-        let k = wide(firsts[p]);
+        let k = lists::wide(firsts[p]);
         if k < starts.len() {
             done = trace_one(starts, ends, nexts, firsts, p, flat, lengths, done);
         } else {
@@ -78,7 +74,10 @@ fn trace_one(
     done: Traced,
 ) -> Traced
     requires { ⌜ Unwritten (now starts) (now ends) (now nexts) (now firsts) p (now flat) (now lengths) (done .flat) (done .wires) ⌝ }
-    ensures { λ r. ⌜ OneMore (now (starts .entry)) (now (ends .entry)) (now (nexts .entry)) (trace p p (left (now (starts .entry)) (now (ends .entry)) (now (firsts .entry)))) (now (flat .entry)) (now (lengths .entry)) (done .flat) (done .wires) (now (firsts .exit)) (now (flat .exit)) (now (lengths .exit)) (r .flat) (r .wires) ⌝ }
+    ensures { λ r. ⌜ OneMore (now (starts .entry)) (now (ends .entry)) (now (nexts .entry))
+        (trace p p (left (now (starts .entry)) (now (ends .entry)) (now (firsts .entry))))
+        (now (flat .entry)) (now (lengths .entry)) (done .flat) (done .wires)
+        (now (firsts .exit)) (now (flat .exit)) (now (lengths .exit)) (r .flat) (r .wires) ⌝ }
 {
     let at = done.flat;
     let k = done.wires;
@@ -101,7 +100,9 @@ fn trace_wire(
     at: usize,
 ) -> usize
     requires { ⌜ Begun (now starts) (now ends) (now nexts) (now firsts) first (now flat) at ⌝ }
-    ensures { λ r. ⌜ Ended (now (starts .entry)) (now (ends .entry)) (now (nexts .entry)) (trace first first (left (now (starts .entry)) (now (ends .entry)) (now (firsts .entry)))) (now (flat .entry)) at (now (firsts .exit)) (now (flat .exit)) r ⌝ }
+    ensures { λ r. ⌜ Ended (now (starts .entry)) (now (ends .entry)) (now (nexts .entry))
+        (trace first first (left (now (starts .entry)) (now (ends .entry)) (now (firsts .entry))))
+        (now (flat .entry)) at (now (firsts .exit)) (now (flat .exit)) r ⌝ }
 {
     let mut m = at;
     let mut c = first;
@@ -127,8 +128,8 @@ fn onward_from(
     requires { ⌜ Underway (now starts) (now ends) (now nexts) (now firsts) first c ⌝ }
     ensures { λ r. ⌜ StepTaken (now (starts .entry)) (now (ends .entry)) (now (nexts .entry)) first c (now (firsts .entry)) (now (firsts .exit)) r ⌝ }
 {
-    let p = wide(c);
-    let k = wide(firsts[p]);
+    let p = lists::wide(c);
+    let k = lists::wide(firsts[p]);
     if k >= starts.len() {
         return first;
     }

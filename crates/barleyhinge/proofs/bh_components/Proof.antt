@@ -1,5 +1,6 @@
 -- `barleyhinge::bh_components` meets its contract: what the call promises of its answer, taken apart. Assumes nothing.
-use Rattle.barleyhinge.proofs.Taken.{panelled}
+use Rattle.panels.specs.Contract.{PanelsAnswer}
+use Rattle.barleyhinge.proofs.Taken.{taken}
 use borrow.Author.Needs.{needs}
 use Rattle.barleyhinge.proofs.bh_components.Statement.{statement}
 use Rattle.barleyhinge.proofs.bh_components.Tie as tie
@@ -17,7 +18,7 @@ same-length-2 : tie.Need-same-length-2
 same-length-2 c = search needs
 
 returns : tie.Need-returns
-returns c = panelled _ _ _ _ _ _ _ _ _ _ (c .panelled .ensures) (c .before .before .before .before .before .before .before .components .ensures)
+returns c = taken (PanelsAnswer _ _ _ _) _ _ (c .panelled .ensures) (c .before .before .before .before .before .before .before .components .ensures)
 
 pub bh-components-spec : {M : Type 1} → statement M
 bh-components-spec = tie.close (tie.spec components-requires panelled-requires same-length same-length-2 returns)

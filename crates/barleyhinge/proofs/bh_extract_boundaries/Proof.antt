@@ -1,5 +1,6 @@
 -- `barleyhinge::bh_extract_boundaries` meets its contract: what the call promises of its answer, taken apart. Assumes nothing.
-use Rattle.barleyhinge.proofs.Taken.{wired}
+use Rattle.ported.specs.Answers.{PortedAnswer}
+use Rattle.barleyhinge.proofs.Taken.{taken}
 use borrow.Author.Needs.{needs}
 use Rattle.barleyhinge.proofs.bh_extract_boundaries.Statement.{statement}
 use Rattle.barleyhinge.proofs.bh_extract_boundaries.Tie as tie
@@ -17,7 +18,7 @@ same-length-2 : tie.Need-same-length-2
 same-length-2 c = search needs
 
 returns : tie.Need-returns
-returns c = wired _ _ _ _ _ _ _ _ _ _ (c .wired .ensures) (c .before .before .before .before .before .before .before .extract-boundaries .ensures)
+returns c = taken (PortedAnswer _ _ _) _ _ (c .wired .ensures) (c .before .before .before .before .before .before .before .extract-boundaries .ensures)
 
 pub bh-extract-boundaries-spec : {M : Type 1} → statement M
 bh-extract-boundaries-spec = tie.close (tie.spec extract-boundaries-requires wired-requires same-length same-length-2 returns)

@@ -18,7 +18,7 @@ same-length-2 : tie.Need-same-length-2
 same-length-2 c = search needs
 
 returns : tie.Need-returns
-returns c = taken (Grouped _ _ _ _ _ _) _ _ (c .pushed .ensures) (c .before .before .before .before .before .before .before .push .ensures)
+returns c = taken (Grouped _ _ _) _ _ (c .pushed .ensures) (c .before .before .before .before .before .before .before .push .ensures)
 
 pub bh-push-spec : {M : Type 1} → statement M
 bh-push-spec = tie.close (tie.spec push-requires pushed-requires same-length same-length-2 returns)

@@ -12,7 +12,8 @@ use Rattle.compaction.proofs.compact.Statement.{statement}
 use Rattle.compaction.proofs.compact.Tie as tie
 
 abbrev Inv-loop : tie.InvT-loop
-Inv-loop positions textures normals corners cs₀ ps₀ ts₀ ns₀ count pmap₀ tmap₀ nmap₀ p₀ t₀ n₀ k₀ cs ps ts ns pmap tmap nmap p t n k = Going positions textures normals corners (resultOf cs₀ ps₀ ts₀ ns₀) (resultOf cs ps ts ns) pmap tmap nmap p t n k
+Inv-loop positions textures normals corners cs₀ ps₀ ts₀ ns₀ count pmap₀ tmap₀ nmap₀ p₀ t₀ n₀ k₀ cs ps ts ns pmap tmap nmap p t n k =
+    Going positions textures normals corners (resultOf cs₀ ps₀ ts₀ ns₀) (resultOf cs ps ts ns) pmap tmap nmap p t n k
 
 abbrev μ-loop : tie.MeasureT-loop
 μ-loop positions textures normals corners cs₀ ps₀ ts₀ ns₀ count pmap₀ tmap₀ nmap₀ p₀ t₀ n₀ k₀ cs ps ts ns pmap tmap nmap p t n k = length corners / width - k
@@ -58,7 +59,8 @@ take-in-requires-3 c κs =
 
 add-k : tie.Need-add-k Inv-loop μ-loop
 add-k c =
-    let turn = c .before .before .before .before .before .before .before .before .before .before .before .before .before .before .before .before .before .before .before .before .before .before .before .before .before .before .before in
+    let third = c .before .before .before .before .before .before .before .before .before in
+    let turn = third .before .before .before .before .before .before .before .before .before .before .before .before .before .before .before .before .before .before in
     let start = turn .before .before .before .before .before .before .before .before .before .before in
     omega (arith, turn .loop-test .taken, start .good .1 .1 .1 .0 .0)
 

@@ -1,6 +1,6 @@
 -- `compaction::put_entry` meets its contract: two stores, and a third where the width is 3, are what `sets` does with the entry.
 use lib.ListN.{length-set}
-use Rattle.compaction.proofs.Entries.{copy-two, copy-three}
+use Rattle.compaction.proofs.Entries.{entry-two, entry-three}
 use native.Mathlib.Omega.{arith}
 use borrow.Author.Needs.{needs}
 use Rattle.compaction.proofs.put_entry.Statement.{statement}
@@ -64,13 +64,13 @@ same-length : tie.Need-same-length
 same-length c = search needs
 
 returns : tie.Need-returns
-returns c = copy-three _ _ _ _ _ (c .before .if1 .taken) (c .before .before .before .before .pre .0 .within)
+returns c = entry-three _ _ _ _ _ (c .before .before .before .before .pre .0 .within) (c .before .if1 .taken)
 
 same-length-2 : tie.Need-same-length-2
 same-length-2 c = search needs
 
 returns-2 : tie.Need-returns-2
-returns-2 c = copy-two _ _ _ _ _ (omega arith) (c .before .before .before .pre .0 .within)
+returns-2 c = entry-two _ _ _ _ _ (c .before .before .before .pre .0 .within) (omega arith)
 
 pub put-entry-spec : {M : Type 1} → statement M
 put-entry-spec =

@@ -13,37 +13,57 @@ array-borrow-prefix-lowers : tie.Need-array-borrow-prefix-lowers
 array-borrow-prefix-lowers c = search needs
 
 slice-aggregate-hem : tie.Need-slice-aggregate-hem
-slice-aggregate-hem c = let h : length (c .before .before .before .before .before .args .corners .now) / width ≤ cornerLimit = omega (arith, c .before .before .before .before .before .pre .0 .sound .fits) in sym (length-front 0 (length (c .before .before .before .before .before .args .corners .now) / width) cornerLimit h)
+slice-aggregate-hem c =
+    let entry = c .before .before .before .before .before in
+    let h : length (entry .args .corners .now) / width ≤ cornerLimit = omega (arith, entry .pre .0 .sound .fits) in
+    sym (length-front 0 (length (entry .args .corners .now) / width) cornerLimit h)
 
 array-borrow-prefix-highers : tie.Need-array-borrow-prefix-highers
 array-borrow-prefix-highers c = search needs
 
 slice-aggregate-hem-2 : tie.Need-slice-aggregate-hem-2
-slice-aggregate-hem-2 c = let h : length (c .before .before .before .before .before .before .args .corners .now) / width ≤ cornerLimit = omega (arith, c .before .before .before .before .before .before .pre .0 .sound .fits) in sym (length-front 0 (length (c .before .before .before .before .before .before .args .corners .now) / width) cornerLimit h)
+slice-aggregate-hem-2 c =
+    let entry = c .before .before .before .before .before .before in
+    let h : length (entry .args .corners .now) / width ≤ cornerLimit = omega (arith, entry .pre .0 .sound .fits) in
+    sym (length-front 0 (length (entry .args .corners .now) / width) cornerLimit h)
 
 array-borrow-prefix-downs : tie.Need-array-borrow-prefix-downs
 array-borrow-prefix-downs c = search needs
 
 slice-aggregate-hem-3 : tie.Need-slice-aggregate-hem-3
-slice-aggregate-hem-3 c = let h : length (c .before .before .before .before .before .before .before .args .corners .now) / width ≤ cornerLimit = omega (arith, c .before .before .before .before .before .before .before .pre .0 .sound .fits) in sym (length-front 0 (length (c .before .before .before .before .before .before .before .args .corners .now) / width) cornerLimit h)
+slice-aggregate-hem-3 c =
+    let entry = c .before .before .before .before .before .before .before in
+    let h : length (entry .args .corners .now) / width ≤ cornerLimit = omega (arith, entry .pre .0 .sound .fits) in
+    sym (length-front 0 (length (entry .args .corners .now) / width) cornerLimit h)
 
 array-borrow-prefix-first : tie.Need-array-borrow-prefix-first
 array-borrow-prefix-first c = search needs
 
 slice-aggregate-hem-4 : tie.Need-slice-aggregate-hem-4
-slice-aggregate-hem-4 c = let h : length (c .before .before .before .before .before .before .before .before .args .corners .now) / width ≤ cornerLimit = omega (arith, c .before .before .before .before .before .before .before .before .pre .0 .sound .fits) in sym (length-front 0 (length (c .before .before .before .before .before .before .before .before .args .corners .now) / width) cornerLimit h)
+slice-aggregate-hem-4 c =
+    let entry = c .before .before .before .before .before .before .before .before in
+    let h : length (entry .args .corners .now) / width ≤ cornerLimit = omega (arith, entry .pre .0 .sound .fits) in
+    sym (length-front 0 (length (entry .args .corners .now) / width) cornerLimit h)
 
 array-borrow-prefix-order : tie.Need-array-borrow-prefix-order
 array-borrow-prefix-order c = search needs
 
 slice-aggregate-hem-5 : tie.Need-slice-aggregate-hem-5
-slice-aggregate-hem-5 c = let h : length (c .before .before .before .before .before .before .before .before .before .args .corners .now) / width ≤ cornerLimit = omega (arith, c .before .before .before .before .before .before .before .before .before .pre .0 .sound .fits) in sym (length-front 0 (length (c .before .before .before .before .before .before .before .before .before .args .corners .now) / width) cornerLimit h)
+slice-aggregate-hem-5 c =
+    let entry = c .before .before .before .before .before .before .before .before .before in
+    let h : length (entry .args .corners .now) / width ≤ cornerLimit = omega (arith, entry .pre .0 .sound .fits) in
+    sym (length-front 0 (length (entry .args .corners .now) / width) cornerLimit h)
 
 hem-requires : tie.Need-hem-requires
 hem-requires c κs =
-    let h : length (c .before .before .before .before .before .before .before .before .before .before .before .args .corners .now) / width ≤ cornerLimit = omega (arith, c .before .before .before .before .before .before .before .before .before .before .before .pre .0 .sound .fits) in
-    let l = length-front {B = ℕ} 0 (length (c .before .before .before .before .before .before .before .before .before .before .before .args .corners .now) / width) cornerLimit h in
-    (c .before .before .before .before .before .before .before .before .before .before .before .pre .0, record { lower = l; higher = l; down = l; earlier = l; later = l }, c .before .before .before .before .before .before .before .before .before .before .before .pre .1, c .before .before .before .before .before .before .before .before .before .before .before .pre .2)
+    let entry = c .before .before .before .before .before .before .before .before .before .before .before in
+    let h : length (entry .args .corners .now) / width ≤ cornerLimit = omega (arith, entry .pre .0 .sound .fits) in
+    let l = length-front {B = ℕ} 0 (length (entry .args .corners .now) / width) cornerLimit h in
+    record {
+      edged = entry .pre .0;
+      rooms = record { lower = l; higher = l; down = l; earlier = l; later = l };
+      room = record { for-starts = entry .pre .1; for-ends = entry .pre .2 };
+    }
 
 same-length : tie.Need-same-length
 same-length c = search needs

@@ -1,18 +1,20 @@
--- `edges::judge` meets its contract: the columns are those of the mesh's edges, so the order groups them edge by edge, and the scan comes to the verdict. Assumes nothing.
+-- `edges::judge` meets its contract: what is gathered can be scanned, and the scan comes to the verdict. Assumes nothing.
 use mathlib.Core.Path.{_∙_}
-use Rattle.edges.proofs.Composed.{uses-placed, uses-gathered, uses-ready, uses-verdict}
+use Rattle.uses.proofs.Gathering.{uses-ready}
+use Rattle.edges.proofs.Composed.{uses-verdict}
 use borrow.Author.Needs.{needs}
 use Rattle.edges.proofs.judge.Statement.{statement}
 use Rattle.edges.proofs.judge.Tie as tie
 
-put-uses-requires : tie.Need-put-uses-requires
-put-uses-requires c κs = search needs
-
-sort-uses-requires : tie.Need-sort-uses-requires
-sort-uses-requires c κs = uses-placed (c .before .before .before .before .before .before .before .before .before .before .before .before .before .before .before .before .before .before .before .before .before .args .corners .now) (c .before .before .before .before .before .before .before .before .before .before .before .before .before .before .before .before .before .before .before .before .before .args .sizes .now) (c .before .before .before .before .before .before .before .before .before .before .before .before .before .before .before .before .before .before .before .before .before .args .positions) (c .before .before .before .before .before .before .before .before .before .before .before .before .before .before .before .before .before .before .before .before .before .pre .0) _ _ _ _ _ _ _ _ (c .before .before .before .before .before .before .before .before .before .before .before .before .before .before .before .before .before .before .before .before .before .pre .1) (c .before .before .before .before .before .before .before .before .before .before .put-uses .ensures)
+gather-requires : tie.Need-gather-requires
+gather-requires c κs = search needs
 
 tally-uses-requires : tie.Need-tally-uses-requires
-tally-uses-requires c κs = uses-ready (c .before .before .before .before .before .before .before .before .before .before .before .before .before .before .before .before .before .before .before .before .before .before .before .before .before .before .before .before .before .before .args .corners .now) (c .before .before .before .before .before .before .before .before .before .before .before .before .before .before .before .before .before .before .before .before .before .before .before .before .before .before .before .before .before .before .args .sizes .now) (c .before .before .before .before .before .before .before .before .before .before .before .before .before .before .before .before .before .before .before .before .before .before .before .before .before .before .before .before .before .before .args .positions) (c .before .before .before .before .before .before .before .before .before .before .before .before .before .before .before .before .before .before .before .before .before .before .before .before .before .before .before .before .before .before .pre .0) _ _ _ _ (uses-gathered (c .before .before .before .before .before .before .before .before .before .before .before .before .before .before .before .before .before .before .before .before .before .before .before .before .before .before .before .before .before .before .args .corners .now) (c .before .before .before .before .before .before .before .before .before .before .before .before .before .before .before .before .before .before .before .before .before .before .before .before .before .before .before .before .before .before .args .sizes .now) (c .before .before .before .before .before .before .before .before .before .before .before .before .before .before .before .before .before .before .before .before .before .before .before .before .before .before .before .before .before .before .args .positions) (c .before .before .before .before .before .before .before .before .before .before .before .before .before .before .before .before .before .before .before .before .before .before .before .before .before .before .before .before .before .before .pre .0) _ _ _ _ _ _ _ _ (c .before .before .before .before .before .before .before .before .before .before .before .before .before .before .before .before .before .before .before .before .before .before .before .before .before .before .before .before .before .before .pre .1) (c .before .before .before .before .before .before .before .before .before .before .before .before .before .before .before .before .before .before .before .put-uses .ensures) _ (c .before .before .before .before .before .before .before .before .sort-uses .ensures))
+tally-uses-requires c κs =
+    let far = c .before .before .before .before .before .before .before .before .before .before .before .before .before .before .before .before .before .before in
+    let entry = far .before .before .before .before .before .before .before .before .before in
+    let gather = c .before .before .before .before .before .before .before .before .before .before .before .before .before .before .gather in
+    uses-ready (entry .args .corners .now) (entry .args .sizes .now) _ (entry .pre .edged) _ _ _ _ (gather .ensures)
 
 name-of-requires : tie.Need-name-of-requires
 name-of-requires c κs = search needs
@@ -34,15 +36,16 @@ same-length-5 c = search needs
 
 returns : tie.Need-returns
 returns c =
-    let g = uses-gathered (c .before .before .before .before .before .before .before .before .before .before .before .before .before .before .before .before .before .before .before .before .before .before .before .before .before .before .before .before .before .before .before .before .args .corners .now) (c .before .before .before .before .before .before .before .before .before .before .before .before .before .before .before .before .before .before .before .before .before .before .before .before .before .before .before .before .before .before .before .before .args .sizes .now) (c .before .before .before .before .before .before .before .before .before .before .before .before .before .before .before .before .before .before .before .before .before .before .before .before .before .before .before .before .before .before .before .before .args .positions) (c .before .before .before .before .before .before .before .before .before .before .before .before .before .before .before .before .before .before .before .before .before .before .before .before .before .before .before .before .before .before .before .before .pre .0) _ _ _ _ _ _ _ _ (c .before .before .before .before .before .before .before .before .before .before .before .before .before .before .before .before .before .before .before .before .before .before .before .before .before .before .before .before .before .before .before .before .pre .1) (c .before .before .before .before .before .before .before .before .before .before .before .before .before .before .before .before .before .before .before .before .before .put-uses .ensures) _ (c .before .before .before .before .before .before .before .before .before .before .sort-uses .ensures) in
-    (c .name-of .ensures ∙ uses-verdict (c .before .before .before .before .before .before .before .before .before .before .before .before .before .before .before .before .before .before .before .before .before .before .before .before .before .before .before .before .before .before .before .before .args .corners .now) (c .before .before .before .before .before .before .before .before .before .before .before .before .before .before .before .before .before .before .before .before .before .before .before .before .before .before .before .before .before .before .before .before .args .sizes .now) (c .before .before .before .before .before .before .before .before .before .before .before .before .before .before .before .before .before .before .before .before .before .before .before .before .before .before .before .before .before .before .before .before .args .positions) (c .before .before .before .before .before .before .before .before .before .before .before .before .before .before .before .before .before .before .before .before .before .before .before .before .before .before .before .before .before .before .before .before .pre .0) _ _ _ _ g _ (c .before .tally-uses .ensures), g)
+    let far = c .before .before .before .before .before .before .before .before .before .before .before .before .before .before .before .before .before .before in
+    let entry = far .before .before .before .before .before .before .before .before .before .before .before in
+    let gather = c .before .before .before .before .before .before .before .before .before .before .before .before .before .before .before .before .gather in
+    c .name-of .ensures ∙ uses-verdict (entry .args .corners .now) (entry .args .sizes .now) _ (entry .pre .edged) _ _ _ _ (gather .ensures) _ (c .before .tally-uses .ensures)
 
 pub judge-spec : {M : Type 1} → statement M
 judge-spec =
     tie.close
     (tie.spec
-    put-uses-requires
-    sort-uses-requires
+    gather-requires
     tally-uses-requires
     name-of-requires
     same-length

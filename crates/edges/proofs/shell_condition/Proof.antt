@@ -13,10 +13,21 @@ returns : tie.Need-returns
 returns c = judged-refused _ _ (c .before .number .ensures) (c .if1 .taken)
 
 verdict-of-requires : tie.Need-verdict-of-requires
-verdict-of-requires c κs = edged (meshOf (c .before .before .before .before .before .before .before .args .positions .now) (c .before .before .before .before .before .before .before .args .textures .now) (c .before .before .before .before .before .before .before .args .normals .now) (c .before .before .before .before .before .before .before .args .corners .now) (c .before .before .before .before .before .before .before .args .sizes .now)) (sym (c .before .number .ensures) ∙ c .if1 .left)
+verdict-of-requires c κs =
+    let entry = c .before .before .before .before .before .before .before in
+    let number = c .before .number in
+    edged
+    (meshOf (entry .args .positions .now) (entry .args .textures .now) (entry .args .normals .now) (entry .args .corners .now) (entry .args .sizes .now))
+    (sym (number .ensures) ∙ c .if1 .left)
 
 returns-2 : tie.Need-returns-2
-returns-2 c = judged-found (meshOf (c .before .before .before .before .before .before .before .before .args .positions .now) (c .before .before .before .before .before .before .before .before .args .textures .now) (c .before .before .before .before .before .before .before .before .args .normals .now) (c .before .before .before .before .before .before .before .before .args .corners .now) (c .before .before .before .before .before .before .before .before .args .sizes .now)) _ _ (c .before .before .number .ensures) (c .before .if1 .left) (c .verdict-of .ensures)
+returns-2 c =
+    let entry = c .before .before .before .before .before .before .before .before in
+    let number = c .before .before .number in
+    let if1 = c .before .if1 in
+    judged-found
+    (meshOf (entry .args .positions .now) (entry .args .textures .now) (entry .args .normals .now) (entry .args .corners .now)
+    (entry .args .sizes .now)) _ _ (number .ensures) (if1 .left) (c .verdict-of .ensures)
 
 pub shell-condition-spec : {M : Type 1} → statement M
 shell-condition-spec = tie.close (tie.spec number-requires returns verdict-of-requires returns-2)

@@ -13,40 +13,56 @@ array-borrow-prefix-lowers : tie.Need-array-borrow-prefix-lowers
 array-borrow-prefix-lowers c = search needs
 
 slice-aggregate-judge : tie.Need-slice-aggregate-judge
-slice-aggregate-judge c = let h : length (c .before .before .before .args .corners .now) / width ≤ cornerLimit = omega (arith, c .before .before .before .pre .sound .fits) in sym (length-front 0 (length (c .before .before .before .args .corners .now) / width) cornerLimit h)
+slice-aggregate-judge c =
+    let entry = c .before .before .before in
+    let h : length (entry .args .corners .now) / width ≤ cornerLimit = omega (arith, entry .pre .sound .fits) in
+    sym (length-front 0 (length (entry .args .corners .now) / width) cornerLimit h)
 
 array-borrow-prefix-highers : tie.Need-array-borrow-prefix-highers
 array-borrow-prefix-highers c = search needs
 
 slice-aggregate-judge-2 : tie.Need-slice-aggregate-judge-2
-slice-aggregate-judge-2 c = let h : length (c .before .before .before .before .args .corners .now) / width ≤ cornerLimit = omega (arith, c .before .before .before .before .pre .sound .fits) in sym (length-front 0 (length (c .before .before .before .before .args .corners .now) / width) cornerLimit h)
+slice-aggregate-judge-2 c =
+    let entry = c .before .before .before .before in
+    let h : length (entry .args .corners .now) / width ≤ cornerLimit = omega (arith, entry .pre .sound .fits) in
+    sym (length-front 0 (length (entry .args .corners .now) / width) cornerLimit h)
 
 array-borrow-prefix-downs : tie.Need-array-borrow-prefix-downs
 array-borrow-prefix-downs c = search needs
 
 slice-aggregate-judge-3 : tie.Need-slice-aggregate-judge-3
-slice-aggregate-judge-3 c = let h : length (c .before .before .before .before .before .args .corners .now) / width ≤ cornerLimit = omega (arith, c .before .before .before .before .before .pre .sound .fits) in sym (length-front 0 (length (c .before .before .before .before .before .args .corners .now) / width) cornerLimit h)
+slice-aggregate-judge-3 c =
+    let entry = c .before .before .before .before .before in
+    let h : length (entry .args .corners .now) / width ≤ cornerLimit = omega (arith, entry .pre .sound .fits) in
+    sym (length-front 0 (length (entry .args .corners .now) / width) cornerLimit h)
 
 array-borrow-prefix-first : tie.Need-array-borrow-prefix-first
 array-borrow-prefix-first c = search needs
 
 slice-aggregate-judge-4 : tie.Need-slice-aggregate-judge-4
-slice-aggregate-judge-4 c = let h : length (c .before .before .before .before .before .before .args .corners .now) / width ≤ cornerLimit = omega (arith, c .before .before .before .before .before .before .pre .sound .fits) in sym (length-front 0 (length (c .before .before .before .before .before .before .args .corners .now) / width) cornerLimit h)
+slice-aggregate-judge-4 c =
+    let entry = c .before .before .before .before .before .before in
+    let h : length (entry .args .corners .now) / width ≤ cornerLimit = omega (arith, entry .pre .sound .fits) in
+    sym (length-front 0 (length (entry .args .corners .now) / width) cornerLimit h)
 
 array-borrow-prefix-order : tie.Need-array-borrow-prefix-order
 array-borrow-prefix-order c = search needs
 
 slice-aggregate-judge-5 : tie.Need-slice-aggregate-judge-5
-slice-aggregate-judge-5 c = let h : length (c .before .before .before .before .before .before .before .args .corners .now) / width ≤ cornerLimit = omega (arith, c .before .before .before .before .before .before .before .pre .sound .fits) in sym (length-front 0 (length (c .before .before .before .before .before .before .before .args .corners .now) / width) cornerLimit h)
+slice-aggregate-judge-5 c =
+    let entry = c .before .before .before .before .before .before .before in
+    let h : length (entry .args .corners .now) / width ≤ cornerLimit = omega (arith, entry .pre .sound .fits) in
+    sym (length-front 0 (length (entry .args .corners .now) / width) cornerLimit h)
 
 judge-requires : tie.Need-judge-requires
 judge-requires c κs =
-    let h : length (c .before .before .before .before .before .before .before .args .corners .now) / width ≤ cornerLimit = omega (arith, c .before .before .before .before .before .before .before .pre .sound .fits) in
-    let l = length-front {B = ℕ} 0 (length (c .before .before .before .before .before .before .before .args .corners .now) / width) cornerLimit h in
-    (c .before .before .before .before .before .before .before .pre, record { lower = l; higher = l; down = l; earlier = l; later = l })
+    let entry = c .before .before .before .before .before .before .before in
+    let h : length (entry .args .corners .now) / width ≤ cornerLimit = omega (arith, entry .pre .sound .fits) in
+    let l = length-front {B = ℕ} 0 (length (entry .args .corners .now) / width) cornerLimit h in
+    record { edged = entry .pre; rooms = record { lower = l; higher = l; down = l; earlier = l; later = l } }
 
 returns : tie.Need-returns
-returns c = c .before .before .before .before .before .judge .ensures .0
+returns c = c .before .before .before .before .before .judge .ensures
 
 pub verdict-of-spec : {M : Type 1} → statement M
 verdict-of-spec =

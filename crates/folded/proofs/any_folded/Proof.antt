@@ -1,7 +1,7 @@
 -- `folded::any_folded` meets its contract: none of the first k faces is folded, and k rises until one is. Assumes nothing.
 use Prim.Native.Nat.{_-_}
 use lib.ListN.{length}
-use Rattle.mesh.proofs.Faces.{face-fits}
+use Rattle.mesh.proofs.Walking.{walk-here, walk-fits}
 use Rattle.folded.proofs.Unfolded.{Looking, looking-begins, looking-face, looking-turns, looking-finds, looking-ends}
 use borrow.Author.Needs.{needs}
 use native.Mathlib.Omega.{arith}
@@ -18,7 +18,7 @@ loop-holds : tie.Need-loop-holds Inv-loop μ-loop
 loop-holds c = looking-begins _ _
 
 face-at-requires : tie.Need-face-at-requires Inv-loop μ-loop
-face-at-requires c κs = record { sound = c .before .before .before .before .pre .sound; is-face = c .loop-test .taken; offset = c .before .loop .inv .offset }
+face-at-requires c κs = walk-here _ _ _ _ (c .before .before .before .before .pre .sound) (c .loop-test .taken) (c .before .loop .inv .walk)
 
 mul-n : tie.Need-mul-n Inv-loop μ-loop
 mul-n c = search needs
@@ -40,8 +40,8 @@ add-from : tie.Need-add-from Inv-loop μ-loop
 add-from c =
     let pre = c .before .before .before .before .before .before .before .before .pre in
     let loop = c .before .before .before .before .before .loop in
-    let fits = face-fits _ _ (pre .sound) (loop .k) (c .before .before .before .before .loop-test .taken) in
-    omega (arith, fits, loop .inv .offset)
+    let more = c .before .before .before .before .loop-test .taken in
+    omega (arith, walk-fits _ _ _ _ (pre .sound) more (loop .inv .walk), pre .sound .fits)
 
 add-k : tie.Need-add-k Inv-loop μ-loop
 add-k c = search needs

@@ -1,11 +1,8 @@
 -- `folded::remove_larger` meets its contract: the pieces of all faces fit the two lists, whose fronts are those pieces again; grouped, they are what is left. Assumes nothing.
-use Prim.Native.Nat.{ℕ}
 use mathlib.Core.Path.{sym}
-use lib.ListN.{length-replicate}
 use lib.Seq.{length-take-le}
-use Rattle.mesh.specs.Limits.{faceLimit, cornerNumbers}
-use Rattle.oneface.proofs.OneFace.{placed-as}
-use Rattle.folded.proofs.Scratch.{few-corners, few-faces, pieces-sound, pieces-corners, pieces-sizes, pieces-grouped}
+use Rattle.grouping.proofs.Placing.{placed-as}
+use Rattle.folded.proofs.Scratch.{blank, scratch-ready, few-corners, few-faces, pieces-sound, pieces-corners, pieces-sizes, pieces-grouped}
 use native.Mathlib.Omega.{arith}
 use borrow.Author.Needs.{needs}
 use Rattle.folded.proofs.remove_larger.Statement.{statement}
@@ -18,56 +15,44 @@ slice-aggregate-all-pieces-2 : tie.Need-slice-aggregate-all-pieces-2
 slice-aggregate-all-pieces-2 c = search needs
 
 all-pieces-requires : tie.Need-all-pieces-requires
-all-pieces-requires c κs = search needs
+all-pieces-requires c κs = scratch-ready _ _ _ _ _ _ blank (c .before .before .before .before .before .before .pre)
 
 mul-c : tie.Need-mul-c
 mul-c c =
     let pre = c .before .before .before .before .before .before .before .before .before .before .pre in
     let put = c .before .before .before .all-pieces .ensures in
-    let blank = length-replicate {A = ℕ} cornerNumbers 0 in
-    let blank-2 = length-replicate {A = ℕ} faceLimit 0 in
-    omega (arith, few-corners _ _ _ _ _ _ _ _ _ _ pre blank blank-2 put)
+    omega (arith, few-corners _ _ _ _ _ _ _ _ _ _ pre blank put)
 
 array-share-prefix-pieces : tie.Need-array-share-prefix-pieces
 array-share-prefix-pieces c =
     let pre = c .before .before .before .before .before .before .before .before .before .before .pre in
     let put = c .before .before .before .all-pieces .ensures in
-    let blank = length-replicate {A = ℕ} cornerNumbers 0 in
-    let blank-2 = length-replicate {A = ℕ} faceLimit 0 in
-    omega (arith, few-corners _ _ _ _ _ _ _ _ _ _ pre blank blank-2 put, pre .fit .sound .fits)
+    omega (arith, few-corners _ _ _ _ _ _ _ _ _ _ pre blank put, pre .fit .sound .fits)
 
 slice-aggregate-push-all : tie.Need-slice-aggregate-push-all
 slice-aggregate-push-all c =
     let pre = c .before .before .before .before .before .before .before .before .before .before .before .pre in
     let put = c .before .before .before .before .all-pieces .ensures in
-    let blank = length-replicate {A = ℕ} cornerNumbers 0 in
-    let blank-2 = length-replicate {A = ℕ} faceLimit 0 in
-    sym (length-take-le _ _ (omega (arith, few-corners _ _ _ _ _ _ _ _ _ _ pre blank blank-2 put, pre .fit .sound .fits)))
+    sym (length-take-le _ _ (omega (arith, few-corners _ _ _ _ _ _ _ _ _ _ pre blank put, pre .fit .sound .fits)))
 
 array-share-prefix-lens : tie.Need-array-share-prefix-lens
 array-share-prefix-lens c =
     let pre = c .before .before .before .before .before .before .before .before .before .before .before .pre in
     let put = c .before .before .before .before .all-pieces .ensures in
-    let blank = length-replicate {A = ℕ} cornerNumbers 0 in
-    let blank-2 = length-replicate {A = ℕ} faceLimit 0 in
-    omega (arith, few-faces _ _ _ _ _ _ _ _ _ _ pre blank blank-2 put, pre .fit .sound .fits)
+    omega (arith, few-faces _ _ _ _ _ _ _ _ _ _ pre blank put, pre .fit .sound .fits)
 
 slice-aggregate-push-all-2 : tie.Need-slice-aggregate-push-all-2
 slice-aggregate-push-all-2 c =
     let pre = c .before .before .before .before .before .before .before .before .before .before .before .before .pre in
     let put = c .before .before .before .before .before .all-pieces .ensures in
-    let blank = length-replicate {A = ℕ} cornerNumbers 0 in
-    let blank-2 = length-replicate {A = ℕ} faceLimit 0 in
-    sym (length-take-le _ _ (omega (arith, few-faces _ _ _ _ _ _ _ _ _ _ pre blank blank-2 put, pre .fit .sound .fits)))
+    sym (length-take-le _ _ (omega (arith, few-faces _ _ _ _ _ _ _ _ _ _ pre blank put, pre .fit .sound .fits)))
 
 push-all-requires : tie.Need-push-all-requires
 push-all-requires c κs =
     let pre = c .before .before .before .before .before .before .before .before .before .before .before .before .before .before .pre in
-    let put = c .before .before .before .before .before .before .before .all-pieces .ensures in
-    let blank = length-replicate {A = ℕ} cornerNumbers 0 in
-    let blank-2 = length-replicate {A = ℕ} faceLimit 0 in (
-      pieces-sound _ _ _ _ _ _ _ _ _ _ pre blank blank-2 put,
-      (pieces-corners _ _ _ _ _ _ _ _ _ _ pre blank blank-2 put, pieces-sizes _ _ _ _ _ _ _ _ _ _ pre blank blank-2 put),
+    let put = c .before .before .before .before .before .before .before .all-pieces .ensures in (
+      pieces-sound _ _ _ _ _ _ _ _ _ _ pre blank put,
+      (pieces-corners _ _ _ _ _ _ _ _ _ _ pre blank put, pieces-sizes _ _ _ _ _ _ _ _ _ _ pre blank put),
     )
 
 same-length : tie.Need-same-length
@@ -80,9 +65,7 @@ returns : tie.Need-returns
 returns c =
     let pre = c .before .before .before .before .before .before .before .before .before .before .before .before .before .before .before .before .before .before .before .pre in
     let put = c .before .before .before .before .before .before .before .before .before .before .before .before .all-pieces .ensures in
-    let blank = length-replicate {A = ℕ} cornerNumbers 0 in
-    let blank-2 = length-replicate {A = ℕ} faceLimit 0 in
-    placed-as (pieces-grouped _ _ _ _ _ _ _ _ _ _ pre blank blank-2 put) (c .before .before .before .before .push-all .ensures)
+    placed-as (pieces-grouped _ _ _ _ _ _ _ _ _ _ pre blank put) (c .before .before .before .before .push-all .ensures)
 
 pub remove-larger-spec : {M : Type 1} → statement M
 remove-larger-spec =

@@ -40,7 +40,7 @@ returns-2 c =
     let is-wired = c .before .before .before .before .before .before .before .before .is-wired in
     let if1 = c .before .before .before .before .before .before .before .if1 in
     let trace-house = c .before .before .before .before .trace-house in
-    result refl (ap (λ (b : Bool). when (not b) 10) (sym (is-wired .ensures) ∙ not-false _ (if1 .left))) (trace-house .ensures)
+    result (ap (λ (b : Bool). when (not b) 10) (sym (is-wired .ensures) ∙ not-false _ (if1 .left))) (trace-house .ensures)
 
 pub house-from-spec : {M : Type 1} → statement M
 house-from-spec =

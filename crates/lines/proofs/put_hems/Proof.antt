@@ -1,7 +1,7 @@
 -- `lines::put_hems` meets its contract: the lines of the first k wires are put, `from` is where wire k starts, and k rises to all of them. Assumes nothing.
 use Prim.Native.Nat.{_-_}
 use lib.ListN.{length}
-use Rattle.text.proofs.Putting.{written-long}
+use Rattle.lists.proofs.Listing.{written-long}
 use Rattle.lines.proofs.Wiring.{Hemming, hemming-begins, hemming-within, hemming-room, hemming-turns, hemming-ends}
 use borrow.Author.Needs.{needs}
 use native.Mathlib.Omega.{arith}
@@ -27,10 +27,20 @@ wide-requires : tie.Need-wide-requires Inv-loop μ-loop
 wide-requires c κs = search needs
 
 add-end : tie.Need-add-end Inv-loop μ-loop
-add-end c = omega (arith, hemming-within _ _ _ _ _ _ _ _ (c .before .before .loop-test .taken) (c .before .before .before .before .before .before .before .pre) (c .before .before .before .loop .inv), c .wide .ensures, c .before .before .before .before .before .before .before .good .0)
+add-end c =
+    let loop-test = c .before .before .loop-test in
+    let pre = c .before .before .before .before .before .before .before .pre in
+    let loop = c .before .before .before .loop in
+    let good = c .before .before .before .before .before .before .before .good in
+    omega (arith, hemming-within _ _ _ _ _ _ _ _ (loop-test .taken) pre (loop .inv), c .wide .ensures, good .0)
 
 mul-put-hem : tie.Need-mul-put-hem Inv-loop μ-loop
-mul-put-hem c = omega (arith, hemming-within _ _ _ _ _ _ _ _ (c .before .before .loop-test .taken) (c .before .before .before .before .before .before .before .pre) (c .before .before .before .loop .inv), c .before .before .before .before .before .before .before .good .0)
+mul-put-hem c =
+    let loop-test = c .before .before .loop-test in
+    let pre = c .before .before .before .before .before .before .before .pre in
+    let loop = c .before .before .before .loop in
+    let good = c .before .before .before .before .before .before .before .good in
+    omega (arith, hemming-within _ _ _ _ _ _ _ _ (loop-test .taken) pre (loop .inv), good .0)
 
 sub-put-hem : tie.Need-sub-put-hem Inv-loop μ-loop
 sub-put-hem c = search needs
@@ -39,10 +49,19 @@ part-put-hem-start : tie.Need-part-put-hem-start Inv-loop μ-loop
 part-put-hem-start c = search needs
 
 part-put-hem-end : tie.Need-part-put-hem-end Inv-loop μ-loop
-part-put-hem-end c = omega (arith, hemming-within _ _ _ _ _ _ _ _ (c .before .before .loop-test .taken) (c .before .before .before .before .before .before .before .pre) (c .before .before .before .loop .inv), c .wide .ensures)
+part-put-hem-end c =
+    let loop-test = c .before .before .loop-test in
+    let pre = c .before .before .before .before .before .before .before .pre in
+    let loop = c .before .before .before .loop in
+    omega (arith, hemming-within _ _ _ _ _ _ _ _ (loop-test .taken) pre (loop .inv), c .wide .ensures)
 
 put-hem-requires : tie.Need-put-hem-requires Inv-loop μ-loop
-put-hem-requires c κs = rw (c .before .before .wide .ensures) (hemming-room _ _ _ _ _ _ _ _ (c .before .before .before .before .loop-test .taken) (c .before .before .before .before .before .before .before .before .before .pre) (c .before .before .before .before .before .loop .inv))
+put-hem-requires c κs =
+    let wide = c .before .before .wide in
+    let loop-test = c .before .before .before .before .loop-test in
+    let pre = c .before .before .before .before .before .before .before .before .before .pre in
+    let loop = c .before .before .before .before .before .loop in
+    rw (wide .ensures) (hemming-room _ _ _ _ _ _ _ _ (loop-test .taken) pre (loop .inv))
 
 add-k : tie.Need-add-k Inv-loop μ-loop
 add-k c = search needs
@@ -51,7 +70,12 @@ loop-less : tie.Need-loop-less Inv-loop μ-loop
 loop-less c = search needs
 
 loop-again : tie.Need-loop-again Inv-loop μ-loop
-loop-again c = rw (c .before .before .before .before .before .wide .ensures) (hemming-turns _ _ _ _ _ _ _ _ _ _ (c .before .before .before .before .before .before .before .loop-test .taken) (c .before .before .before .before .before .before .before .before .loop .inv) (rw (c .before .before .before .before .before .wide .ensures) at (c .before .before .put-hem .ensures)))
+loop-again c =
+    let wide = c .before .before .before .before .before .wide in
+    let loop-test = c .before .before .before .before .before .before .before .loop-test in
+    let loop = c .before .before .before .before .before .before .before .before .loop in
+    let put-hem = c .before .before .put-hem in
+    rw (wide .ensures) (hemming-turns _ _ _ _ _ _ _ _ _ _ (loop-test .taken) (loop .inv) (rw (wide .ensures) at (put-hem .ensures)))
 
 same-length : tie.Need-same-length Inv-loop μ-loop
 same-length c = written-long _ _ _ _ _ (c .before .loop .inv .listing .put)

@@ -1,6 +1,6 @@
 -- `lines::put_sheet` meets its contract: 65,536 bytes are room for the four parts (`sheet-room`), which are put one behind the other. Assumes nothing.
 use Rattle.lines.proofs.Fitting.{Narrow, sheeted, sheet-room, mesh-room, verdict-room, panels-room, hems-room, sheet-written}
-use Rattle.text.specs.Text.{Room}
+use Rattle.lists.specs.Putting.{Room}
 use Rattle.lines.specs.Lines.{sheetText}
 use Rattle.lines.specs.Working.{foundBy}
 use native.Mathlib.Omega.{arith}
@@ -18,21 +18,41 @@ put-mesh-requires : tie.Need-put-mesh-requires
 put-mesh-requires c κs = mesh-room _ _ _ _ (whole-room (c .before .before .before))
 
 put-verdict-requires : tie.Need-put-verdict-requires
-put-verdict-requires c κs = verdict-room _ _ _ _ _ _ (whole-room (c .before .before .before .before .before .before .before)) (c .before .before .before .put-mesh .ensures)
+put-verdict-requires c κs =
+    let whole = c .before .before .before .before .before .before .before in
+    let put-mesh = c .before .before .before .put-mesh in
+    verdict-room _ _ _ _ _ _ (whole-room whole) (put-mesh .ensures)
 
 put-panels-requires : tie.Need-put-panels-requires
-put-panels-requires c κs = panels-room _ _ _ _ _ _ _ _ (whole-room (c .before .before .before .before .before .before .before .before .before .before .before)) (c .before .before .before .before .before .before .before .put-mesh .ensures) (c .before .before .before .put-verdict .ensures)
+put-panels-requires c κs =
+    let whole = c .before .before .before .before .before .before .before .before .before .before .before in
+    let put-mesh = c .before .before .before .before .before .before .before .put-mesh in
+    let put-verdict = c .before .before .before .put-verdict in
+    panels-room _ _ _ _ _ _ _ _ (whole-room whole) (put-mesh .ensures) (put-verdict .ensures)
 
 put-wires-requires : tie.Need-put-wires-requires
-put-wires-requires c κs = record { within = c .before .before .before .before .before .before .before .before .before .before .before .before .before .before .before .before .pre .within; room = hems-room _ _ _ _ _ _ _ _ _ _ (whole-room (c .before .before .before .before .before .before .before .before .before .before .before .before .before .before .before)) (c .before .before .before .before .before .before .before .before .before .before .before .put-mesh .ensures) (c .before .before .before .before .before .before .before .put-verdict .ensures) (c .before .before .before .put-panels .ensures) }
+put-wires-requires c κs =
+    let pre = c .before .before .before .before .before .before .before .before .before .before .before .before .before .before .before .before .pre in
+    let whole = c .before .before .before .before .before .before .before .before .before .before .before .before .before .before .before in
+    let put-mesh = c .before .before .before .before .before .before .before .before .before .before .before .put-mesh in
+    let put-verdict = c .before .before .before .before .before .before .before .put-verdict in
+    let put-panels = c .before .before .before .put-panels in
+    record {
+      within = pre .within;
+      room = hems-room _ _ _ _ _ _ _ _ _ _ (whole-room whole) (put-mesh .ensures) (put-verdict .ensures) (put-panels .ensures);
+    }
 
 same-length : tie.Need-same-length
 same-length c = search needs
 
 returns : tie.Need-returns
 returns c =
-    sheeted (whole-room (c .before .before .before .before .before .before .before .before .before .before .before .before .before .before .before .before .before .before))
-    (sheet-written _ _ _ _ _ _ _ _ _ _ _ _ (c .before .before .before .before .before .before .before .before .before .before .before .before .before .before .put-mesh .ensures) (c .before .before .before .before .before .before .before .before .before .before .put-verdict .ensures) (c .before .before .before .before .before .before .put-panels .ensures) (c .before .before .put-wires .ensures))
+    let at-mesh = c .before .before .before .before .before .before .before .before .before .before .before .before .before .before in
+    let verdict = c .before .before .before .before .before .before .before .before .before .before .put-verdict in
+    let panels = c .before .before .before .before .before .before .put-panels in
+    let wires = c .before .before .put-wires in
+    sheeted (whole-room (at-mesh .before .before .before .before))
+    (sheet-written _ _ _ _ _ _ _ _ _ _ _ _ (at-mesh .put-mesh .ensures) (verdict .ensures) (panels .ensures) (wires .ensures))
 
 pub put-sheet-spec : {M : Type 1} → statement M
 put-sheet-spec =

@@ -23,7 +23,10 @@ same-length : tie.Need-same-length
 same-length c = search needs
 
 returns : tie.Need-returns
-returns c = long-stored _ _ (c .before .before .before .before .before .before .before .before .before .args .x) _ _ (c .before .before .before .before .before .before .put-word .ensures) (c .before .before .put-word2 .ensures)
+returns c =
+    let first = c .before .before .before .before .before .before in
+    let start = first .before .before .before in
+    long-stored _ _ (start .args .x) _ _ (first .put-word .ensures) (c .before .before .put-word2 .ensures)
 
 pub put-long-spec : {M : Type 1} → statement M
 put-long-spec =

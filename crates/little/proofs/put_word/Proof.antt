@@ -17,7 +17,10 @@ same-length : tie.Need-same-length
 same-length c = search needs
 
 returns : tie.Need-returns
-returns c = word-stored _ _ (c .before .before .before .before .before .before .before .before .before .args .x) _ _ (c .before .before .before .before .before .before .put-half .ensures) (c .before .before .put-half2 .ensures)
+returns c =
+    let first = c .before .before .before .before .before .before in
+    let start = first .before .before .before in
+    word-stored _ _ (start .args .x) _ _ (first .put-half .ensures) (c .before .before .put-half2 .ensures)
 
 pub put-word-spec : {M : Type 1} → statement M
 put-word-spec =

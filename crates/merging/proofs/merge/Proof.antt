@@ -1,4 +1,4 @@
--- the mesh that is lent
+-- `merging::merge` meets its contract: each of the three lists is merged, then the corners are sent, by the laws of `Whole`. Assumes nothing.
 use mathlib.Core.Path.{sym, _∙_}
 use Prim.Native.Nat.{ℕ}
 use native.Mathlib.Omega.{arith}
@@ -11,19 +11,20 @@ use Rattle.merging.proofs.Whole.{positions-ready, positions-few, textur
 use Rattle.merging.proofs.merge.Statement.{statement}
 use Rattle.merging.proofs.merge.Tie as tie
 
+-- the mesh that is lent
 abbrev whole : tie.Start → Mesh
-whole c = meshOf (now (c .args .positions)) (now (c .args .textures)) (now (c .args .normals)) (now (c .args .corners)) (now (c .args .sizes))
+whole c =
+    meshOf (now (c .args .positions)) (now (c .args .textures)) (now (c .args .normals)) (now (c .args .corners)) (now (c .args .sizes))
 
 slice-aggregate-merge-positions : tie.Need-slice-aggregate-merge-positions
 slice-aggregate-merge-positions c = search needs
 
 merge-positions-requires : tie.Need-merge-positions-requires
 merge-positions-requires c κs =
-    let before = c .before .before .before .before .before .before .before in
-    let args = c .before .before .before .before .before .before .before .args in
-    let pre = c .before .before .before .before .before .before .before .pre in (
-      positions-ready (whole (before)) (args .t) (now (args .out)) pre,
-      omega (arith, positions-few (whole (before)) (args .t) (now (args .out)) pre, length-replicate {A = ℕ} entryLimit 0),
+    let start = c .before .before .before .before .before .before .before in
+    let args = start .args in (
+      positions-ready (whole start) (args .t) (now (args .out)) (start .pre),
+      omega (arith, positions-few (whole start) (args .t) (now (args .out)) (start .pre), length-replicate {A = ℕ} entryLimit 0),
     )
 
 slice-aggregate-merge-list : tie.Need-slice-aggregate-merge-list
@@ -31,20 +32,18 @@ slice-aggregate-merge-list c = search needs
 
 merge-list-requires : tie.Need-merge-list-requires
 merge-list-requires c κs =
-    let before = c .before .before .before .before .before .before .before .before .before .before in
-    let args = c .before .before .before .before .before .before .before .before .before .before .args in
-    let pre = c .before .before .before .before .before .before .before .before .before .before .pre in
-    textures-ready (whole (before)) (args .t) (now (args .out)) pre _ (length-replicate {A = ℕ} entryLimit 0)
+    let start = c .before .before .before .before .before .before .before .before .before .before in
+    let args = start .args in
+    textures-ready (whole start) (args .t) (now (args .out)) (start .pre) _ (length-replicate {A = ℕ} entryLimit 0)
 
 slice-aggregate-merge-list-2 : tie.Need-slice-aggregate-merge-list-2
 slice-aggregate-merge-list-2 c = search needs
 
 merge-list-requires-2 : tie.Need-merge-list-requires-2
 merge-list-requires-2 c κs =
-    let before = c .before .before .before .before .before .before .before .before .before .before .before .before .before in
-    let args = c .before .before .before .before .before .before .before .before .before .before .before .before .before .args in
-    let pre = c .before .before .before .before .before .before .before .before .before .before .before .before .before .pre in
-    normals-ready (whole (before)) (args .t) (now (args .out)) pre _ (length-replicate {A = ℕ} entryLimit 0)
+    let start = c .before .before .before .before .before .before .before .before .before .before .before .before .before in
+    let args = start .args in
+    normals-ready (whole start) (args .t) (now (args .out)) (start .pre) _ (length-replicate {A = ℕ} entryLimit 0)
 
 slice-aggregate-send-corners : tie.Need-slice-aggregate-send-corners
 slice-aggregate-send-corners c = sym (c .before .before .before .before .before .before .before .before .merge-positions .kept .1 .1 .0 ∙ length-replicate {A = ℕ} entryLimit 0)
@@ -57,28 +56,32 @@ slice-aggregate-send-corners-3 c = sym (c .before .before .before .before .merge
 
 send-corners-requires : tie.Need-send-corners-requires
 send-corners-requires c κs =
-    let before = c .before .before .before .before .before .before .before .before .before .before .before .before .before .before .before .before .before .before .before in
-    let args = c .before .before .before .before .before .before .before .before .before .before .before .before .before .before .before .before .before .before .before .args in
-    let pre = c .before .before .before .before .before .before .before .before .before .before .before .before .before .before .before .before .before .before .before .pre in
-    let merge-positions = c .before .before .before .before .before .before .before .before .before .before .before .merge-positions in
-    let merge-list = c .before .before .before .before .before .before .before .before .merge-list in
-    let merge-list2 = c .before .before .before .before .before .merge-list2 in
-    corners-ready (whole (before)) (args .t) (now (args .out)) pre _ _ _ (merge-positions .kept .1 .1 .0 ∙ length-replicate {A = ℕ} entryLimit 0)
-    (merge-list .kept .1 .1 .1 .1 .0 ∙ length-replicate {A = ℕ} entryLimit 0) (merge-list2 .kept .1 .1 .1 .1 .0 ∙ length-replicate {A = ℕ} entryLimit 0)
+    let at-normals = c .before .before .before .before .before in
+    let at-textures = at-normals .before .before .before in
+    let at-positions = at-textures .before .before .before in
+    let start = at-positions .before .before .before .before .before .before .before .before in
+    let args = start .args in
+    corners-ready (whole start) (args .t) (now (args .out)) (start .pre) _ _ _
+    (at-positions .merge-positions .kept .1 .1 .0 ∙ length-replicate {A = ℕ} entryLimit 0)
+    (at-textures .merge-list .kept .1 .1 .1 .1 .0 ∙ length-replicate {A = ℕ} entryLimit 0)
+    (at-normals .merge-list2 .kept .1 .1 .1 .1 .0 ∙ length-replicate {A = ℕ} entryLimit 0)
 
 same-length : tie.Need-same-length
 same-length c = search needs
 
 returns : tie.Need-returns
 returns c =
-    let before = c .before .before .before .before .before .before .before .before .before .before .before .before .before .before .before .before .before .before .before .before .before .before in
-    let args = c .before .before .before .before .before .before .before .before .before .before .before .before .before .before .before .before .before .before .before .before .before .before .args in
-    let pre = c .before .before .before .before .before .before .before .before .before .before .before .before .before .before .before .before .before .before .before .before .before .before .pre in
-    let merge-positions = c .before .before .before .before .before .before .before .before .before .before .before .before .before .before .merge-positions in
-    let merge-list = c .before .before .before .before .before .before .before .before .before .before .before .merge-list in
-    let merge-list2 = c .before .before .before .before .before .before .before .before .merge-list2 in
+    let at-normals = c .before .before .before .before .before .before .before .before in
+    let at-textures = at-normals .before .before .before in
+    let at-positions = at-textures .before .before .before in
+    let start = at-positions .before .before .before .before .before .before .before .before in
+    let args = start .args in
+    let merge-positions = at-positions .merge-positions in
+    let merge-list = at-textures .merge-list in
+    let merge-list2 = at-normals .merge-list2 in
     let send-corners = c .before .before .send-corners in
-    accepted-call (whole (before)) (args .t) (now (args .out)) pre _ _ _ _ _ _ (merge-positions .ensures .1) (merge-list .ensures .1) (merge-list2 .ensures .1) _ _ _ _
+    accepted-call (whole start) (args .t) (now (args .out)) (start .pre) _ _ _ _ _ _
+    (merge-positions .ensures .1) (merge-list .ensures .1) (merge-list2 .ensures .1) _ _ _ _
     (merge-positions .ensures .0) (merge-list .ensures .0) (merge-list2 .ensures .0) (send-corners .ensures)
 
 pub merge-spec : {M : Type 1} → statement M

@@ -1,4 +1,4 @@
--- the part of the room that is lent is the cells of the list
+-- `merging::merge_list` meets its contract, by the laws of `OneList`. Assumes nothing.
 use mathlib.Core.Path.{_≡_, sym}
 use Prim.Native.Nat.{ℕ}
 use native.Mathlib.Omega.{arith}
@@ -12,7 +12,10 @@ use Rattle.nearby.specs.Engine.{cellsOf}
 use Rattle.merging.proofs.merge_list.Statement.{statement}
 use Rattle.merging.proofs.merge_list.Tie as tie
 
-cells : (c : tie.After-fill-cells) → take (length (now (c .before .before .before .before .args .s))) (c .fill-cells .last .1 .1 .0) ≡ cellsOf (c .before .before .before .before .args .t) (now (c .before .before .before .before .args .s))
+-- the part of the room that is lent is the cells of the list
+cells :
+    (c : tie.After-fill-cells) → let args = c .before .before .before .before .args in
+    take (length (now (args .s))) (c .fill-cells .last .1 .1 .0) ≡ cellsOf (args .t) (now (args .s))
 cells c =
     let pre = c .before .before .before .before .pre in
     let fill-cells = c .fill-cells in

@@ -1,4 +1,4 @@
--- the part of the room that is lent is the scaled list
+-- `merging::merge_positions` meets its contract, by the laws of `Scaling`. Assumes nothing.
 use mathlib.Core.Path.{_≡_, sym, subst}
 use native.Mathlib.Omega.{arith}
 use lib.Ieee.{ofBits, Float, binary64}
@@ -13,7 +13,10 @@ use Rattle.merging.proofs.Scaling.{none-merged, whole, scaled-are, merg
 use Rattle.merging.proofs.merge_positions.Statement.{statement}
 use Rattle.merging.proofs.merge_positions.Tie as tie
 
-scaled : (c : tie.After-scale) → take (length (now (c .before .before .before .before .before .args .positions))) (c .scale .last .1 .0) ≡ scaledList (now (c .before .before .before .before .before .args .positions))
+-- the part of the room that is lent is the scaled list
+scaled :
+    (c : tie.After-scale) → let positions = now (c .before .before .before .before .before .args .positions) in
+    take (length positions) (c .scale .last .1 .0) ≡ scaledList positions
 scaled c =
     let pre = c .before .before .before .before .before .pre in
     let scale = c .scale in

@@ -82,8 +82,12 @@ loop-again c =
     let distance22 = c .before .distance22 in
     let if1 = c .if1 in
     ⊎-elim
-    (λ v. choose-closer _ _ _ _ _ _ pre _ (group-centre .ensures) (loop .k) _ _ (test .taken) _ (attr-at2 .result) (attr-at2 .ensures) (distance22 .ensures) (loop .inv) _ _ (v .0 .taken) (v .2) (v .1))
-    (λ v. choose-not _ _ _ _ _ _ pre _ (group-centre .ensures) (loop .k) _ _ (test .taken) _ (attr-at2 .result) (attr-at2 .ensures) (distance22 .ensures) (loop .inv) _ _ (v .0 .left) (v .2) (v .1))
+    (λ v.
+    choose-closer _ _ _ _ _ _ pre _ (group-centre .ensures) (loop .k) _ _ (test .taken) _ (attr-at2 .result) (attr-at2 .ensures)
+    (distance22 .ensures) (loop .inv) _ _ (v .0 .taken) (v .2) (v .1))
+    (λ v.
+    choose-not _ _ _ _ _ _ pre _ (group-centre .ensures) (loop .k) _ _ (test .taken) _ (attr-at2 .result) (attr-at2 .ensures)
+    (distance22 .ensures) (loop .inv) _ _ (v .0 .left) (v .2) (v .1))
     (if1 .came)
 
 returns : tie.Need-returns Inv-loop μ-loop

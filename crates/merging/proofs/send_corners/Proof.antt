@@ -5,7 +5,7 @@ use native.Mathlib.Omega.{arith}
 use lib.ListN.{length, length-set}
 use denote.Ref.{now}
 use Rattle.mesh.specs.Limits.{width}
-use Rattle.merging.proofs.Corners.{Writing, write-begins, write-turns, write-ends}
+use Rattle.merging.proofs.Corners.{Writing, Inside, write-inside, write-begins, write-turns, write-ends}
 use Rattle.merging.proofs.send_corners.Statement.{statement}
 use Rattle.merging.proofs.send_corners.Tie as tie
 
@@ -20,26 +20,24 @@ loop-holds c =
     let args = c .before .before .before .before .before .args in
     write-begins (now (args .corners)) (now (args .pmap)) (now (args .tmap)) (now (args .nmap)) _
 
+-- while the loop runs, the corner that is sent is one of those that are lent
+inside :
+    (c : tie.In-loop Inv-loop μ-loop) →
+    let at-loop = c .before in
+    let start = at-loop .before .before .before .before .before .before in
+    Inside (now (start .args .corners)) (at-loop .loop .out) (at-loop .loop .k)
+inside c =
+    let start = c .before .before .before .before .before .before .before in
+    write-inside _ _ _ _ _ _ _ (start .pre) (c .loop-test .taken) (c .before .loop .inv)
+
 mul-at : tie.Need-mul-at Inv-loop μ-loop
-mul-at c =
-    let pre = c .before .before .before .before .before .before .before .pre in
-    let loop = c .before .loop in
-    let test = c .loop-test in
-    omega (arith, pre .few, pre .even, pre .room, loop .inv .long, test .taken)
+mul-at c = let i = inside c in omega (arith, i .few, i .read, i .write)
 
 mul-out : tie.Need-mul-out Inv-loop μ-loop
-mul-out c =
-    let pre = c .before .before .before .before .before .before .before .pre in
-    let loop = c .before .loop in
-    let test = c .loop-test in
-    omega (arith, pre .few, pre .even, pre .room, loop .inv .long, test .taken)
+mul-out c = let i = inside c in omega (arith, i .few, i .read, i .write)
 
 shared-slice-read-out : tie.Need-shared-slice-read-out Inv-loop μ-loop
-shared-slice-read-out c =
-    let pre = c .before .before .before .before .before .before .before .before .pre in
-    let loop = c .before .before .loop in
-    let test = c .before .loop-test in
-    omega (arith, pre .few, pre .even, pre .room, loop .inv .long, test .taken)
+shared-slice-read-out c = let i = inside (c .before) in omega (arith, i .few, i .read, i .write)
 
 cast-out : tie.Need-cast-out Inv-loop μ-loop
 cast-out c =
@@ -61,39 +59,19 @@ shared-slice-read-out-2 : tie.Need-shared-slice-read-out-2 Inv-loop μ-loop
 shared-slice-read-out-2 c = c .before .before .before .before .before .before .before .before .before .pre .positions (c .before .before .before .loop .k) (c .before .before .loop-test .taken)
 
 mul-out-3 : tie.Need-mul-out-3 Inv-loop μ-loop
-mul-out-3 c =
-    let pre = c .before .before .before .before .before .before .before .before .before .pre in
-    let loop = c .before .before .before .loop in
-    let test = c .before .before .loop-test in
-    omega (arith, pre .few, pre .even, pre .room, loop .inv .long, test .taken)
+mul-out-3 c = let i = inside (c .before .before) in omega (arith, i .few, i .read, i .write)
 
 slice-write-out : tie.Need-slice-write-out Inv-loop μ-loop
-slice-write-out c =
-    let pre = c .before .before .before .before .before .before .before .before .before .pre in
-    let loop = c .before .before .before .loop in
-    let test = c .before .before .loop-test in
-    omega (arith, pre .few, pre .even, pre .room, loop .inv .long, test .taken)
+slice-write-out c = let i = inside (c .before .before) in omega (arith, i .few, i .read, i .write)
 
 add-sent : tie.Need-add-sent Inv-loop μ-loop
-add-sent c =
-    let pre = c .before .before .before .before .before .before .before .before .before .pre in
-    let loop = c .before .before .before .loop in
-    let test = c .before .before .loop-test in
-    omega (arith, pre .few, pre .even, pre .room, loop .inv .long, test .taken)
+add-sent c = let i = inside (c .before .before) in omega (arith, i .few, i .read, i .write)
 
 mul-sent : tie.Need-mul-sent Inv-loop μ-loop
-mul-sent c =
-    let pre = c .before .before .before .before .before .before .before .before .before .pre in
-    let loop = c .before .before .before .loop in
-    let test = c .before .before .loop-test in
-    omega (arith, pre .few, pre .even, pre .room, loop .inv .long, test .taken)
+mul-sent c = let i = inside (c .before .before) in omega (arith, i .few, i .read, i .write)
 
 shared-slice-read-sent : tie.Need-shared-slice-read-sent Inv-loop μ-loop
-shared-slice-read-sent c =
-    let pre = c .before .before .before .before .before .before .before .before .before .before .pre in
-    let loop = c .before .before .before .before .loop in
-    let test = c .before .before .before .loop-test in
-    omega (arith, pre .few, pre .even, pre .room, loop .inv .long, test .taken)
+shared-slice-read-sent c = let i = inside (c .before .before .before) in omega (arith, i .few, i .read, i .write)
 
 sent-requires : tie.Need-sent-requires Inv-loop μ-loop
 sent-requires c κs =
@@ -103,46 +81,22 @@ sent-requires c κs =
     pre .textures (loop .k) (test .taken)
 
 add-out : tie.Need-add-out Inv-loop μ-loop
-add-out c =
-    let pre = c .before .before .before .before .before .before .before .before .before .before .before .pre in
-    let loop = c .before .before .before .before .before .loop in
-    let test = c .before .before .before .before .loop-test in
-    omega (arith, pre .few, pre .even, pre .room, loop .inv .long, test .taken)
+add-out c = let i = inside (c .before .before .before .before) in omega (arith, i .few, i .read, i .write)
 
 mul-out-4 : tie.Need-mul-out-4 Inv-loop μ-loop
-mul-out-4 c =
-    let pre = c .before .before .before .before .before .before .before .before .before .before .before .pre in
-    let loop = c .before .before .before .before .before .loop in
-    let test = c .before .before .before .before .loop-test in
-    omega (arith, pre .few, pre .even, pre .room, loop .inv .long, test .taken)
+mul-out-4 c = let i = inside (c .before .before .before .before) in omega (arith, i .few, i .read, i .write)
 
 slice-write-out-2 : tie.Need-slice-write-out-2 Inv-loop μ-loop
-slice-write-out-2 c =
-    let pre = c .before .before .before .before .before .before .before .before .before .before .before .pre in
-    let loop = c .before .before .before .before .before .loop in
-    let test = c .before .before .before .before .loop-test in
-    simp length-set (omega (arith, pre .few, pre .even, pre .room, loop .inv .long, test .taken))
+slice-write-out-2 c = let i = inside (c .before .before .before .before) in simp length-set (omega (arith, i .few, i .read, i .write))
 
 add-sent-2 : tie.Need-add-sent-2 Inv-loop μ-loop
-add-sent-2 c =
-    let pre = c .before .before .before .before .before .before .before .before .before .before .before .pre in
-    let loop = c .before .before .before .before .before .loop in
-    let test = c .before .before .before .before .loop-test in
-    omega (arith, pre .few, pre .even, pre .room, loop .inv .long, test .taken)
+add-sent-2 c = let i = inside (c .before .before .before .before) in omega (arith, i .few, i .read, i .write)
 
 mul-sent-2 : tie.Need-mul-sent-2 Inv-loop μ-loop
-mul-sent-2 c =
-    let pre = c .before .before .before .before .before .before .before .before .before .before .before .pre in
-    let loop = c .before .before .before .before .before .loop in
-    let test = c .before .before .before .before .loop-test in
-    omega (arith, pre .few, pre .even, pre .room, loop .inv .long, test .taken)
+mul-sent-2 c = let i = inside (c .before .before .before .before) in omega (arith, i .few, i .read, i .write)
 
 shared-slice-read-sent-2 : tie.Need-shared-slice-read-sent-2 Inv-loop μ-loop
-shared-slice-read-sent-2 c =
-    let pre = c .before .before .before .before .before .before .before .before .before .before .before .before .pre in
-    let loop = c .before .before .before .before .before .before .loop in
-    let test = c .before .before .before .before .before .loop-test in
-    omega (arith, pre .few, pre .even, pre .room, loop .inv .long, test .taken)
+shared-slice-read-sent-2 c = let i = inside (c .before .before .before .before .before) in omega (arith, i .few, i .read, i .write)
 
 sent-requires-2 : tie.Need-sent-requires-2 Inv-loop μ-loop
 sent-requires-2 c κs =
@@ -152,39 +106,19 @@ sent-requires-2 c κs =
     pre .normals (loop .k) (test .taken)
 
 add-out-2 : tie.Need-add-out-2 Inv-loop μ-loop
-add-out-2 c =
-    let pre = c .before .before .before .before .before .before .before .before .before .before .before .before .before .pre in
-    let loop = c .before .before .before .before .before .before .before .loop in
-    let test = c .before .before .before .before .before .before .loop-test in
-    omega (arith, pre .few, pre .even, pre .room, loop .inv .long, test .taken)
+add-out-2 c = let i = inside (c .before .before .before .before .before .before) in omega (arith, i .few, i .read, i .write)
 
 mul-out-5 : tie.Need-mul-out-5 Inv-loop μ-loop
-mul-out-5 c =
-    let pre = c .before .before .before .before .before .before .before .before .before .before .before .before .before .pre in
-    let loop = c .before .before .before .before .before .before .before .loop in
-    let test = c .before .before .before .before .before .before .loop-test in
-    omega (arith, pre .few, pre .even, pre .room, loop .inv .long, test .taken)
+mul-out-5 c = let i = inside (c .before .before .before .before .before .before) in omega (arith, i .few, i .read, i .write)
 
 slice-write-out-3 : tie.Need-slice-write-out-3 Inv-loop μ-loop
-slice-write-out-3 c =
-    let pre = c .before .before .before .before .before .before .before .before .before .before .before .before .before .pre in
-    let loop = c .before .before .before .before .before .before .before .loop in
-    let test = c .before .before .before .before .before .before .loop-test in
-    simp length-set (omega (arith, pre .few, pre .even, pre .room, loop .inv .long, test .taken))
+slice-write-out-3 c = let i = inside (c .before .before .before .before .before .before) in simp length-set (omega (arith, i .few, i .read, i .write))
 
 add-k : tie.Need-add-k Inv-loop μ-loop
-add-k c =
-    let pre = c .before .before .before .before .before .before .before .before .before .before .before .before .before .pre in
-    let loop = c .before .before .before .before .before .before .before .loop in
-    let test = c .before .before .before .before .before .before .loop-test in
-    omega (arith, pre .few, pre .even, pre .room, loop .inv .long, test .taken)
+add-k c = let i = inside (c .before .before .before .before .before .before) in omega (arith, i .few, i .read, i .write)
 
 loop-less : tie.Need-loop-less Inv-loop μ-loop
-loop-less c =
-    let pre = c .before .before .before .before .before .before .before .before .before .before .before .before .before .pre in
-    let loop = c .before .before .before .before .before .before .before .loop in
-    let test = c .before .before .before .before .before .before .loop-test in
-    omega (arith, pre .few, pre .even, pre .room, loop .inv .long, test .taken)
+loop-less c = omega (arith, c .before .before .before .before .before .before .loop-test .taken)
 
 loop-again : tie.Need-loop-again Inv-loop μ-loop
 loop-again c =

@@ -4,7 +4,8 @@ use Prim.Native.Nat.{_-_}
 use native.Mathlib.Omega.{arith}
 use borrow.Author.Needs.{needs}
 use Rattle.nearby.specs.Engine.{nearBy}
-use Rattle.nearby.proofs.Gathering.{Gathering, gather-begins, gather-old, found-in, gather-new, gather-ends}
+use Rattle.nearby.proofs.Gathering.{Gathering, gather-begins, gather-old, found-in, gather-ends}
+use Rattle.nearby.proofs.NewGroup.{gather-new}
 use Rattle.nearby.proofs.create_components.Statement.{statement}
 use Rattle.nearby.proofs.create_components.Tie as tie
 

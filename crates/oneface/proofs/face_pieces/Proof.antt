@@ -1,5 +1,6 @@
 -- `oneface::face_pieces` meets its contract: the size decides which rule the pieces follow. Assumes nothing.
-use Rattle.oneface.proofs.OneFace.{placed-as, three-pieces, four-pieces, more-pieces}
+use Rattle.grouping.proofs.Placing.{placed-as}
+use Rattle.oneface.proofs.OneFace.{three-pieces, four-pieces, more-pieces}
 use borrow.Author.Needs.{needs}
 use Rattle.oneface.proofs.face_pieces.Statement.{statement}
 use Rattle.oneface.proofs.face_pieces.Tie as tie

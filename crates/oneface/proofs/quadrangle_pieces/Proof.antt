@@ -2,9 +2,9 @@
 use mathlib.Core.Path.{sym, ap, _∙_}
 use mathlib.Core.List.{[], _∷_}
 use Rattle.mesh.specs.Mesh.{Ring}
-use Rattle.grouping.proofs.Placing.{placed-none}
+use Rattle.grouping.proofs.Placing.{placed-none, placed-as}
 use Rattle.folding.specs.Folding.{withoutQ1, withoutQ3}
-use Rattle.oneface.proofs.OneFace.{placed-as, quad-left}
+use Rattle.oneface.proofs.OneFace.{face-room, quad-left}
 use borrow.Author.Needs.{needs}
 use Rattle.oneface.proofs.quadrangle_pieces.Statement.{statement}
 use Rattle.oneface.proofs.quadrangle_pieces.Tie as tie
@@ -39,8 +39,8 @@ put-triangle-requires-2 c κs = search needs
 enum-told-4 : tie.Need-enum-told-4
 enum-told-4 c = search needs
 
-put-quadrangle-requires : tie.Need-put-quadrangle-requires
-put-quadrangle-requires c κs = search needs
+put-face-requires : tie.Need-put-face-requires
+put-face-requires c κs = face-room _ _ _ _ _ _ (c .before .before .before .before .before .before .before .before .before .pre)
 
 returns : tie.Need-returns
 returns c =
@@ -94,7 +94,7 @@ returns-4 c =
     let e = quad .ensures in
     let answer = c .before .before .before .before .before .before .before .before .before .degenerate-quadrangle .ensures in
     let left = quad-left face (quad .result) _ _ e answer (c .before .before .before .before .before .before .before .enum-told4 .given .1) in
-    placed-as (left ∙ ap (λ (t : Ring). t ∷ []) (sym e)) (c .before .before .before .before .put-quadrangle .ensures)
+    placed-as left (c .before .before .before .before .put-face .ensures)
 
 pub quadrangle-pieces-spec : {M : Type 1} → statement M
 quadrangle-pieces-spec =
@@ -110,7 +110,7 @@ quadrangle-pieces-spec =
     without-q3-requires
     put-triangle-requires-2
     enum-told-4
-    put-quadrangle-requires
+    put-face-requires
     returns
     same-length
     same-length-2

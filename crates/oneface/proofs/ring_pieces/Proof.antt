@@ -2,7 +2,8 @@
 use mathlib.Core.Path.{sym, ap}
 use lib.Seq.{length-take-le}
 use Rattle.folding.specs.Folding.{ringPieces}
-use Rattle.oneface.proofs.OneFace.{placed-as, face-room, ring-kept}
+use Rattle.grouping.proofs.Placing.{placed-as}
+use Rattle.oneface.proofs.OneFace.{face-room, ring-kept}
 use native.Mathlib.Omega.{arith}
 use borrow.Author.Needs.{needs}
 use Rattle.oneface.proofs.ring_pieces.Statement.{statement}

@@ -1,5 +1,5 @@
 -- `oneface::triangle_pieces` meets its contract: a folded triangle goes, any other stays. Assumes nothing.
-use Rattle.oneface.proofs.OneFace.{triangle-none, triangle-put}
+use Rattle.oneface.proofs.OneFace.{face-room, triangle-none, triangle-kept}
 use borrow.Author.Needs.{needs}
 use Rattle.oneface.proofs.triangle_pieces.Statement.{statement}
 use Rattle.oneface.proofs.triangle_pieces.Tie as tie
@@ -16,8 +16,8 @@ returns c =
     let tri = c .before .before .tri-of in
     triangle-none face (tri .result) _ _ _ _ _ (tri .ensures) (c .before .degenerate-triangle .ensures) (c .if1 .taken)
 
-put-triangle-requires : tie.Need-put-triangle-requires
-put-triangle-requires c κs = search needs
+put-face-requires : tie.Need-put-face-requires
+put-face-requires c κs = face-room _ _ _ _ _ _ (c .before .before .before .before .before .before .before .before .pre)
 
 same-length : tie.Need-same-length
 same-length c = search needs
@@ -31,7 +31,7 @@ returns-2 c =
     let tri = c .before .before .before .before .before .before .before .before .before .tri-of in
     let test = c .before .before .before .before .before .before .before .before .degenerate-triangle .ensures in
     let left = c .before .before .before .before .before .before .before .if1 .left in
-    triangle-put face (tri .result) _ (tri .ensures) test left (c .before .before .before .before .put-triangle .ensures)
+    triangle-kept face (tri .result) _ (tri .ensures) test left (c .before .before .before .before .put-face .ensures)
 
 pub triangle-pieces-spec : {M : Type 1} → statement M
 triangle-pieces-spec =
@@ -40,7 +40,7 @@ triangle-pieces-spec =
     tri-of-requires
     degenerate-triangle-requires
     returns
-    put-triangle-requires
+    put-face-requires
     same-length
     same-length-2
     returns-2)

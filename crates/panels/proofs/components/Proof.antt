@@ -17,34 +17,33 @@ refused-requires c κs = search needs
 
 returns : tie.Need-returns
 returns c =
-    let no = c .refused .ensures in
     let number = c .before .before .number in
     let given = c .before .before .before .before .before .before .before .before .before .before .args in
     let mesh = meshOf (given .positions .now) (given .textures .now) (given .normals .now) (given .corners .now) (given .sizes .now) in
-    refused-mesh mesh (given .use-normal) _ _ _ _ _ _ (number .ensures) (c .before .if1 .taken) (no .0) (no .1) (no .2)
+    refused-mesh mesh (given .use-normal) _ _ _ _ (number .ensures) (c .before .if1 .taken) (c .refused .ensures)
 
 refused-requires-2 : tie.Need-refused-requires-2
 refused-requires-2 c κs = search needs
 
 returns-2 : tie.Need-returns-2
 returns-2 c =
-    let no = c .refused2 .ensures in
     let number = c .before .before .before .number in
+    let zero = c .before .before .if1 .left in
     let given = c .before .before .before .before .before .before .before .before .before .before .before .args in
     let mesh = meshOf (given .positions .now) (given .textures .now) (given .normals .now) (given .corners .now) (given .sizes .now) in
-    refused-flat mesh (given .use-normal) _ _ _ _ _ _ (number .ensures) (c .before .before .if1 .left) (c .before .if2 .taken) (no .0) (no .1) (no .2)
+    refused-flat mesh (given .use-normal) _ _ _ _ (number .ensures) zero (c .before .if2 .taken) (c .refused2 .ensures)
 
 refused-requires-3 : tie.Need-refused-requires-3
 refused-requires-3 c κs = search needs
 
 returns-3 : tie.Need-returns-3
 returns-3 c =
-    let no = c .refused3 .ensures in
     let number = c .before .before .before .before .number in
+    let zero = c .before .before .before .if1 .left in
     let given = c .before .before .before .before .before .before .before .before .before .before .before .before .args in
     let mesh = meshOf (given .positions .now) (given .textures .now) (given .normals .now) (given .corners .now) (given .sizes .now) in
-    refused-lengths mesh (given .use-normal) _ _ _ _ _ _ (number .ensures) (c .before .before .before .if1 .left) (c .before .before .if2 .left)
-    (c .before .if3 .taken) (no .0) (no .1) (no .2)
+    refused-lengths mesh (given .use-normal) _ _ _ _ (number .ensures) zero (c .before .before .if2 .left) (c .before .if3 .taken)
+    (c .refused3 .ensures)
 
 components-of-requires : tie.Need-components-of-requires
 components-of-requires c κs =

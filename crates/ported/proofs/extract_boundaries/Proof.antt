@@ -72,7 +72,7 @@ returns-4 c =
     let if2 = c .before .before .before .before .before .before .before .before .if2 in
     let if3 = c .before .before .before .before .before .before .before .if3 in
     let ported-of = c .before .before .before .before .ported-of in
-    result refl (ported-done _ _ _ (sym (number .ensures) ∙ if1 .left) (if2 .left) (if3 .left)) (ported-of .ensures)
+    result (ported-done _ _ _ (sym (number .ensures) ∙ if1 .left) (if2 .left) (if3 .left)) (ported-of .ensures)
 
 pub extract-boundaries-spec : {M : Type 1} → statement M
 extract-boundaries-spec =

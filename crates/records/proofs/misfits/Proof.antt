@@ -3,7 +3,7 @@ use mathlib.Core.Path.{sym, ap}
 use mathlib.Core.Bool.{not}
 use borrow.Author.Tests.{le-leb, lt-leb}
 use Rattle.records.specs.Records.{lengthFits}
-use Rattle.records.proofs.Recorded.{fits-24}
+use Rattle.records.proofs.Recorded.{fits-point}
 use Rattle.records.proofs.misfits.Statement.{statement}
 use Rattle.records.proofs.misfits.Tie as tie
 
@@ -24,7 +24,7 @@ unfolding lengthFits
 returns-4 c = rw (c .before .if3 .taken, lt-leb _ _ (c .if4 .left))
 
 returns-5 : tie.Need-returns-5
-returns-5 c = ap not (sym (fits-24 _ _ (c .before .before .before .pre) (c .before .before .if1 .left) (c .before .if2 .left) (c .if3 .left)))
+returns-5 c = ap not (sym (fits-point _ _ (c .before .before .before .pre) (c .before .before .if1 .left) (c .before .if2 .left) (c .if3 .left)))
 
 pub misfits-spec : {M : Type 1} → statement M
 misfits-spec = tie.close (tie.spec returns returns-2 returns-3 returns-4 returns-5)

@@ -49,7 +49,8 @@ returns-4 c =
     let at-if3 = c .before in
     let at-if2 = at-if3 .before .before in
     let at-half = at-if2 .before .before in
-    body-cut _ _ _ _ (at-half .before .if1 .left) (at-half .half .ensures .0) (at-if2 .before .half2 .ensures .0) (at-if2 .if2 .left) (sym (at-if3 .before .misfits .ensures) ∙ at-if3 .if3 .left) (c .if4 .taken)
+    body-cut _ _ _ _ (at-half .before .if1 .left) (at-half .half .ensures .0) (at-if2 .before .half2 .ensures .0) (at-if2 .if2 .left)
+    (sym (at-if3 .before .misfits .ensures) ∙ at-if3 .if3 .left) (c .if4 .taken)
 
 body-requires : tie.Need-body-requires
 body-requires c κs = (c .before .before .before .if2 .left, (omega arith, not-false _ (sym (c .before .before .misfits .ensures) ∙ c .before .if3 .left)))
@@ -60,7 +61,9 @@ returns-5 c =
     let at-misfits = at-if4 .before .before in
     let at-half2 = at-misfits .before .before in
     let at-if1 = at-half2 .before .before in
-    c .body .ensures ∙ body-whole _ _ _ _ (at-if1 .if1 .left) (at-half2 .before .half .ensures .0) (at-half2 .half2 .ensures .0) (at-misfits .before .if2 .left) (sym (at-misfits .misfits .ensures) ∙ at-if4 .before .if3 .left) (at-if4 .if4 .left)
+    c .body .ensures
+    ∙ body-whole _ _ _ _ (at-if1 .if1 .left) (at-half2 .before .half .ensures .0) (at-half2 .half2 .ensures .0)
+    (at-misfits .before .if2 .left) (sym (at-misfits .misfits .ensures) ∙ at-if4 .before .if3 .left) (at-if4 .if4 .left)
 
 pub record-at-spec : {M : Type 1} → statement M
 record-at-spec =

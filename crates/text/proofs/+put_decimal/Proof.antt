@@ -5,7 +5,8 @@ use native.Mathlib.Omega.{arith}
 use Prim.Native.Nat.{ℕ, _<_}
 use borrow.Fn.Kinds.{In}
 use borrow.Fn.PlainCycle.{Measures, is, falls, and}
-use Rattle.text.proofs.Putting.{written-long, room-digit, written-digit, room-tenth, room-last, written-last}
+use Rattle.lists.proofs.Listing.{written-long}
+use Rattle.text.proofs.Putting.{room-digit, written-digit, room-tenth, room-last, written-last}
 use Rattle.text.proofs.put_decimal.Reads as reads
 use Rattle.text.proofs.put_decimal.Kinds as kinds
 use Rattle.text.proofs.+put_decimal.Lts-put_decimal as lts
@@ -51,16 +52,26 @@ module _ (t : ℕ) where
   digit-requires-2 c κs = search needs
 
   slice-write-out-2 : lts.Need-slice-write-out-2 claims (at t) reads.Post
-  slice-write-out-2 c = room-last _ _ _ _ _ (c .before .before .before .before .before .if1 .left) (c .before .before .before .before .before .before .before .pre .1) (c .before .before .before .put-decimal .ensures)
+  slice-write-out-2 c =
+      let if1 = c .before .before .before .before .before .if1 in
+      let pre = c .before .before .before .before .before .before .before .pre in
+      let put-decimal = c .before .before .before .put-decimal in
+      room-last _ _ _ _ _ (if1 .left) (pre .1) (put-decimal .ensures)
 
   add-result-2 : lts.Need-add-result-2 claims (at t) reads.Post
-  add-result-2 c = omega (arith, slice-write-out-2 c, written-long _ _ _ _ _ (c .before .before .before .put-decimal .ensures), c .before .before .before .before .before .before .before .good .1 .0 .0)
+  add-result-2 c =
+      let put-decimal = c .before .before .before .put-decimal in
+      let good = c .before .before .before .before .before .before .before .good in
+      omega (arith, slice-write-out-2 c, written-long _ _ _ _ _ (put-decimal .ensures), good .1 .0 .0)
 
   same-length-2 : lts.Need-same-length-2 claims (at t) reads.Post
   same-length-2 c = search needs
 
   returns-2 : lts.Need-returns-2 claims (at t) reads.Post
-  returns-2 c = written-last _ _ _ _ _ _ (c .before .before .before .before .before .if1 .left) (c .digit2 .ensures) (c .before .before .before .put-decimal .ensures)
+  returns-2 c =
+      let if1 = c .before .before .before .before .before .if1 in
+      let put-decimal = c .before .before .before .put-decimal in
+      written-last _ _ _ _ _ _ (if1 .left) (c .digit2 .ensures) (put-decimal .ensures)
 
 pub +put-decimal-spec : {M : Type 1} → statement M
 +put-decimal-spec =

@@ -1,7 +1,8 @@
 -- `text::put_numbers` meets its contract: the first i numbers are put, each behind a space, and i rises to all of them. Assumes nothing.
 use Prim.Native.Nat.{_-_}
 use lib.ListN.{length}
-use Rattle.text.proofs.Putting.{written-long, Listing, listing-begins, listing-room, listing-turns, listing-ends, numberText, spaced-numbers}
+use Rattle.lists.proofs.Listing.{written-long, Listing, listing-begins, listing-room, listing-turns, listing-ends}
+use Rattle.text.proofs.Putting.{numberText, spaced-numbers}
 use borrow.Author.Needs.{needs}
 use Rattle.text.proofs.put_numbers.Statement.{statement}
 use Rattle.text.proofs.put_numbers.Tie as tie
@@ -22,7 +23,11 @@ shared-slice-read-put-number : tie.Need-shared-slice-read-put-number Inv-loop μ
 shared-slice-read-put-number c = search needs
 
 put-number-requires : tie.Need-put-number-requires Inv-loop μ-loop
-put-number-requires c κs = listing-room 0 numberText _ _ _ _ _ _ (c .before .before .loop-test .taken) (rw spaced-numbers at (c .before .before .before .before .before .before .pre)) (c .before .before .before .loop .inv)
+put-number-requires c κs =
+    let loop-test = c .before .before .loop-test in
+    let pre = c .before .before .before .before .before .before .pre in
+    let loop = c .before .before .before .loop in
+    listing-room 0 numberText _ _ _ _ _ _ (loop-test .taken) (rw spaced-numbers at pre) (loop .inv)
 
 add-i : tie.Need-add-i Inv-loop μ-loop
 add-i c = search needs
@@ -31,7 +36,11 @@ loop-less : tie.Need-loop-less Inv-loop μ-loop
 loop-less c = search needs
 
 loop-again : tie.Need-loop-again Inv-loop μ-loop
-loop-again c = listing-turns 0 numberText _ _ _ _ _ _ _ _ (c .before .before .before .before .before .loop-test .taken) (c .before .before .before .before .before .before .loop .inv) (c .before .before .put-number .ensures)
+loop-again c =
+    let loop-test = c .before .before .before .before .before .loop-test in
+    let loop = c .before .before .before .before .before .before .loop in
+    let put-number = c .before .before .put-number in
+    listing-turns 0 numberText _ _ _ _ _ _ _ _ (loop-test .taken) (loop .inv) (put-number .ensures)
 
 same-length : tie.Need-same-length Inv-loop μ-loop
 same-length c = written-long _ _ _ _ _ (c .before .loop .inv .put)

@@ -1,0 +1,5 @@
+pub mod Sides
+pub mod Filling
+pub mod Facing
+pub mod Reading
+pub mod Gathering
