@@ -1,0 +1,4 @@
+-- the rules, to hold beside the document
+pub mod Cleaning
+-- what the steps hand to one another
+pub mod Working
