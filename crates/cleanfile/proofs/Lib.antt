@@ -2,3 +2,4 @@ pub mod Fronts
 pub mod Reading
 pub mod Unfolding
 pub mod Compacting
+pub mod Promised

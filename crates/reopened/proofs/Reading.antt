@@ -120,7 +120,7 @@ all-doubles s = from-is (suc (length s)) s (reader 0 0 false nothing) (record { 
 
 -- ---- the mesh of a file
 
-doubles-are : (s : List Float) → every isDouble s ≡ true → Doubles s
+pub doubles-are : (s : List Float) → every isDouble s ≡ true → Doubles s
 doubles-are s h k l = let e : isDouble (getD s k nan) ≡ true = every-at isDouble nan s k h l in rw e tt
 
 pub read-doubles : (file : List ℕ) → DoubleMesh (panelMesh file)

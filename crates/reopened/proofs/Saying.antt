@@ -130,7 +130,7 @@ every-both p q (x ∷ l) f g =
     rw (and-left (p x) (every p l) f, and-left (q x) (every q l) g) (every-both p q l (and-right (p x) (every p l) f) (and-right (q x) (every q l) g))
 
 -- f64 coordinates, as a test over the list
-doubles : (s : List Float) → Doubles s → every isDouble s ≡ true
+pub doubles : (s : List Float) → Doubles s → every isDouble s ≡ true
 doubles s d = every-all isDouble nan s (λ k l. is-true (isDouble (getD s k nan)) (d k l))
 
 double-points : (s : List Float) → every isDouble s ≡ true → every (λ (p : Point). every isDouble (coordinates p)) (pointsOf s) ≡ true
