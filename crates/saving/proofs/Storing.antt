@@ -64,7 +64,7 @@ no-nan (fin s m e) h = tt
 
 pub length-coordinate : (x : Float) → length (coordinateBytes x) ≡ 8
 unfolding coordinateBytes
-length-coordinate x = length-long (toBits binary64 x)
+length-coordinate x = length-long _
 
 pub coordinate-stored :
     (x : Float) (b : ℕ) (o o' : List ℕ) (at : ℕ) → b ≡ toBits binary64 x → o' ≡ sets o at (longBytes b)
@@ -72,7 +72,7 @@ pub coordinate-stored :
 unfolding coordinateBytes
 coordinate-stored x b o o' at h e = record {
   file = e ∙ ap (λ (n : ℕ). sets o at (longBytes n)) h;
-  place = omega (arith, length-long (toBits binary64 x));
+  place = omega (arith, length-coordinate x);
 }
 
 pub word-stored : (x : ℕ) (o o' : List ℕ) (at : ℕ) → o' ≡ sets o at (wordBytes x) → Stored (wordBytes x) o o' at (at + 4)

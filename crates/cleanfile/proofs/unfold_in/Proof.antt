@@ -1,5 +1,5 @@
--- `unfold_in` meets its contract: what removal gives stands at the front of the lists, and the file is that of the mesh there (`Unfolding`). Assumes nothing.
-use Rattle.cleanfile.proofs.Unfolding.{unfolded-given, unfolded-corners, unfolded-sizes, unfolded-ready, unfolded-filed}
+-- `unfold_in` meets its contract: what removal gives stands at the front of the lists, and the file is that of the mesh there (`Folded`). Assumes nothing.
+use Rattle.cleanfile.proofs.Folded.{unfolded-given, unfolded-corners, unfolded-sizes, unfolded-ready, unfolded-filed}
 use native.Mathlib.Omega.{arith}
 use borrow.Author.Needs.{needs}
 use Rattle.cleanfile.proofs.unfold_in.Statement.{statement}
