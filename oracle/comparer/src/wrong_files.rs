@@ -30,6 +30,10 @@ pub const CLEANER: &[(&str, Wrong)] = &[
     ("a file refused that is too long for a sheet", |q, right| {
         (right.number == 0 && q.file.len() > sheet::FILE).then(|| Answer::refused(Call::CleanPanel, 1))
     }),
+    ("a file taken that is longer than any of a mesh", longer_taken),
+    ("the length of a file asked before the room", |q, right| {
+        (right.number == 9 && q.file.len() > writing::LONGEST).then(|| Answer::refused(Call::CleanPanel, 1))
+    }),
 ];
 
 /// The right file with its records changed.
@@ -116,6 +120,12 @@ fn unfolded(mesh: Mesh) -> Mesh {
 fn compacted(mesh: Mesh) -> Mesh {
     let made = cleaning::remove_unused_attrs(&mesh);
     Mesh { positions: made.positions, textures: made.textures, normals: made.normals, corners: made.corners, sizes: mesh.sizes }
+}
+
+fn longer_taken(question: &Question, right: &Answer) -> Option<Answer> {
+    let mesh = panel_file::read(&question.file).ok()?;
+    let is_longer = question.file.len() > writing::LONGEST;
+    (right.number == 1 && is_longer).then(|| Answer::bytes(writing::write(&cleaning::cleaned(mesh))))
 }
 
 fn room_for_this_file(question: &Question, right: &Answer) -> Option<Answer> {

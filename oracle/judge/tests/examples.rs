@@ -237,6 +237,10 @@ fn a_cleaned_file() {
     assert_eq!(reading::writing::clean(&file).unwrap(), file);
     assert_eq!(reading::sheet::sheet(&file), reading::sheet::sheet(&document()));
     assert_eq!(reading::writing::clean(&document()[..266]).err(), Some(11));
+    // Dropped faces of no corners, five bytes each, make a file as long as the longest and one that is longer.
+    let dropped = record(4, &[0]).repeat((211_629 - 4) / 5);
+    assert_eq!(reading::writing::clean(&[&dropped[..], &[0; 4]].concat()), Ok(vec![0; 4]));
+    assert_eq!(reading::writing::clean(&[&dropped[..], &[0; 5]].concat()), Err(1));
 }
 
 #[test]

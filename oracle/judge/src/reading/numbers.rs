@@ -25,8 +25,9 @@ pub fn number(call: Call, question: &Question) -> u32 {
             0 if [Verdict::Irregular, Verdict::Regular].contains(&edges::verdict(mesh)) => 10,
             number => number,
         },
-        // What is cleaned is a mesh, and its file fits: the cleaner refuses what the reader refuses.
-        Call::ReadPanel | Call::CleanPanel => first(&[rooms, panel_file::read(&question.file).err().unwrap_or(0)]),
+        Call::ReadPanel => first(&[rooms, panel_file::read(&question.file).err().unwrap_or(0)]),
+        // What is left is a mesh, and its file fits: nothing is refused after the reading.
+        Call::CleanPanel => first(&[rooms, writing::clean(&question.file).err().unwrap_or(0)]),
         // A refused file has a sheet of its own, which says so: only its room can be refused.
         Call::Sheet => rooms,
         Call::Push => first(&[faces_number(mesh), rooms]),

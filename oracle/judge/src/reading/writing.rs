@@ -22,8 +22,11 @@ pub fn write(mesh: &Mesh) -> Vec<u8> {
 }
 
 /// The file of what is left of a file's mesh once folded faces are removed and then unused entries; or the number with which the file is
-/// refused. (Number 9, of the room, is asked before.)
+/// refused: 1 where it is longer than any that a mesh can make, then what the reader answers. (Number 9, of the room, is asked before.)
 pub fn clean(file: &[u8]) -> Result<Vec<u8>, u32> {
+    if file.len() > LONGEST {
+        return Err(1);
+    }
     Ok(write(&cleaning::cleaned(panel_file::read(file)?)))
 }
 
