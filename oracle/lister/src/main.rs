@@ -14,9 +14,10 @@ use judge::reading::numbers::stated_rooms;
 use judge::{reading, Call, Mesh, Question};
 use record::{File, List};
 
-/// The calls that the list asks: all but the sheet and `push`.
+/// The calls that the list asks: all but those that write bytes, and `push`.
 fn calls() -> impl Iterator<Item = Call> {
-    Call::ALL.into_iter().filter(|call| ![Call::Sheet, Call::Push].contains(call))
+    let others = [Call::WritePanel, Call::CleanPanel, Call::Sheet, Call::Push];
+    Call::ALL.into_iter().filter(move |call| !others.contains(call))
 }
 
 /// The numbers that a call can answer: the list has each of them.
