@@ -22,7 +22,9 @@ use Rattle.house.specs.Answers.{HouseAnswer}
 use Rattle.panels.specs.Contract.{PanelsAnswer}
 use Rattle.panels.specs.declared.Answer.{Answer}
 use Rattle.panelfile.specs.Answer.{PanelRead}
+use Rattle.saving.specs.Answer.{PanelWritten}
 use Rattle.sheet.specs.Sheet.{Printed}
+use Rattle.cleanfile.specs.Answer.{PanelCleaned}
 
 -- a call: what it is given, what it answers and leaves, and which of these its contract allows
 pub record Call : Type 1 where
@@ -104,9 +106,17 @@ panelsCall = lending (λ (g : Mesh × Bool) (before afterwards : Listed) (answer
 abbrev pub readCall : Call
 readCall = lending PanelRead
 
+-- `saving::write_panel`: a mesh is given, and the bytes of a file lent
+abbrev pub writeCall : Call
+writeCall = lending PanelWritten
+
 -- `sheet::sheet`: the bytes of a file are given
 abbrev pub sheetCall : Call
 sheetCall = lending Printed
+
+-- `cleanfile::clean`: likewise
+abbrev pub cleanCall : Call
+cleanCall = lending PanelCleaned
 
 abbrev pub calls : List Call
 calls =
@@ -122,7 +132,9 @@ calls =
     ∷ houseCall
     ∷ panelsCall
     ∷ readCall
+    ∷ writeCall
     ∷ sheetCall
+    ∷ cleanCall
     ∷ []
 
 -- the statement: every call's results are determined
