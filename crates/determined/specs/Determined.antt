@@ -13,7 +13,6 @@ use Rattle.faces.specs.Faces.{Grouped}
 use Rattle.compaction.specs.Compaction.{Compaction}
 use Rattle.folded.specs.Folded.{Removal}
 use Rattle.merging.specs.Merging.{PutTogether}
-use Rattle.merging.specs.declared.Merged.{Merged}
 use Rattle.edges.specs.Answers.{answerOf, judged, HemAnswer}
 use Rattle.edges.specs.declared.Judged.{Judged}
 use Rattle.edges.specs.declared.HemEdges.{HemEdges}
@@ -82,7 +81,7 @@ removalCall = lending Removal
 
 -- `merging::put_together_same_attrs`: a mesh and a tolerance are given
 abbrev pub mergingCall : Call
-mergingCall = lending (λ (g : Mesh × Float) (before afterwards : List ℕ) (answer : Merged). PutTogether (g .0) (g .1) before afterwards answer)
+mergingCall = lending (λ (g : Mesh × Float). PutTogether (g .0) (g .1))
 
 -- `edges::hem_edges`
 abbrev pub TwoLists : Type 0

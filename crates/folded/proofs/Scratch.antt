@@ -27,6 +27,14 @@ use Rattle.folded.proofs.Result.{every-pieces, count-pieces}
 pub blank : FacesAtLimits (replicate cornerNumbers 0) (replicate faceLimit 0)
 blank = record { corners = length-replicate {A = ℕ} cornerNumbers 0; sizes = length-replicate {A = ℕ} faceLimit 0 }
 
+-- so they have the room that the pieces ask for
+pub scratch-ready : (cs s o l p q : List ℕ) → FacesAtLimits p q → Ready cs s o l → Ready cs s p q
+scratch-ready cs s o l p q x y = record {
+  fit = y .fit;
+  corners = omega (arith, x .corners, y .fit .sound .fits);
+  sizes = omega (arith, x .sizes, y .fit .sound .fits);
+}
+
 -- c corners and f faces are written to p and q, which hold p' and q' then
 module _ (cs s o l p p' q q' : List ℕ) (c f : ℕ) (y : Ready cs s o l) (x : FacesAtLimits p q)
     (w : Placed (each pieces (rings s cs)) p p' q q' 0 0 c f) where

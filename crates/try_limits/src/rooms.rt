@@ -1,77 +1,56 @@
 // 9: a lent result list is shorter than its stated room. Compaction with exactly that room, and with one number less in one list; the
 // sheet with exactly its room, and with one byte less.
+use crate::fronts;
+use crate::show;
+use compaction::Compacted;
 use mesh::MISSING;
 
 // Compaction: the number, and the counts of positions, texture points and normals.
 pub(crate) fn compaction_rooms() {
-    let mut c = [0; 9];
-    let mut p = [0.0; 18];
-    let mut t = [0.0; 4];
-    let mut n = [0.0; 6];
-    compacted(
-        b"9 compaction with its room",
-        &mut c,
-        &mut p,
-        &mut t,
-        &mut n,
-    );
-    let mut short = [0; 8];
-    compacted(
-        b"9 compaction, corners short",
-        &mut short,
-        &mut p,
-        &mut t,
-        &mut n,
-    );
-    let mut less = [0.0; 17];
-    compacted(
-        b"9 compaction, positions short",
-        &mut c,
-        &mut less,
-        &mut t,
-        &mut n,
-    );
-    let mut three = [0.0; 3];
-    compacted(
-        b"9 compaction, texture points short",
-        &mut c,
-        &mut p,
-        &mut three,
-        &mut n,
-    );
-    let mut five = [0.0; 5];
-    compacted(
-        b"9 compaction, normals short",
-        &mut c,
-        &mut p,
-        &mut t,
-        &mut five,
-    );
+    compacted(b"9 compaction with its room", 9, 18, 4, 6);
+    compacted(b"9 compaction, corners short", 8, 18, 4, 6);
+    compacted(b"9 compaction, positions short", 9, 17, 4, 6);
+    compacted(b"9 compaction, texture points short", 9, 18, 3, 6);
+    compacted(b"9 compaction, normals short", 9, 18, 4, 5);
 }
 
-// Six positions, two texture points and two normals; one triangle, of three positions, one texture point and one normal.
-fn compacted(what: &[u8], c: &mut [u32], p: &mut [f64], t: &mut [f64], n: &mut [f64]) {
-    let positions = [0.0; 18];
-    let textures = [0.0; 4];
-    let normals = [0.0; 6];
-    let corners = [5, 1, MISSING, 2, MISSING, 1, 4, 1, 1];
-    let r = compaction::remove_unused_attrs(
-        &positions,
-        &textures,
-        &normals,
-        &corners,
-        &[3],
-        c,
-        p,
+// With room for so many numbers of each list.
+fn compacted(what: &[u8], c: usize, p: usize, t: usize, n: usize) {
+    let mut corners = [0; 9];
+    let mut positions = [0.0; 18];
+    let r = lend_entries(
+        fronts::lent_numbers(&mut corners, c),
+        fronts::lent_floats(&mut positions, p),
         t,
         n,
     );
-    io::write_all(1, what);
-    number(r.number as u64);
-    number(r.positions as u64);
-    number(r.textures as u64);
-    number(r.normals as u64);
-    io::write_all(1, b"\n");
+    show::four(
+        what,
+        r.number as u64,
+        r.positions as u64,
+        r.textures as u64,
+        r.normals as u64,
+    );
+}
+
+fn lend_entries(c: &mut [u32], p: &mut [f64], t: usize, n: usize) -> Compacted {
+    let mut textures = [0.0; 4];
+    let mut normals = [0.0; 6];
+    compact(
+        c,
+        p,
+        fronts::lent_floats(&mut textures, t),
+        fronts::lent_floats(&mut normals, n),
+    )
+}
+
+// Six positions, two texture points and two normals; one triangle, of three positions, one texture point and one normal.
+fn compact(c: &mut [u32], p: &mut [f64], t: &mut [f64], n: &mut [f64]) -> Compacted {
+    let many = [0.0; 18];
+    let textures = fronts::floats(&many, 4);
+    let normals = fronts::floats(&many, 6);
+    let corners = [5, 1, MISSING, 2, MISSING, 1, 4, 1, 1];
+    compaction::remove_unused_attrs(&many, textures, normals, &corners, &[3], c, p, t, n)
 }
 
 // The sheet: the number, its length, and how many bytes at the front of the lent list are as they were.
@@ -85,12 +64,17 @@ pub(crate) fn sheet_rooms() {
 // A file that has an end record and nothing else: no faces, so Closed.
 fn printed(what: &[u8], out: &mut [u8]) {
     let file = [0u8; 4];
-    let r = sheet::sheet(&file, out);
-    io::write_all(1, what);
-    number(r.number as u64);
-    number(r.length as u64);
-    number(untouched(out) as u64);
-    io::write_all(1, b"\n");
+    print(what, &file, out);
+}
+
+fn print(what: &[u8], file: &[u8], out: &mut [u8]) {
+    let r = sheet::sheet(file, out);
+    show::three(
+        what,
+        r.number as u64,
+        r.length as u64,
+        untouched(out) as u64,
+    );
 }
 
 // How many bytes stand before the first that is not '.'.
@@ -103,10 +87,4 @@ fn untouched(out: &[u8]) -> usize {
         k += 1;
     }
     k
-}
-
-// A number behind a space.
-fn number(n: u64) {
-    io::write_all(1, b" ");
-    io::print_decimal(1, n);
 }

@@ -25,50 +25,70 @@ pub const VERDICT: u32 = 6;
 pub const READING: u32 = 11;
 
 // Asks the call of a record of this kind; `at` is where the case's own words begin, `subject` where the words of its mesh or of its
-// panel file do.
+// panel file do. The lists of a mesh are read one by one, each by a function that has room for it; `place` is where its words begin.
 pub(crate) fn ask(list: &[u8], subject: usize, kind: u32, at: usize) -> Outcome {
     if kind == READING {
         return files::read_panel(list, subject, at);
     }
-    let mut positions = [0.0; 6160];
-    let mut textures = [0.0; 6160];
-    let mut normals = [0.0; 6160];
-    let mut corners = [0u32; 12304];
-    let mut sizes = [0u32; 1376];
-    let t = list::after_floats(list, subject);
-    let n = list::after_floats(list, t);
-    let c = list::after_floats(list, n);
-    let s = list::after_words(list, c);
-    list::copy_floats(list, subject, &mut positions);
-    list::copy_floats(list, t, &mut textures);
-    list::copy_floats(list, n, &mut normals);
-    list::copy_words(list, c, &mut corners);
-    list::copy_words(list, s, &mut sizes);
-    ask_of(
-        list,
-        kind,
-        at,
-        floats(&positions, list::count(list, subject)),
-        floats(&textures, list::count(list, t)),
-        floats(&normals, list::count(list, n)),
-        words(&corners, list::count(list, c)),
-        words(&sizes, list::count(list, s)),
-    )
+    read_positions(list, subject, kind, at)
 }
 
-// The first n of a list, or all of it where there are fewer.
-fn floats(list: &[f64], n: usize) -> &[f64] {
-    if n <= list.len() {
-        return &list[0..n];
-    }
-    list
+fn read_positions(list: &[u8], place: usize, kind: u32, at: usize) -> Outcome {
+    let mut all = [0.0; 6160];
+    let positions = list::floats(list, place, &mut all);
+    let next = list::after_floats(list, place);
+    read_textures(list, next, kind, at, positions)
 }
 
-fn words(list: &[u32], n: usize) -> &[u32] {
-    if n <= list.len() {
-        return &list[0..n];
-    }
-    list
+fn read_textures(list: &[u8], place: usize, kind: u32, at: usize, positions: &[f64]) -> Outcome {
+    let mut all = [0.0; 6160];
+    let textures = list::floats(list, place, &mut all);
+    let next = list::after_floats(list, place);
+    read_normals(list, next, kind, at, positions, textures)
+}
+
+fn read_normals(
+    list: &[u8],
+    place: usize,
+    kind: u32,
+    at: usize,
+    positions: &[f64],
+    textures: &[f64],
+) -> Outcome {
+    let mut all = [0.0; 6160];
+    let normals = list::floats(list, place, &mut all);
+    let next = list::after_floats(list, place);
+    read_corners(list, next, kind, at, positions, textures, normals)
+}
+
+fn read_corners(
+    list: &[u8],
+    place: usize,
+    kind: u32,
+    at: usize,
+    positions: &[f64],
+    textures: &[f64],
+    normals: &[f64],
+) -> Outcome {
+    let mut all = [0u32; 12304];
+    let corners = list::words(list, place, &mut all);
+    let next = list::after_words(list, place);
+    read_sizes(list, next, kind, at, positions, textures, normals, corners)
+}
+
+fn read_sizes(
+    list: &[u8],
+    place: usize,
+    kind: u32,
+    at: usize,
+    positions: &[f64],
+    textures: &[f64],
+    normals: &[f64],
+    corners: &[u32],
+) -> Outcome {
+    let mut all = [0u32; 1376];
+    let sizes = list::words(list, place, &mut all);
+    ask_of(list, kind, at, positions, textures, normals, corners, sizes)
 }
 
 fn ask_of(

@@ -1,4 +1,5 @@
-// Cases of compaction and of merging.
+// Cases of compaction and of merging. Each lent list has a function that lends it and looks at it afterwards; `place` is where its room
+// stands in the list.
 use crate::calls;
 use crate::calls::Outcome;
 use crate::calls::Said;
@@ -15,37 +16,88 @@ pub(crate) fn compaction(
     corners: &[u32],
     sizes: &[u32],
 ) -> Outcome {
-    let mut c = [0u32; calls::ROOM];
-    let mut p = [0.0; calls::ROOM];
-    let mut t = [0.0; calls::ROOM];
-    let mut n = [0.0; calls::ROOM];
-    let first = calls::lists_from(at, 3);
-    let second = calls::after_words(list, first);
-    let third = calls::after_floats(list, second);
-    let fourth = calls::after_floats(list, third);
-    let rc = lent::room(list::count(list, first), &c);
-    let rp = lent::room_of_floats(list::count(list, second), &p);
-    let rt = lent::room_of_floats(list::count(list, third), &t);
-    let rn = lent::room_of_floats(list::count(list, fourth), &n);
-    lend_compaction(
+    let place = calls::lists_from(at, 3);
+    let mut all = [0u32; calls::ROOM];
+    let c = lent::lend(&mut all, list::count(list, place));
+    let next = calls::after_words(list, place);
+    let found = lend_positions(
         list,
         at,
+        next,
         positions,
         textures,
         normals,
         corners,
         sizes,
-        &mut c[..rc],
-        &mut p[..rp],
-        &mut t[..rt],
-        &mut n[..rn],
-    )
+        c,
+    );
+    calls::also(found, lent::words_differ(c, list, place))
 }
 
-// Over lists of the case's rooms.
-fn lend_compaction(
+fn lend_positions(
     list: &[u8],
     at: usize,
+    place: usize,
+    positions: &[f64],
+    textures: &[f64],
+    normals: &[f64],
+    corners: &[u32],
+    sizes: &[u32],
+    c: &mut [u32],
+) -> Outcome {
+    let mut all = [0.0; calls::ROOM];
+    let p = lent::lend_floats(&mut all, list::count(list, place));
+    let next = calls::after_floats(list, place);
+    let found = lend_textures(
+        list,
+        at,
+        next,
+        positions,
+        textures,
+        normals,
+        corners,
+        sizes,
+        c,
+        p,
+    );
+    calls::also(found, lent::floats_differ(p, list, place))
+}
+
+fn lend_textures(
+    list: &[u8],
+    at: usize,
+    place: usize,
+    positions: &[f64],
+    textures: &[f64],
+    normals: &[f64],
+    corners: &[u32],
+    sizes: &[u32],
+    c: &mut [u32],
+    p: &mut [f64],
+) -> Outcome {
+    let mut all = [0.0; calls::ROOM];
+    let t = lent::lend_floats(&mut all, list::count(list, place));
+    let next = calls::after_floats(list, place);
+    let found = lend_normals(
+        list,
+        at,
+        next,
+        positions,
+        textures,
+        normals,
+        corners,
+        sizes,
+        c,
+        p,
+        t,
+    );
+    calls::also(found, lent::floats_differ(t, list, place))
+}
+
+fn lend_normals(
+    list: &[u8],
+    at: usize,
+    place: usize,
     positions: &[f64],
     textures: &[f64],
     normals: &[f64],
@@ -54,10 +106,12 @@ fn lend_compaction(
     c: &mut [u32],
     p: &mut [f64],
     t: &mut [f64],
-    n: &mut [f64],
 ) -> Outcome {
+    let mut all = [0.0; calls::ROOM];
+    let n = lent::lend_floats(&mut all, list::count(list, place));
     let said = compact(positions, textures, normals, corners, sizes, c, p, t, n);
-    hold_compaction(list, at, said, c, p, t, n)
+    let found = calls::held(list, at, 3, said, calls::after_floats(list, place));
+    calls::also(found, lent::floats_differ(n, list, place))
 }
 
 // Asks the product.
@@ -72,10 +126,6 @@ fn compact(
     t: &mut [f64],
     n: &mut [f64],
 ) -> Said {
-    lent::fill(c);
-    lent::fill_floats(p);
-    lent::fill_floats(t);
-    lent::fill_floats(n);
     let r = compaction::remove_unused_attrs(
         positions,
         textures,
@@ -87,41 +137,7 @@ fn compact(
         t,
         n,
     );
-    Said {
-        number: r.number,
-        first: r.positions,
-        second: r.textures,
-        third: r.normals,
-    }
-}
-
-// Holds what was said and written to the list.
-fn hold_compaction(
-    list: &[u8],
-    at: usize,
-    said: Said,
-    c: &[u32],
-    p: &[f64],
-    t: &[f64],
-    n: &[f64],
-) -> Outcome {
-    let first = calls::lists_from(at, 3);
-    let second = calls::after_words(list, first);
-    let third = calls::after_floats(list, second);
-    let fourth = calls::after_floats(list, third);
-    let entries = calls::either(
-        lent::floats_differ(p, list, second),
-        calls::either(
-            lent::floats_differ(t, list, third),
-            lent::floats_differ(n, list, fourth),
-        ),
-    );
-    let written = calls::either(lent::words_differ(c, list, first), entries);
-    Outcome {
-        number: said.number,
-        differs: calls::either(calls::said_differs(list, at, 3, said), written),
-        end: calls::after_floats(list, fourth),
-    }
+    calls::saying_three(r.number, r.positions, r.textures, r.normals)
 }
 
 // Merging. It lends corners.
@@ -134,33 +150,25 @@ pub(crate) fn merging(
     corners: &[u32],
     sizes: &[u32],
 ) -> Outcome {
-    let mut c = [0u32; calls::ROOM];
-    let rc = lent::room(list::count(list, calls::lists_from(at, 3)), &c);
-    merge(
-        list,
-        at,
-        positions,
-        textures,
-        normals,
-        corners,
-        sizes,
-        &mut c[..rc],
-    )
+    let place = calls::lists_from(at, 3);
+    let tolerance = floating::of_bits(list::long(list, at));
+    let mut all = [0u32; calls::ROOM];
+    let c = lent::lend(&mut all, list::count(list, place));
+    let said = merge(positions, textures, normals, corners, sizes, tolerance, c);
+    let found = calls::held(list, at, 3, said, calls::after_words(list, place));
+    calls::also(found, lent::words_differ(c, list, place))
 }
 
-// Over a list of the case's room.
+// Asks the product.
 fn merge(
-    list: &[u8],
-    at: usize,
     positions: &[f64],
     textures: &[f64],
     normals: &[f64],
     corners: &[u32],
     sizes: &[u32],
+    tolerance: f64,
     c: &mut [u32],
-) -> Outcome {
-    lent::fill(c);
-    let tolerance = floating::of_bits(list::long(list, at));
+) -> Said {
     let r = merging::put_together_same_attrs(
         positions,
         textures,
@@ -170,17 +178,5 @@ fn merge(
         tolerance,
         c,
     );
-    let said = Said {
-        number: r.number,
-        first: r.positions,
-        second: r.textures,
-        third: r.normals,
-    };
-    let first = calls::lists_from(at, 3);
-    let written = lent::words_differ(c, list, first);
-    Outcome {
-        number: said.number,
-        differs: calls::either(calls::said_differs(list, at, 3, said), written),
-        end: calls::after_words(list, first),
-    }
+    calls::saying_three(r.number, r.positions, r.textures, r.normals)
 }

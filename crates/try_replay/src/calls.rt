@@ -14,12 +14,14 @@ pub const ROOM: usize = 12304;
 // What stands for a verdict that is not answered.
 const NONE: usize = 4294967295;
 
-// What a call said: its number, and up to three counts; 0 for those that it has not.
+// What a call said: its number, and up to five counts; 0 for those that it has not.
 pub struct Said {
     pub number: u32,
     pub first: usize,
     pub second: usize,
     pub third: usize,
+    pub fourth: usize,
+    pub fifth: usize,
 }
 
 // How a case came out: the number that the product answered, whether anything was not as in the list, and where the case's words end.
@@ -50,25 +52,48 @@ pub(crate) fn either(a: bool, b: bool) -> bool {
     b
 }
 
+// What a call said, held to the case's number and its so many counts; `end` is where the case's words end.
+pub(crate) fn held(list: &[u8], at: usize, counts: usize, said: Said, end: usize) -> Outcome {
+    Outcome {
+        number: said.number,
+        differs: said_differs(list, at, counts, said),
+        end: end,
+    }
+}
+
+// The same outcome, where a lent list was looked at too.
+pub(crate) fn also(found: Outcome, differs: bool) -> Outcome {
+    Outcome {
+        number: found.number,
+        differs: either(found.differs, differs),
+        end: found.end,
+    }
+}
+
 // Whether the number and the first counts are not those of the list.
-pub(crate) fn said_differs(list: &[u8], at: usize, counts: usize, said: Said) -> bool {
+fn said_differs(list: &[u8], at: usize, counts: usize, said: Said) -> bool {
     if said.number != list::word(list, list::plus(at, 2)) {
         return true;
     }
-    if counts > 0 {
-        if said.first != list::count(list, list::plus(at, 3)) {
-            return true;
-        }
+    if count_differs(list, at, counts, 0, said.first) {
+        return true;
     }
-    if counts > 1 {
-        if said.second != list::count(list, list::plus(at, 4)) {
-            return true;
-        }
+    if count_differs(list, at, counts, 1, said.second) {
+        return true;
     }
-    if counts > 2 {
-        if said.third != list::count(list, list::plus(at, 5)) {
-            return true;
-        }
+    if count_differs(list, at, counts, 2, said.third) {
+        return true;
+    }
+    if count_differs(list, at, counts, 3, said.fourth) {
+        return true;
+    }
+    count_differs(list, at, counts, 4, said.fifth)
+}
+
+// Whether the case has a count at place k, and it is another.
+fn count_differs(list: &[u8], at: usize, counts: usize, k: usize, count: usize) -> bool {
+    if k < counts {
+        return count != list::count(list, lists_from(at, k));
     }
     false
 }
@@ -108,14 +133,8 @@ pub(crate) fn face(
     let part = mesh::face(positions, textures, normals, corners, sizes, k);
     let start = list::count(list, list::plus(at, 3));
     let said = saying(0, start_of(part, start), part.len());
-    Outcome {
-        number: 0,
-        differs: either(
-            said_differs(list, at, 2, said),
-            part_differs(part, corners, start),
-        ),
-        end: lists_from(at, 2),
-    }
+    let found = held(list, at, 2, said, lists_from(at, 2));
+    also(found, part_differs(part, corners, start))
 }
 
 // The start of a part: 0 where it is empty.
@@ -156,11 +175,7 @@ pub(crate) fn shell_condition(
     sizes: &[u32],
 ) -> Outcome {
     let said = judged(positions, textures, normals, corners, sizes);
-    Outcome {
-        number: said.number,
-        differs: said_differs(list, at, 1, said),
-        end: lists_from(at, 1),
-    }
+    held(list, at, 1, said, lists_from(at, 1))
 }
 
 fn judged(
@@ -186,12 +201,18 @@ fn verdict_number(condition: ShellCondition) -> usize {
     }
 }
 
-// A number and two counts.
+// A number and two counts, and a number and three.
 pub(crate) fn saying(number: u32, first: usize, second: usize) -> Said {
+    saying_three(number, first, second, 0)
+}
+
+pub(crate) fn saying_three(number: u32, first: usize, second: usize, third: usize) -> Said {
     Said {
         number: number,
         first: first,
         second: second,
-        third: 0,
+        third: third,
+        fourth: 0,
+        fifth: 0,
     }
 }

@@ -2,6 +2,7 @@
 ghost use Prim.Native.Nat.{_≤_};
 use crate::calls;
 use crate::calls::Outcome;
+use crate::calls::Said;
 use crate::lent;
 use crate::list;
 
@@ -13,30 +14,12 @@ const CORNERS: usize = 12288;
 // The most bytes of a file of the list.
 const BYTES: usize = 65536;
 
-// What the reader said: its number and its five counts.
-pub struct Drawn {
-    pub number: u32,
-    pub positions: usize,
-    pub textures: usize,
-    pub normals: usize,
-    pub corners: usize,
-    pub faces: usize,
-}
-
 // `subject` is where the words of the file begin, `at` where those of the case do: see `calls`.
 pub(crate) fn read_panel(list: &[u8], subject: usize, at: usize) -> Outcome {
     let mut file = [0u8; BYTES];
     let n = length(list, subject);
     copy_file(list, subject, &mut file);
-    read_in(list, at, bytes(&file, n))
-}
-
-// The first n of the bytes, or all of them where there are fewer.
-fn bytes(list: &[u8], n: usize) -> &[u8] {
-    if n <= list.len() {
-        return &list[0..n];
-    }
-    list
+    lend_positions(list, at, list::front_of_bytes(&file, n))
 }
 
 // ---- the file: some bytes, several times over, and then others
@@ -98,50 +81,71 @@ fn copy_file(list: &[u8], at: usize, out: &mut [u8]) {
     }
 }
 
-// ---- the case
+// ---- the case: each lent list has a function that lends it and looks at it afterwards; `place` is where its room stands in the list
 
-// Over lists of the case's rooms.
-fn read_in(list: &[u8], at: usize, file: &[u8]) -> Outcome {
-    let mut p = [0.0; FLOATS];
-    let mut t = [0.0; FLOATS];
-    let mut n = [0.0; FLOATS];
-    let mut c = [0u32; CORNERS];
-    let mut s = [0u32; CORNERS];
-    let first = calls::lists_from(at, 5);
-    let second = calls::after_floats(list, first);
-    let third = calls::after_floats(list, second);
-    let fourth = calls::after_floats(list, third);
-    let fifth = calls::after_words(list, fourth);
-    let rp = lent::room_of_floats(list::count(list, first), &p);
-    let rt = lent::room_of_floats(list::count(list, second), &t);
-    let rn = lent::room_of_floats(list::count(list, third), &n);
-    let rc = lent::room(list::count(list, fourth), &c);
-    let rs = lent::room(list::count(list, fifth), &s);
-    lend(
-        list,
-        at,
-        file,
-        &mut p[..rp],
-        &mut t[..rt],
-        &mut n[..rn],
-        &mut c[..rc],
-        &mut s[..rs],
-    )
+fn lend_positions(list: &[u8], at: usize, file: &[u8]) -> Outcome {
+    let place = calls::lists_from(at, 5);
+    let mut all = [0.0; FLOATS];
+    let p = lent::lend_floats(&mut all, list::count(list, place));
+    let next = calls::after_floats(list, place);
+    let found = lend_textures(list, at, next, file, p);
+    calls::also(found, lent::floats_differ(p, list, place))
 }
 
-// Asks, and holds what was said and written to the list.
-fn lend(
+fn lend_textures(list: &[u8], at: usize, place: usize, file: &[u8], p: &mut [f64]) -> Outcome {
+    let mut all = [0.0; FLOATS];
+    let t = lent::lend_floats(&mut all, list::count(list, place));
+    let next = calls::after_floats(list, place);
+    let found = lend_normals(list, at, next, file, p, t);
+    calls::also(found, lent::floats_differ(t, list, place))
+}
+
+fn lend_normals(
     list: &[u8],
     at: usize,
+    place: usize,
+    file: &[u8],
+    p: &mut [f64],
+    t: &mut [f64],
+) -> Outcome {
+    let mut all = [0.0; FLOATS];
+    let n = lent::lend_floats(&mut all, list::count(list, place));
+    let next = calls::after_floats(list, place);
+    let found = lend_corners(list, at, next, file, p, t, n);
+    calls::also(found, lent::floats_differ(n, list, place))
+}
+
+fn lend_corners(
+    list: &[u8],
+    at: usize,
+    place: usize,
+    file: &[u8],
+    p: &mut [f64],
+    t: &mut [f64],
+    n: &mut [f64],
+) -> Outcome {
+    let mut all = [0u32; CORNERS];
+    let c = lent::lend(&mut all, list::count(list, place));
+    let next = calls::after_words(list, place);
+    let found = lend_sizes(list, at, next, file, p, t, n, c);
+    calls::also(found, lent::words_differ(c, list, place))
+}
+
+fn lend_sizes(
+    list: &[u8],
+    at: usize,
+    place: usize,
     file: &[u8],
     p: &mut [f64],
     t: &mut [f64],
     n: &mut [f64],
     c: &mut [u32],
-    s: &mut [u32],
 ) -> Outcome {
-    let drawn = draw(file, p, t, n, c, s);
-    hold(list, at, drawn, p, t, n, c, s)
+    let mut all = [0u32; CORNERS];
+    let s = lent::lend(&mut all, list::count(list, place));
+    let said = draw(file, p, t, n, c, s);
+    let found = calls::held(list, at, 5, said, calls::after_words(list, place));
+    calls::also(found, lent::words_differ(s, list, place))
 }
 
 // Asks the product.
@@ -152,74 +156,14 @@ fn draw(
     n: &mut [f64],
     c: &mut [u32],
     s: &mut [u32],
-) -> Drawn {
-    lent::fill_floats(p);
-    lent::fill_floats(t);
-    lent::fill_floats(n);
-    lent::fill(c);
-    lent::fill(s);
+) -> Said {
     let r = panelfile::read_panel(file, p, t, n, c, s);
-    Drawn {
+    Said {
         number: r.number,
-        positions: r.positions,
-        textures: r.textures,
-        normals: r.normals,
-        corners: r.corners,
-        faces: r.faces,
+        first: r.positions,
+        second: r.textures,
+        third: r.normals,
+        fourth: r.corners,
+        fifth: r.faces,
     }
-}
-
-// Whether it is all as in the list.
-fn hold(
-    list: &[u8],
-    at: usize,
-    drawn: Drawn,
-    p: &[f64],
-    t: &[f64],
-    n: &[f64],
-    c: &[u32],
-    s: &[u32],
-) -> Outcome {
-    let first = calls::lists_from(at, 5);
-    let second = calls::after_floats(list, first);
-    let third = calls::after_floats(list, second);
-    let fourth = calls::after_floats(list, third);
-    let fifth = calls::after_words(list, fourth);
-    let entries = calls::either(
-        lent::floats_differ(p, list, first),
-        calls::either(
-            lent::floats_differ(t, list, second),
-            lent::floats_differ(n, list, third),
-        ),
-    );
-    let faces = calls::either(
-        lent::words_differ(c, list, fourth),
-        lent::words_differ(s, list, fifth),
-    );
-    let written = calls::either(entries, faces);
-    Outcome {
-        number: drawn.number,
-        differs: calls::either(drawn_differs(list, at, drawn), written),
-        end: calls::after_words(list, fifth),
-    }
-}
-
-// Whether the number or a count is not that of the list.
-fn drawn_differs(list: &[u8], at: usize, drawn: Drawn) -> bool {
-    if drawn.number != list::word(list, list::plus(at, 2)) {
-        return true;
-    }
-    if drawn.positions != list::count(list, list::plus(at, 3)) {
-        return true;
-    }
-    if drawn.textures != list::count(list, list::plus(at, 4)) {
-        return true;
-    }
-    if drawn.normals != list::count(list, list::plus(at, 5)) {
-        return true;
-    }
-    if drawn.corners != list::count(list, list::plus(at, 6)) {
-        return true;
-    }
-    drawn.faces != list::count(list, list::plus(at, 7))
 }

@@ -1,21 +1,15 @@
 // Lent lists: filled with a pattern before a call, and held to the list's answer and to the pattern after it.
-ghost use mathlib.Core.Path.{_≡_};
-ghost use Prim.Native.Nat.{_≤_};
-ghost use lib.ListN.{length, take};
 use crate::list;
 
-// How much of a list is lent where a room of n is asked for: all of it where it has no more. (The contract has both facts that
-// lending `&mut list[..r]` asks for.)
-pub(crate) fn room(n: usize, list: &[u32]) -> usize
-    ensures { λ r. ⌜ (r ≤ length (now (list .entry))) × (r ≡ length (take r (now (list .entry)))) ⌝ }
-{
-    list::lesser(n, list.len())
+// What is lent where a room of n is asked for: the front of `all`, or all of it where there is no more, filled with the pattern.
+pub(crate) fn lend(all: &mut [u32], n: usize) -> &mut [u32] {
+    fill(all, n);
+    list::front(all, n)
 }
 
-pub(crate) fn room_of_floats(n: usize, list: &[f64]) -> usize
-    ensures { λ r. ⌜ (r ≤ length (now (list .entry))) × (r ≡ length (take r (now (list .entry)))) ⌝ }
-{
-    list::lesser(n, list.len())
+pub(crate) fn lend_floats(all: &mut [f64], n: usize) -> &mut [f64] {
+    fill_floats(all, n);
+    list::front_of_floats(all, n)
 }
 
 // What stands at place i before a call.
@@ -27,18 +21,20 @@ fn pattern_float(i: usize) -> f64 {
     floating::of_bits(0x4321_8765_0000_0000 + (i % 65536) as u64)
 }
 
-// Fills a list with the pattern.
-pub(crate) fn fill(out: &mut [u32]) {
+// Fills the first n places with the pattern, as far as there are any.
+fn fill(out: &mut [u32], n: usize) {
+    let end = list::lesser(n, out.len());
     let mut i = 0;
-    while i < out.len() {
+    while i < end {
         out[i] = pattern(i);
         i += 1;
     }
 }
 
-pub(crate) fn fill_floats(out: &mut [f64]) {
+fn fill_floats(out: &mut [f64], n: usize) {
+    let end = list::lesser(n, out.len());
     let mut i = 0;
-    while i < out.len() {
+    while i < end {
         out[i] = pattern_float(i);
         i += 1;
     }

@@ -1,38 +1,21 @@
 // The list of answers, as words of 32 bits, the lowest byte first; `at` is a word's number. README.md has the format.
 //
-// Nothing is taken on trust: a word past the list's end reads as 0, and every place stays below BEYOND, so that a list that is
+// Nothing is taken on trust: what is past the list's end reads as 0, and every place stays below BEYOND, so that a list that is
 // damaged gives an answer that is wrong and not a program that fails.
-ghost use Prim.Native.Nat.{_<_, _≤_};
+ghost use Prim.Native.Nat.{_≤_};
 
 // No list has so many words.
 const BEYOND: usize = 1000000;
 
-// A byte, in room for more.
-pub(crate) fn wide(b: u8) -> u32
-    ensures { λ r. ⌜ r < 256 ⌝ }
-{
-    b as u32
-}
-
-// A word, as an index, and in room for two.
+// A word, as an index.
 fn index(w: u32) -> usize {
     w as usize
-}
-
-fn double(w: u32) -> u64
-    ensures { λ r. ⌜ r < 4294967296 ⌝ }
-{
-    w as u64
 }
 
 // The word with this number.
 pub(crate) fn word(list: &[u8], at: usize) -> u32 {
     if at < list.len() / 4 {
-        let i = 4 * at;
-        return wide(list[i])
-            + 256 * wide(list[i + 1])
-            + 65536 * wide(list[i + 2])
-            + 16777216 * wide(list[i + 3]);
+        return little::word(list, 4 * at);
     }
     0
 }
@@ -44,7 +27,13 @@ pub(crate) fn count(list: &[u8], at: usize) -> usize {
 
 // Two words, the lower first.
 pub(crate) fn long(list: &[u8], at: usize) -> u64 {
-    double(word(list, at)) + 4294967296 * double(word(list, plus(at, 1)))
+    let end = list.len() / 4;
+    if at < end {
+        if 1 < end - at {
+            return little::long(list, 4 * at);
+        }
+    }
+    0
 }
 
 // A place so many words on.
@@ -101,8 +90,13 @@ pub(crate) fn float_in(list: &[u8], at: usize, i: usize) -> f64 {
     floating::of_bits(long(list, plus(plus(plus(at, 2), p), p)))
 }
 
-// Writes a list of u32 to the front of `out`, as far as there is room.
-pub(crate) fn copy_words(list: &[u8], at: usize, out: &mut [u32]) {
+// Reads a list of u32 to the front of `all`, as far as there is room, and answers it.
+pub(crate) fn words<'a>(list: &[u8], at: usize, all: &'a mut [u32]) -> &'a mut [u32] {
+    copy_words(list, at, all);
+    front(all, count(list, at))
+}
+
+fn copy_words(list: &[u8], at: usize, out: &mut [u32]) {
     let n = lesser(count(list, at), out.len());
     let mut i = 0;
     while i < n {
@@ -112,13 +106,41 @@ pub(crate) fn copy_words(list: &[u8], at: usize, out: &mut [u32]) {
 }
 
 // The same of f64.
-pub(crate) fn copy_floats(list: &[u8], at: usize, out: &mut [f64]) {
+pub(crate) fn floats<'a>(list: &[u8], at: usize, all: &'a mut [f64]) -> &'a mut [f64] {
+    copy_floats(list, at, all);
+    front_of_floats(all, count(list, at))
+}
+
+fn copy_floats(list: &[u8], at: usize, out: &mut [f64]) {
     let n = lesser(count(list, at), out.len());
     let mut i = 0;
     while i < n {
         out[i] = float_in(list, at, i);
         i += 1;
     }
+}
+
+// ---- fronts of lists: the first n, or all where there are fewer
+
+pub(crate) fn front(all: &mut [u32], n: usize) -> &mut [u32] {
+    if n <= all.len() {
+        return &mut all[0..n];
+    }
+    all
+}
+
+pub(crate) fn front_of_floats(all: &mut [f64], n: usize) -> &mut [f64] {
+    if n <= all.len() {
+        return &mut all[0..n];
+    }
+    all
+}
+
+pub(crate) fn front_of_bytes(all: &[u8], n: usize) -> &[u8] {
+    if n <= all.len() {
+        return &all[0..n];
+    }
+    all
 }
 
 pub(crate) fn lesser(a: usize, b: usize) -> usize

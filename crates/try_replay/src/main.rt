@@ -16,10 +16,10 @@ mod tally;
 use calls::Outcome;
 
 fn main() {
-    let mut list = [0u8; 262144];
+    let mut list = [0u8; 524288];
     let n = io::read_full(0, &mut list);
-    let mut counts = [0u32; 192];
-    let whole = replay(&list[..n], &mut counts);
+    let mut counts = [0u32; tally::COUNTS];
+    let whole = replay(list::front_of_bytes(&list, n), &mut counts);
     tally::print(&counts);
     if !whole {
         io::write_all(1, b"the list is damaged\n");

@@ -1,4 +1,4 @@
-// Cases of the calls that lend two lists of u32: removal, hem edges, wires of both kinds, panels.
+// Cases of the calls that lend two lists of u32: removal, hem edges, wires of both kinds, panels, and faces in any order.
 use crate::calls;
 use crate::calls::Outcome;
 use crate::calls::Said;
@@ -14,7 +14,10 @@ pub const PORTED: u32 = 8;
 
 pub const HOUSE: u32 = 9;
 
-// A call by its kind; any other kind than these four is panels. It answers so many counts.
+pub const PUSH: u32 = 13;
+
+// A call by its kind; any other kind than these five is panels. It answers so many counts. Each lent list has a function that lends it and
+// looks at it afterwards.
 pub(crate) fn two_lists(
     list: &[u8],
     at: usize,
@@ -26,13 +29,10 @@ pub(crate) fn two_lists(
     corners: &[u32],
     sizes: &[u32],
 ) -> Outcome {
-    let mut a = [0u32; calls::ROOM];
-    let mut b = [0u32; calls::ROOM];
-    let first = calls::lists_from(at, counts);
-    let second = calls::after_words(list, first);
-    let n = lent::room(list::count(list, first), &a);
-    let m = lent::room(list::count(list, second), &b);
-    lend_two(
+    let place = calls::lists_from(at, counts);
+    let mut all = [0u32; calls::ROOM];
+    let a = lent::lend(&mut all, list::count(list, place));
+    let found = second_list(
         list,
         at,
         kind,
@@ -42,13 +42,12 @@ pub(crate) fn two_lists(
         normals,
         corners,
         sizes,
-        &mut a[..n],
-        &mut b[..m],
-    )
+        a,
+    );
+    calls::also(found, lent::words_differ(a, list, place))
 }
 
-// Over lists of the case's rooms.
-fn lend_two(
+fn second_list(
     list: &[u8],
     at: usize,
     kind: u32,
@@ -59,11 +58,11 @@ fn lend_two(
     corners: &[u32],
     sizes: &[u32],
     a: &mut [u32],
-    b: &mut [u32],
 ) -> Outcome {
+    let place = calls::after_words(list, calls::lists_from(at, counts));
     let given = list::word(list, at);
-    lent::fill(a);
-    lent::fill(b);
+    let mut all = [0u32; calls::ROOM];
+    let b = lent::lend(&mut all, list::count(list, place));
     let said = call_two(
         kind,
         given,
@@ -75,25 +74,11 @@ fn lend_two(
         a,
         b,
     );
-    hold_two(list, at, counts, said, a, b)
+    let found = calls::held(list, at, counts, said, calls::after_words(list, place));
+    calls::also(found, lent::words_differ(b, list, place))
 }
 
-// Holds what was said and written to the list.
-fn hold_two(list: &[u8], at: usize, counts: usize, said: Said, a: &[u32], b: &[u32]) -> Outcome {
-    let first = calls::lists_from(at, counts);
-    let second = calls::after_words(list, first);
-    let written = calls::either(
-        lent::words_differ(a, list, first),
-        lent::words_differ(b, list, second),
-    );
-    Outcome {
-        number: said.number,
-        differs: calls::either(calls::said_differs(list, at, counts, said), written),
-        end: calls::after_words(list, second),
-    }
-}
-
-// Asks the product.
+// Asks the product: faces, edges, panels.
 fn call_two(
     kind: u32,
     given: u32,
@@ -105,21 +90,16 @@ fn call_two(
     a: &mut [u32],
     b: &mut [u32],
 ) -> Said {
+    if kind == PUSH {
+        let r = faces::push(corners, sizes, a, b);
+        return calls::saying(r.number, r.corners, r.faces);
+    }
     if kind == REMOVAL {
         let r = folded::remove_degenerate_faces(positions, textures, normals, corners, sizes, a, b);
         return calls::saying(r.number, r.corners, r.faces);
     }
-    if kind == HEMS {
-        let r = edges::hem_edges(positions, textures, normals, corners, sizes, a, b);
-        return calls::saying(r.number, r.count, 0);
-    }
-    if kind == PORTED {
-        let r = ported::extract_boundaries(positions, textures, normals, corners, sizes, a, b);
-        return calls::saying(r.number, r.flat, r.wires);
-    }
-    if kind == HOUSE {
-        let r = house::house_wires(positions, textures, normals, corners, sizes, a, b);
-        return calls::saying(r.number, r.flat, r.wires);
+    if kind <= HOUSE {
+        return along_hems(kind, positions, textures, normals, corners, sizes, a, b);
     }
     let r = panels::components(
         positions,
@@ -132,4 +112,27 @@ fn call_two(
         b,
     );
     calls::saying(r.number, r.faces, r.panels)
+}
+
+// Hem edges and wires.
+fn along_hems(
+    kind: u32,
+    positions: &[f64],
+    textures: &[f64],
+    normals: &[f64],
+    corners: &[u32],
+    sizes: &[u32],
+    a: &mut [u32],
+    b: &mut [u32],
+) -> Said {
+    if kind == HEMS {
+        let r = edges::hem_edges(positions, textures, normals, corners, sizes, a, b);
+        return calls::saying(r.number, r.count, 0);
+    }
+    if kind == PORTED {
+        let r = ported::extract_boundaries(positions, textures, normals, corners, sizes, a, b);
+        return calls::saying(r.number, r.flat, r.wires);
+    }
+    let r = house::house_wires(positions, textures, normals, corners, sizes, a, b);
+    calls::saying(r.number, r.flat, r.wires)
 }

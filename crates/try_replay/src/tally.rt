@@ -2,6 +2,12 @@
 // 13, how many cases there were, and how many differed from the list.
 use crate::calls::Outcome;
 
+// A row for each kind of record; those of a mesh and of a panel file are no calls, so row 0 is for all of them, and row 12 stays empty.
+const ROWS: u32 = 14;
+
+// How many counts all rows have.
+pub const COUNTS: usize = 224;
+
 const CASES: u32 = 14;
 
 const DIFFERED: u32 = 15;
@@ -37,12 +43,12 @@ fn difference(differs: bool) -> u32 {
 
 // Where a row counts a number; past the last row where there is no such place.
 fn place(row: u32, number: u32) -> usize {
-    if row < 12 {
+    if row < ROWS {
         if number < NOWHERE {
             return (16 * row + number) as usize;
         }
     }
-    192
+    COUNTS
 }
 
 fn bump(tally: &mut [u32], i: usize) {
@@ -79,6 +85,7 @@ pub(crate) fn print(tally: &[u32]) {
     line(tally, 9, b"house_wires");
     line(tally, 10, b"components");
     line(tally, 11, b"read_panel");
+    line(tally, 13, b"push");
     line(tally, 0, b"all");
 }
 

@@ -1,8 +1,9 @@
-//! Writes the list of answers that crate `try_replay` replays: cases of every call that takes a mesh or a panel file, with every number
-//! that it can answer. Each answer is document 01's reading; where the Rust has one too, untouched and ascending, it must be the same.
+//! Writes the list of answers that crate `try_replay` replays: cases of every call but the sheet, with every number that it can answer.
+//! Each answer is document 01's reading; where the Rust has one too, untouched and ascending, it must be the same.
 //!
 //!     lister FILE     writes the list there, and prints how many cases each call has, and how many the Rust answered
 
+mod faces;
 mod merging;
 mod panel_files;
 mod record;
@@ -14,10 +15,16 @@ use judge::reading::numbers::stated_rooms;
 use judge::{reading, Call, Mesh, Question};
 use record::{File, List};
 
-/// The calls that the list asks: all but those that write bytes, and `push`.
+/// The calls that the list asks: all but those that write bytes.
 fn calls() -> impl Iterator<Item = Call> {
-    let others = [Call::WritePanel, Call::CleanPanel, Call::Sheet, Call::Push];
+    let others = [Call::WritePanel, Call::CleanPanel, Call::Sheet];
     Call::ALL.into_iter().filter(move |call| !others.contains(call))
+}
+
+/// The place of a call among all of them.
+fn place(call: Call) -> usize {
+    Call::ALL.iter().position(|other| *other == call).unwrap()
+}
 }
 
 /// The numbers that a call can answer: the list has each of them.
@@ -28,6 +35,7 @@ fn numbers(call: Call) -> &'static [u32] {
         Call::PutTogetherSameAttrs => &[0, 1, 2, 3, 4, 5, 6, 7, 8, 9],
         Call::HouseWires => &[0, 1, 2, 3, 4, 5, 9, 10],
         Call::ReadPanel => &[0, 1, 3, 5, 9, 11, 12, 13],
+        Call::Push => &[0, 1, 2, 3, 9],
         _ => &[0, 1, 2, 3, 4, 5, 9],
     }
 }
@@ -49,7 +57,7 @@ impl Lister {
             panic!("{}: {difference}", call.name());
         }
         self.list.case(call, question, &answer);
-        let place = Call::ALL.iter().position(|other| *other == call).unwrap();
+        let place = place(call);
         self.cases += 1;
         self.by_number[place][answer.number as usize] += 1;
         self.by_rust[place] += rust_knows(call, question, &answer) as usize;
@@ -109,6 +117,15 @@ impl Lister {
         self.case(Call::PutTogetherSameAttrs, &Question { mesh: mesh.clone(), tolerance, rooms, ..Question::default() });
     }
 
+    /// Faces in any order, put to `push`, with exact rooms or `more` in each.
+    fn faces(&mut self, mesh: &Mesh, more: usize) -> Question {
+        self.list.mesh(mesh);
+        let rooms = stated_rooms(Call::Push, mesh).iter().map(|room| room + more).collect();
+        let question = Question { mesh: mesh.clone(), rooms, ..Question::default() };
+        self.case(Call::Push, &question);
+        question
+    }
+
     fn file(&mut self, file: &File) -> Question {
         self.list.file(file);
         let rooms = stated_rooms(Call::ReadPanel, &Mesh::default());
@@ -137,13 +154,24 @@ fn list() -> Lister {
     });
     let mut question = lister.file(&panel_files::both_sides()[0]);
     lister.short_rooms_of(Call::ReadPanel, &mut question);
+    faces::orders().iter().chain(&faces::at_random()).enumerate().for_each(|(i, mesh)| {
+        lister.faces(mesh, i % 3);
+    });
+    faces::both_sides().iter().for_each(|mesh| {
+        lister.faces(mesh, 0);
+    });
+    for mesh in faces::for_short_rooms() {
+        let mut question = lister.faces(&mesh, 0);
+        lister.short_rooms_of(Call::Push, &mut question);
+    }
     lister
 }
 
 fn main() {
     let name = std::env::args().nth(1).expect("lister FILE");
     let lister = list();
-    for (call, (by_number, by_rust)) in calls().zip(lister.by_number.iter().zip(&lister.by_rust)) {
+    for call in calls() {
+        let (by_number, by_rust) = (lister.by_number[place(call)], lister.by_rust[place(call)]);
         let missing = numbers(call).iter().find(|number| by_number[**number as usize] == 0);
         assert!(missing.is_none(), "{}: no case answers {missing:?}", call.name());
         println!("{}: {} cases, {by_rust} of them the Rust's too", call.name(), by_number.iter().sum::<usize>());

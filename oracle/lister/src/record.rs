@@ -1,10 +1,11 @@
 //! The list's format: words of 32 bits, the lowest byte first. crates/try_replay/README.md has it in full.
 
+use crate::place;
 use judge::{Answer, Call, Count, Mesh, Numbers, Question};
 
-/// The kind of a record that holds a mesh; the calls have 1 and up, in the order of the C interface.
+/// The kind of a record that holds a mesh; a call's is one more than its place among all calls.
 const MESH: u32 = 0;
-/// The kind of a record that holds a panel file.
+/// The kind of a record that holds a panel file: the place of the sheet, which the list does not ask.
 const FILE: u32 = 12;
 /// What stands for a verdict that is not answered.
 const NONE: u32 = 0xffff_ffff;
@@ -83,7 +84,7 @@ impl List {
 }
 
 fn kind(call: Call) -> u32 {
-    1 + Call::ALL.iter().position(|other| *other == call).unwrap() as u32
+    1 + place(call) as u32
 }
 
 /// The face, the tolerance or the normals setting, in 64 bits; 0 where the call takes none.

@@ -2,7 +2,7 @@
 use mathlib.Core.Path.{sym}
 use lib.Seq.{length-take-le}
 use Rattle.grouping.proofs.Placing.{placed-as}
-use Rattle.folded.proofs.Scratch.{blank, few-corners, few-faces, pieces-sound, pieces-corners, pieces-sizes, pieces-grouped}
+use Rattle.folded.proofs.Scratch.{blank, scratch-ready, few-corners, few-faces, pieces-sound, pieces-corners, pieces-sizes, pieces-grouped}
 use native.Mathlib.Omega.{arith}
 use borrow.Author.Needs.{needs}
 use Rattle.folded.proofs.remove_larger.Statement.{statement}
@@ -15,7 +15,7 @@ slice-aggregate-all-pieces-2 : tie.Need-slice-aggregate-all-pieces-2
 slice-aggregate-all-pieces-2 c = search needs
 
 all-pieces-requires : tie.Need-all-pieces-requires
-all-pieces-requires c κs = search needs
+all-pieces-requires c κs = scratch-ready _ _ _ _ _ _ blank (c .before .before .before .before .before .before .pre)
 
 mul-c : tie.Need-mul-c
 mul-c c =

@@ -1,4 +1,4 @@
--- `try_replay::lent::fill` is safe and ends: the list keeps its length, and the measure is what is left of it. Assumes nothing.
+-- `try_replay::lent::fill` is safe and ends: the list keeps its length, which the end does not pass; the measure is what is left up to it. Assumes nothing.
 use mathlib.Core.Path.{_≡_}
 use Prim.Native.Nat.{_-_}
 use lib.ListN.{length}
@@ -7,10 +7,13 @@ use Rattle.try_replay.proofs.lent.fill.Statement.{statement}
 use Rattle.try_replay.proofs.lent.fill.Tie as tie
 
 abbrev Inv-loop : tie.InvT-loop
-Inv-loop out₀ i₀ out i = length out ≡ length out₀
+Inv-loop out₀ n end i₀ out i = length out ≡ length out₀
 
 abbrev μ-loop : tie.MeasureT-loop
-μ-loop out₀ i₀ out i = length out₀ - i
+μ-loop out₀ n end i₀ out i = end - i
+
+lesser-requires : tie.Need-lesser-requires Inv-loop μ-loop
+lesser-requires c κs = search needs
 
 loop-holds : tie.Need-loop-holds Inv-loop μ-loop
 loop-holds c = search needs
@@ -45,6 +48,7 @@ fill-spec =
     (tie.spec
     Inv-loop
     μ-loop
+    lesser-requires
     loop-holds
     pattern-requires
     mul-out
