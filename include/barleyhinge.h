@@ -309,7 +309,7 @@ uint32_t bh_write_panel(
 /* Cleans a panel file: reads it, removes folded faces, compacts, and writes what is left as a panel file, as the program meshclean does.
    Lends 'cleaned', with room for BH_FILE_ROOM bytes, whatever the file holds.
    On 0: '*length' bytes in 'cleaned'.
-   Answers 9, or else what bh_read_panel answers to the file with its lists at the full limits. */
+   Answers 9; then 1 for a file of more than BH_FILE_ROOM bytes; then what bh_read_panel answers to a file. */
 uint32_t bh_clean_panel(
     const uint8_t *file, size_t file_len,
     uint8_t *cleaned, size_t cleaned_len,

@@ -360,7 +360,7 @@ pub fn read_panel(file: &[u8]) -> Result<OwnedMesh, Refusal> {
 }
 
 /// Cleans a panel file, as the program `meshclean` does: folded faces go or are cut open, then the entries that no corner uses go, and what
-/// is left is a panel file again. Refuses what [`read_panel`] refuses.
+/// is left is a panel file again. Refuses 1 where the file has more than [`FILE_ROOM`] bytes, and then what [`read_panel`] refuses.
 pub fn clean_panel(file: &[u8]) -> Result<Vec<u8>, Refusal> {
     let mut cleaned = vec![0; FILE_ROOM];
     let mut length = 0;
