@@ -2,7 +2,7 @@
 
 use judge::{Answer, Call, Count, Mesh, Numbers, Question};
 
-/// The kind of a record that holds a mesh; the calls have 1 and up, in the order of the C interface.
+/// The kind of a record that holds a mesh; `kind` has those of the calls.
 const MESH: u32 = 0;
 /// The kind of a record that holds a panel file.
 const FILE: u32 = 12;
@@ -70,7 +70,10 @@ impl List {
             match list {
                 Numbers::Floats(list) => floats(&mut body, list),
                 Numbers::Words(list) => words(&mut body, list),
-                Numbers::Bytes(_) => unreachable!("no call of the list lends bytes"),
+                Numbers::Bytes(list) => {
+                    body.push(list.len() as u32);
+                    body.extend(packed(list));
+                }
             }
         }
         self.record(kind(call), &body);
@@ -82,8 +85,13 @@ impl List {
     }
 }
 
+/// The calls have 1 to 11 in the order of the C interface, and those that came later what is left.
 fn kind(call: Call) -> u32 {
-    1 + Call::ALL.iter().position(|other| *other == call).unwrap() as u32
+    match call {
+        Call::WritePanel => 13,
+        Call::CleanPanel => 14,
+        _ => 1 + Call::ALL.iter().position(|other| *other == call).unwrap() as u32,
+    }
 }
 
 /// The face, the tolerance or the normals setting, in 64 bits; 0 where the call takes none.
