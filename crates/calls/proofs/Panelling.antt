@@ -5,8 +5,7 @@ use mathlib.Core.List.{List, map}
 use Prim.Native.Nat.{ℕ}
 use native.Mathlib.Omega.{arith}
 use lib.ListN.{length, take, length-map}
-use Rattle.lists.specs.Lists.{joined}
-use Rattle.lists.proofs.Classes.{together}
+use Rattle.lists.specs.Lists.{joined, together}
 use Rattle.mesh.specs.Mesh.{Mesh, faces}
 use Rattle.mesh.specs.Table.{meshNumber}
 use Rattle.panels.specs.Panels.{panels}

@@ -242,9 +242,3 @@ fn hem(
         verdict: verdict,
     }
 }
-
-pub fn wide(x: u32) -> usize
-    ensures { λ r. ⌜ r ≡ x ⌝ }
-{
-    x as usize
-}

@@ -9,8 +9,8 @@ use lib.ListN.{length, getD, take, drop}
 use lib.Seq.{drop-drop, take-append-seam, drop-append-seam}
 use Rattle.lists.specs.Lists.{sum, joined, each}
 use Rattle.lists.proofs.Parts.{sum-step, sum-at}
-use Rattle.text.specs.Text.{Room, Written}
-use Rattle.text.proofs.Putting.{Listing, listing-begins, listing-room, listing-turns, listing-ends}
+use Rattle.lists.specs.Putting.{Room, Written}
+use Rattle.lists.proofs.Listing.{Listing, listing-begins, listing-room, listing-turns, listing-ends}
 use Rattle.lines.specs.Lines.{hemLine, hemLines}
 use Rattle.lines.specs.Working.{parts, wiresBy, Wired}
 

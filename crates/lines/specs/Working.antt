@@ -9,7 +9,7 @@ use Rattle.lists.specs.Lists.{sum}
 use Rattle.mesh.specs.Limits.{cornerLimit}
 use Rattle.mesh.specs.Table.{after}
 use Rattle.edges.specs.Answers.{verdictOf}
-use Rattle.text.specs.Text.{Room}
+use Rattle.lists.specs.Putting.{Room}
 use Rattle.lines.specs.declared.Findings.{Findings}
 use Rattle.lines.specs.Lines.{Found, hemLines, sheetRoom}
 
