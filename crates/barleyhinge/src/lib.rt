@@ -18,8 +18,8 @@ ghost use Rattle.house.specs.Answers.{HouseAnswer};
 ghost use Rattle.panels.specs.Contract.{PanelsAnswer};
 ghost use Rattle.panelfile.specs.Answer.{PanelRead};
 ghost use Rattle.saving.specs.Answer.{PanelWritten};
+ghost use Rattle.cleanfile.specs.Cleaning.{PanelCleaned};
 ghost use Rattle.sheet.specs.Sheet.{Printed};
-ghost use Rattle.cleanfile.specs.Answer.{PanelCleaned};
 ghost use Rattle.answers.specs.Answers as answer;
 ghost use Rattle.barleyhinge.specs.Calls as call;
 use edges::Judged;
@@ -361,15 +361,6 @@ pub extern "C" fn bh_write_panel(
     answers::saved(written, length)
 }
 
-// The sheet of a panel file: its bytes, and how many they are.
-#[no_mangle]
-pub extern "C" fn bh_sheet(file: &[u8], text: &mut [u8], length: &mut usize) -> u32
-    ensures { λ r. ⌜ Printed (now (file .entry)) (now (text .entry)) (now (text .exit)) (answer.printedBy r (now (length .exit))) ⌝ }
-{
-    let printed = sheet::sheet(file, text);
-    answers::printed(printed, length)
-}
-
 // A panel file, cleaned: the bytes of the cleaned file, and how many they are.
 #[no_mangle]
 pub extern "C" fn bh_clean_panel(file: &[u8], cleaned: &mut [u8], length: &mut usize) -> u32
@@ -377,4 +368,13 @@ pub extern "C" fn bh_clean_panel(file: &[u8], cleaned: &mut [u8], length: &mut u
 {
     let clean = cleanfile::clean(file, cleaned);
     answers::cleaned(clean, length)
+}
+
+// The sheet of a panel file: its bytes, and how many they are.
+#[no_mangle]
+pub extern "C" fn bh_sheet(file: &[u8], text: &mut [u8], length: &mut usize) -> u32
+    ensures { λ r. ⌜ Printed (now (file .entry)) (now (text .entry)) (now (text .exit)) (answer.printedBy r (now (length .exit))) ⌝ }
+{
+    let printed = sheet::sheet(file, text);
+    answers::printed(printed, length)
 }

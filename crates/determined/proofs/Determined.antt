@@ -16,7 +16,7 @@ use Rattle.edges.proofs.Answering.{answer-only}
 use Rattle.tracing.specs.Answers.{Answered}
 use Rattle.tracing.specs.declared.Wires.{Wires}
 use Rattle.determined.specs.Determined.{Call, Determined, _and_, done, equals, number, face, pushCall, compactionCall, removalCall}
-use Rattle.determined.specs.Determined.{mergingCall, verdictCall, hemCall, portedCall, houseCall, panelsCall, readCall, writeCall, sheetCall, cleanCall, AllDetermined}
+use Rattle.determined.specs.Determined.{mergingCall, verdictCall, hemCall, portedCall, houseCall, panelsCall, readCall, writeCall, cleanCall, sheetCall, AllDetermined}
 
 -- ---- the general law
 
@@ -175,6 +175,6 @@ all-determined =
     and panels-determined
     and read-determined
     and write-determined
-    and sheet-determined
     and clean-determined
+    and sheet-determined
     and done
