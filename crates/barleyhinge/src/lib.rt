@@ -11,7 +11,7 @@ ghost use Rattle.mesh.specs.Table.{meshNumber};
 ghost use Rattle.faces.specs.Faces.{facesOf, Grouped};
 ghost use Rattle.compaction.specs.Compaction as compacting;
 ghost use Rattle.folded.specs.Folded as folding;
-ghost use Rattle.edges.specs.Answers.{HemAnswer};
+ghost use Rattle.edges.specs.Answers.{hemsIn, HemAnswer};
 ghost use Rattle.merging.specs.Merging.{PutTogether};
 ghost use Rattle.ported.specs.Answers.{PortedAnswer};
 ghost use Rattle.house.specs.Answers.{HouseAnswer};
@@ -215,8 +215,8 @@ pub extern "C" fn bh_hem_edges(
 ) -> u32
     ensures { λ r. ⌜ HemAnswer
         (meshOf (now (positions .entry)) (now (textures .entry)) (now (normals .entry)) (now (corners .entry)) (now (sizes .entry)))
-        (now (starts .entry)) (now (ends .entry))
-        (now (starts .exit)) (now (ends .exit))
+        (hemsIn (now (starts .entry)) (now (ends .entry)))
+        (hemsIn (now (starts .exit)) (now (ends .exit)))
         (answer.hemmedBy r (now (count .exit))) ⌝ }
 {
     let hems = edges::hem_edges(positions, textures, normals, corners, sizes, starts, ends);

@@ -10,8 +10,8 @@ use Rattle.mesh.specs.Mesh.{Mesh, faces}
 use Rattle.mesh.specs.Table.{meshNumber}
 use Rattle.panels.specs.Panels.{panels}
 use Rattle.panels.specs.Contract.{componentsNumber, panelsOf}
-use Rattle.lines.specs.Working.{parts}
-use Rattle.lines.proofs.Wiring.{parts-back}
+use Rattle.lists.specs.Cutting.{parts}
+use Rattle.lists.proofs.Cutting.{parts-back}
 use Rattle.panels.proofs.Panelled.{panels-length, panels-count}
 use Rattle.order.specs.Same.{Matching}
 use Rattle.order.specs.Demand.{SameTogether}

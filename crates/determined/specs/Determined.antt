@@ -84,11 +84,8 @@ abbrev pub mergingCall : Call
 mergingCall = lending (λ (g : Mesh × Float). PutTogether (g .0) (g .1))
 
 -- `edges::hem_edges`
-abbrev pub TwoLists : Type 0
-TwoLists = List ℕ × List ℕ
-
 abbrev pub hemCall : Call
-hemCall = lending (λ (m : Mesh) (before afterwards : TwoLists) (answer : HemEdges). HemAnswer m (before .0) (before .1) (afterwards .0) (afterwards .1) answer)
+hemCall = lending HemAnswer
 
 -- `ported::extract_boundaries` and `house::house_wires`
 abbrev pub portedCall : Call

@@ -16,7 +16,8 @@ use Rattle.lists.proofs.Listing.{room-first, room-then, written-then}
 use Rattle.text.proofs.Putting.{numberText, spaced-numbers}
 use Rattle.lines.specs.declared.Findings.{Findings}
 use Rattle.lines.specs.Lines.{meshLine, verdictLine, panelsLine, hemLine, hemLines, sheetText, sheetRoom, refusal}
-use Rattle.lines.specs.Working.{parts, wiresBy, foundBy, Ready, Sheeted}
+use Rattle.lists.specs.Cutting.{parts}
+use Rattle.lines.specs.Working.{wiresBy, foundBy, Ready, Sheeted}
 
 -- a text that is written from the front of a list that has room for it
 pub sheeted : {text out out′ : List ℕ} {n : ℕ} → Room text out 0 → Written text out out′ 0 n → Sheeted text out out′ n

@@ -9,7 +9,8 @@ ghost use lib.ListN.{length};
 ghost use Rattle.edges.specs.Answers.{verdictOf};
 ghost use Rattle.lists.specs.Putting.{Room, Written};
 ghost use Rattle.lines.specs.Lines.{meshLine, verdictLine, panelsLine, hemLine, hemLines, sheetText, sheetRoom, refusal};
-ghost use Rattle.lines.specs.Working.{parts, wiresBy, foundBy, Wired, Ready, Sheeted};
+ghost use Rattle.lists.specs.Cutting.{parts};
+ghost use Rattle.lines.specs.Working.{wiresBy, foundBy, Wired, Ready, Sheeted};
 use edges::ShellCondition;
 
 // What was found in a mesh, but for its wires: how many positions, texture points, normals, faces and panels there are, the verdict,
