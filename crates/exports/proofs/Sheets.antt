@@ -22,7 +22,8 @@ use Rattle.folded.proofs.Accepted.{faces-stay}
 use Rattle.panelfile.specs.Reading.{finish, readAll, readingNumber, panelMesh}
 use Rattle.panelfile.proofs.Ending.{read-accepted}
 use Rattle.lines.specs.Lines.{sheetText, sheetRoom, hemLines}
-use Rattle.sheet.specs.Sheet.{cleaned, printed, fileLimit, fileNumber, sheetOf, sheetNumber}
+use Rattle.cleaning.specs.Cleaning.{cleaned}
+use Rattle.sheet.specs.Sheet.{printed, fileLimit, fileNumber, sheetOf, sheetNumber}
 use Rattle.exports.specs.Covers.{OneCover}
 use Rattle.exports.specs.Sheets.{SheetCall, written, firstLines, found, SheetsSay, FirstLinesAreFree, FirstLinesOfUnfolded, SheetsOfOneCover, PositionsAreEnoughForSheets}
 use Rattle.exports.proofs.Rewritten.{rewritten, rewritten-by}

@@ -16,7 +16,8 @@ use Rattle.order.specs.Demand.{byPosition}
 use Rattle.calls.specs.Begun.{touching, touchingLater}
 use Rattle.panelfile.specs.Reading.{panelMesh}
 use Rattle.lines.specs.Lines.{Found, sheetRoom, meshLine, verdictLine, panelsLine, hemLines}
-use Rattle.sheet.specs.Sheet.{cleaned, foundIn, fileNumber, Printed}
+use Rattle.cleaning.specs.Cleaning.{cleaned}
+use Rattle.sheet.specs.Sheet.{foundIn, fileNumber, Printed}
 use Rattle.sheet.specs.declared.Answer.{Answer}
 use Rattle.exports.specs.Covers.{OneCover}
 

@@ -20,7 +20,7 @@ use Rattle.compaction.specs.declared.Compacted.{Compacted}
 use Rattle.compaction.proofs.Answer.{ready, done as compaction-done}
 use Rattle.compaction.proofs.Laws.{corners-kept, accepted-compacted}
 use Rattle.panelfile.specs.declared.MeshRead.{MeshRead}
-use Rattle.sheet.specs.Sheet.{cleaned}
+use Rattle.cleaning.specs.Cleaning.{cleaned}
 use Rattle.lists.specs.Putting.{Front}
 use Rattle.lists.proofs.Fronts.{front}
 use Rattle.mesh.proofs.MeshFronts.{front-corners, front-sizes}

@@ -16,7 +16,7 @@ use Rattle.panelfile.specs.declared.MeshRead.{MeshRead}
 use Rattle.panelfile.specs.Reading.{readAll, finish, fullRoom, readingNumber, panelMesh}
 use Rattle.panelfile.specs.Answer.{PanelRead}
 use Rattle.panelfile.proofs.Ending.{read-accepted}
-use Rattle.sheet.specs.Sheet.{cleaned}
+use Rattle.cleaning.specs.Cleaning.{cleaned}
 use Rattle.lists.specs.Putting.{Front}
 use Rattle.mesh.proofs.After.{after-length}
 use Rattle.mesh.proofs.MeshFronts.{front-positions, front-textures, front-normals, front-corners, front-sizes}

@@ -19,7 +19,7 @@ use Rattle.house.specs.Answers.{wired}
 use Rattle.panels.specs.Panels.{panels}
 use Rattle.keys.specs.Columns.{Keyable}
 use Rattle.lines.specs.Lines.{Found, sheetRoom}
-use Rattle.sheet.specs.Sheet.{cleaned}
+use Rattle.cleaning.specs.Cleaning.{cleaned}
 
 -- ---- from the file to its mesh after cleaning
 
