@@ -1,36 +1,27 @@
 // One case: the mesh that it is about is read from the list, and the call is asked.
-use crate::attributes;
-use crate::calls;
-use crate::calls::Outcome;
-use crate::files;
-use crate::list;
-use crate::pairs;
+use try_answers::cases::Outcome;
+use try_answers::list;
 
-// The kind of a record that holds a mesh, and of one that holds a panel file.
+// The kind of a record that holds a mesh, and of one that holds a panel file. The crates that ask the calls have the kinds of theirs.
 pub const MESH: u32 = 0;
 
 pub const FILE: u32 = 12;
 
-// The calls, by the kind of their records; `pairs` has the others.
-pub const MESH_NUMBER: u32 = 1;
-
-pub const FACE: u32 = 2;
-
-pub const COMPACTION: u32 = 3;
-
-pub const MERGING: u32 = 5;
-
-pub const VERDICT: u32 = 6;
-
-pub const READING: u32 = 11;
-
 // Asks the call of a record of this kind; `at` is where the case's own words begin, `subject` where the words of its mesh or of its
 // panel file do. The lists of a mesh are read one by one, each by a function that has room for it; `place` is where its words begin.
 pub(crate) fn ask(list: &[u8], subject: usize, kind: u32, at: usize) -> Outcome {
-    if kind == READING {
-        return files::read_panel(list, subject, at);
+    if is_of_files(kind) {
+        return try_files::ask(list, subject, kind, at);
     }
     read_positions(list, subject, kind, at)
+}
+
+// Whether a call reads a panel file in the place of a mesh.
+fn is_of_files(kind: u32) -> bool {
+    if kind == try_files::READING {
+        return true;
+    }
+    kind == try_files::CLEANING
 }
 
 fn read_positions(list: &[u8], place: usize, kind: u32, at: usize) -> Outcome {
@@ -91,6 +82,7 @@ fn read_sizes(
     ask_of(list, kind, at, positions, textures, normals, corners, sizes)
 }
 
+// Hands the case to the crate that has the call.
 fn ask_of(
     list: &[u8],
     kind: u32,
@@ -101,31 +93,19 @@ fn ask_of(
     corners: &[u32],
     sizes: &[u32],
 ) -> Outcome {
-    if kind == MESH_NUMBER {
-        return calls::mesh_number(list, at, positions, textures, normals, corners, sizes);
+    if kind == try_files::WRITING {
+        return try_files::write_panel(list, at, positions, textures, normals, corners, sizes);
     }
-    if kind == FACE {
-        return calls::face(list, at, positions, textures, normals, corners, sizes);
+    if is_of_attributes(kind) {
+        return try_attributes::ask(list, kind, at, positions, textures, normals, corners, sizes);
     }
-    if kind == COMPACTION {
-        return attributes::compaction(list, at, positions, textures, normals, corners, sizes);
+    try_faces::ask(list, kind, at, positions, textures, normals, corners, sizes)
+}
+
+// Whether a call goes by the attributes of its mesh.
+fn is_of_attributes(kind: u32) -> bool {
+    if kind == try_attributes::COMPACTION {
+        return true;
     }
-    if kind == MERGING {
-        return attributes::merging(list, at, positions, textures, normals, corners, sizes);
-    }
-    if kind == VERDICT {
-        return calls::shell_condition(list, at, positions, textures, normals, corners, sizes);
-    }
-    let counts = if kind == pairs::HEMS { 1 } else { 2 };
-    pairs::two_lists(
-        list,
-        at,
-        kind,
-        counts,
-        positions,
-        textures,
-        normals,
-        corners,
-        sizes,
-    )
+    kind == try_attributes::MERGING
 }

@@ -3,17 +3,14 @@
 // result. It prints for each call how many cases there were, how many by number, and how many differed: none may.
 //
 // The list was made by the oracle, from the Rust itself and from a second reading of document 01 (oracle/README.md); README.md has
-// its format, and how this program was seen to fail.
+// its format, and how this program was seen to fail. Here the records are gone through and counted; `try_answers` reads the list, and
+// `try_faces`, `try_attributes` and `try_files` ask the calls.
 mod ask;
-mod attributes;
-mod calls;
-mod files;
-mod lent;
-mod list;
-mod pairs;
 mod tally;
 
-use calls::Outcome;
+use try_answers::cases;
+use try_answers::cases::Outcome;
+use try_answers::list;
 
 fn main() {
     let mut list = [0u8; 524288];
@@ -58,7 +55,7 @@ fn record(list: &[u8], at: usize, next: usize, subject: usize, counts: &mut [u32
         return body;
     }
     let found = ask::ask(list, subject, kind, body);
-    let differs = calls::either(found.differs, found.end != next);
+    let differs = cases::either(found.differs, found.end != next);
     tally::add(
         counts,
         kind,

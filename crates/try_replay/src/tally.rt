@@ -1,12 +1,12 @@
 // What came of the cases. For each call, by the kind of its records, and in row 0 for all of them: how many answered each of the numbers 0 to
 // 13, how many cases there were, and how many differed from the list.
-use crate::calls::Outcome;
+use try_answers::cases::Outcome;
 
 // A row for each kind of record; those of a mesh and of a panel file are no calls, so row 0 is for all of them, and row 12 stays empty.
-const ROWS: u32 = 14;
+const ROWS: u32 = 16;
 
 // How many counts all rows have.
-pub const COUNTS: usize = 224;
+pub const COUNTS: usize = 256;
 
 const CASES: u32 = 14;
 
@@ -86,6 +86,8 @@ pub(crate) fn print(tally: &[u32]) {
     line(tally, 10, b"components");
     line(tally, 11, b"read_panel");
     line(tally, 13, b"push");
+    line(tally, 14, b"write_panel");
+    line(tally, 15, b"clean_panel");
     line(tally, 0, b"all");
 }
 
