@@ -3,11 +3,8 @@
 // result. It prints for each call how many cases there were, how many by number, and how many differed: none may.
 //
 // The list was made by the oracle, from the Rust itself and from a second reading of document 01 (oracle/README.md); README.md has
-// its format, and how this program was seen to fail. Here the records are gone through and counted; `try_answers` reads the list, and
-// `try_faces`, `try_attributes` and `try_files` ask the calls.
-mod ask;
-mod tally;
-
+// its format, and how this program was seen to fail. Here the records are gone through; `try_answers` reads the list, `try_questions` puts
+// a case to its call, by `try_faces`, `try_attributes` and `try_files`, and `try_tally` counts how the cases came out.
 use try_answers::cases;
 use try_answers::cases::Outcome;
 use try_answers::list;
@@ -15,9 +12,9 @@ use try_answers::list;
 fn main() {
     let mut list = [0u8; 524288];
     let n = io::read_full(0, &mut list);
-    let mut counts = [0u32; tally::COUNTS];
+    let mut counts = [0u32; try_tally::COUNTS];
     let whole = replay(list::front_of_bytes(&list, n), &mut counts);
-    tally::print(&counts);
+    try_tally::print(&counts);
     if !whole {
         io::write_all(1, b"the list is damaged\n");
     }
@@ -48,15 +45,15 @@ fn replay(list: &[u8], counts: &mut [u32]) -> bool {
 fn record(list: &[u8], at: usize, next: usize, subject: usize, counts: &mut [u32]) -> usize {
     let kind = list::word(list, list::plus(at, 1));
     let body = list::plus(at, 2);
-    if kind == ask::MESH {
+    if kind == try_questions::MESH {
         return body;
     }
-    if kind == ask::FILE {
+    if kind == try_questions::FILE {
         return body;
     }
-    let found = ask::ask(list, subject, kind, body);
+    let found = try_questions::ask(list, subject, kind, body);
     let differs = cases::either(found.differs, found.end != next);
-    tally::add(
+    try_tally::add(
         counts,
         kind,
         Outcome {

@@ -15,7 +15,7 @@ const DIFFERED: u32 = 15;
 const NOWHERE: u32 = 16;
 
 // One more case of a call.
-pub(crate) fn add(tally: &mut [u32], call: u32, outcome: Outcome) {
+pub fn add(tally: &mut [u32], call: u32, outcome: Outcome) {
     add_in(tally, 0, outcome);
     add_in(tally, call, outcome);
 }
@@ -73,7 +73,7 @@ fn double(n: u32) -> u64 {
 }
 
 // The lines of all calls, and one for all cases.
-pub(crate) fn print(tally: &[u32]) {
+pub fn print(tally: &[u32]) {
     line(tally, 1, b"mesh_number");
     line(tally, 2, b"face");
     line(tally, 3, b"remove_unused_attrs");

@@ -9,7 +9,7 @@ pub const FILE: u32 = 12;
 
 // Asks the call of a record of this kind; `at` is where the case's own words begin, `subject` where the words of its mesh or of its
 // panel file do. The lists of a mesh are read one by one, each by a function that has room for it; `place` is where its words begin.
-pub(crate) fn ask(list: &[u8], subject: usize, kind: u32, at: usize) -> Outcome {
+pub fn ask(list: &[u8], subject: usize, kind: u32, at: usize) -> Outcome {
     if is_of_files(kind) {
         return try_files::ask(list, subject, kind, at);
     }

@@ -1,8 +1,8 @@
--- `try_replay::tally::numbers` is safe and ends: the measure is how many of the 14 numbers are left. Assumes nothing.
+-- `try_tally::numbers` is safe and ends: the measure is how many of the 14 numbers are left. Assumes nothing.
 use Prim.Native.Nat.{_-_}
 use borrow.Author.Needs.{needs}
-use Rattle.try_replay.proofs.tally.numbers.Statement.{statement}
-use Rattle.try_replay.proofs.tally.numbers.Tie as tie
+use Rattle.try_tally.proofs.numbers.Statement.{statement}
+use Rattle.try_tally.proofs.numbers.Tie as tie
 
 abbrev Inv-loop : tie.InvT-loop
 Inv-loop tally row i₀ i = Unit {0}
