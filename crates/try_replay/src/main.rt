@@ -40,27 +40,26 @@ fn replay(list: &[u8], counts: &mut [u32]) -> bool {
     list.len() % 4 == 0
 }
 
-// One record: a mesh or a panel file, which the cases after it are about, or a case, which must end where the next record begins.
-// Answers where the words of the mesh or the file begin.
+// One record: a mesh or a panel file, which the cases after it are about, or a case. Answers where the words of the mesh or the file begin.
 fn record(list: &[u8], at: usize, next: usize, subject: usize, counts: &mut [u32]) -> usize {
     let kind = list::word(list, list::plus(at, 1));
-    let body = list::plus(at, 2);
-    if kind == try_questions::MESH {
-        return body;
+    if is_subject(kind) {
+        return list::plus(at, 2);
     }
-    if kind == try_questions::FILE {
-        return body;
-    }
-    let found = try_questions::ask(list, subject, kind, body);
-    let differs = cases::either(found.differs, found.end != next);
-    try_tally::add(
-        counts,
-        kind,
-        Outcome {
-            number: found.number,
-            differs: differs,
-            end: next,
-        },
-    );
+    try_tally::add(counts, kind, outcome(list, at, next, subject, kind));
     subject
+}
+
+fn is_subject(kind: u32) -> bool {
+    if kind == try_questions::MESH {
+        return true;
+    }
+    kind == try_questions::FILE
+}
+
+// How a case came out; it must end where the next record begins.
+fn outcome(list: &[u8], at: usize, next: usize, subject: usize, kind: u32) -> Outcome {
+    let found = try_questions::ask(list, subject, kind, list::plus(at, 2));
+    let elsewhere = found.end != next;
+    cases::also(found, elsewhere)
 }
