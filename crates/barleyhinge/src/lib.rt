@@ -11,15 +11,15 @@ ghost use Rattle.mesh.specs.Table.{meshNumber};
 ghost use Rattle.faces.specs.Faces.{facesOf, Grouped};
 ghost use Rattle.compaction.specs.Compaction as compacting;
 ghost use Rattle.folded.specs.Folded as folding;
-ghost use Rattle.edges.specs.Answers.{HemAnswer};
+ghost use Rattle.edges.specs.Answers.{hemsIn, HemAnswer};
 ghost use Rattle.merging.specs.Merging.{PutTogether};
 ghost use Rattle.ported.specs.Answers.{PortedAnswer};
 ghost use Rattle.house.specs.Answers.{HouseAnswer};
 ghost use Rattle.panels.specs.Contract.{PanelsAnswer};
 ghost use Rattle.panelfile.specs.Answer.{PanelRead};
 ghost use Rattle.saving.specs.Answer.{PanelWritten};
+ghost use Rattle.cleanfile.specs.Cleaning.{PanelCleaned};
 ghost use Rattle.sheet.specs.Sheet.{Printed};
-ghost use Rattle.cleanfile.specs.Answer.{PanelCleaned};
 ghost use Rattle.answers.specs.Answers as answer;
 ghost use Rattle.barleyhinge.specs.Calls as call;
 use edges::Judged;
@@ -215,8 +215,8 @@ pub extern "C" fn bh_hem_edges(
 ) -> u32
     ensures { λ r. ⌜ HemAnswer
         (meshOf (now (positions .entry)) (now (textures .entry)) (now (normals .entry)) (now (corners .entry)) (now (sizes .entry)))
-        (now (starts .entry)) (now (ends .entry))
-        (now (starts .exit)) (now (ends .exit))
+        (hemsIn (now (starts .entry)) (now (ends .entry)))
+        (hemsIn (now (starts .exit)) (now (ends .exit)))
         (answer.hemmedBy r (now (count .exit))) ⌝ }
 {
     let hems = edges::hem_edges(positions, textures, normals, corners, sizes, starts, ends);
@@ -361,15 +361,6 @@ pub extern "C" fn bh_write_panel(
     answers::saved(written, length)
 }
 
-// The sheet of a panel file: its bytes, and how many they are.
-#[no_mangle]
-pub extern "C" fn bh_sheet(file: &[u8], text: &mut [u8], length: &mut usize) -> u32
-    ensures { λ r. ⌜ Printed (now (file .entry)) (now (text .entry)) (now (text .exit)) (answer.printedBy r (now (length .exit))) ⌝ }
-{
-    let printed = sheet::sheet(file, text);
-    answers::printed(printed, length)
-}
-
 // A panel file, cleaned: the bytes of the cleaned file, and how many they are.
 #[no_mangle]
 pub extern "C" fn bh_clean_panel(file: &[u8], cleaned: &mut [u8], length: &mut usize) -> u32
@@ -377,4 +368,13 @@ pub extern "C" fn bh_clean_panel(file: &[u8], cleaned: &mut [u8], length: &mut u
 {
     let clean = cleanfile::clean(file, cleaned);
     answers::cleaned(clean, length)
+}
+
+// The sheet of a panel file: its bytes, and how many they are.
+#[no_mangle]
+pub extern "C" fn bh_sheet(file: &[u8], text: &mut [u8], length: &mut usize) -> u32
+    ensures { λ r. ⌜ Printed (now (file .entry)) (now (text .entry)) (now (text .exit)) (answer.printedBy r (now (length .exit))) ⌝ }
+{
+    let printed = sheet::sheet(file, text);
+    answers::printed(printed, length)
 }

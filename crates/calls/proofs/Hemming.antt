@@ -21,25 +21,25 @@ use Rattle.calls.proofs.Verdicts.{unsaid}
 -- one call
 module _ (m : Mesh) (z : meshNumber m ≡ 0) (r : HemCall m) where
   abbrev number : ℕ
-  number = hemNumber m (length (r .starts)) (length (r .ends))
+  number = hemNumber m (length (r .before .starts)) (length (r .before .ends))
 
   zero-is : number ≡ 0
   unfolding hemNumber
-  zero-is = roomy-zero (meshNumber m) (length (r .starts)) (cornersOf m) (length (r .ends)) (cornersOf m) z (r .starts-room) (r .ends-room)
+  zero-is = roomy-zero (meshNumber m) (length (r .before .starts)) (cornersOf m) (length (r .before .ends)) (cornersOf m) z (r .starts-room) (r .ends-room)
 
   done-is : r .answer .number ≡ 0
   done-is = r .contract .number ∙ zero-is
 
   starts-are : startsWritten r ≡ map start (hems (meshEdgesOf m))
   starts-are =
-      front (r .starts) (r .starts′) (map start (hems (meshEdgesOf m))) number (length (hems (meshEdgesOf m))) (r .answer .count) zero-is
-      (r .contract .starting) (r .contract .count) (sym (length-map (hems (meshEdgesOf m)) start))
+      front (r .before .starts) (r .afterwards .starts) (map start (hems (meshEdgesOf m))) (r .answer .number) (length (hems (meshEdgesOf m))) (r .answer .count) done-is
+      (r .contract .starts) (r .contract .count) (sym (length-map (hems (meshEdgesOf m)) start))
       (omega (arith, length-map (hems (meshEdgesOf m)) start, mesh-hems-within m z, r .starts-room))
 
   ends-are : endsWritten r ≡ map end (hems (meshEdgesOf m))
   ends-are =
-      front (r .ends) (r .ends′) (map end (hems (meshEdgesOf m))) number (length (hems (meshEdgesOf m))) (r .answer .count) zero-is
-      (r .contract .ending) (r .contract .count) (sym (length-map (hems (meshEdgesOf m)) end))
+      front (r .before .ends) (r .afterwards .ends) (map end (hems (meshEdgesOf m))) (r .answer .number) (length (hems (meshEdgesOf m))) (r .answer .count) done-is
+      (r .contract .ends) (r .contract .count) (sym (length-map (hems (meshEdgesOf m)) end))
       (omega (arith, length-map (hems (meshEdgesOf m)) end, mesh-hems-within m z, r .ends-room))
 
   edges-are : edgesWritten r ≡ hems (meshEdgesOf m)
@@ -52,8 +52,8 @@ pub hems-agree :
 hems-agree m n a b d v r q = record {
   done = (done-is m a r, done-is n b q);
   as-many =
-      as-many (number m a r) (number n b q) (length (hems (meshEdgesOf m))) (length (hems (meshEdgesOf n))) (r .answer .count) (q .answer .count)
-      (zero-is m a r) (zero-is n b q) (r .contract .count) (q .contract .count)
+      as-many (r .answer .number) (q .answer .number) (length (hems (meshEdgesOf m))) (length (hems (meshEdgesOf n))) (r .answer .count) (q .answer .count)
+      (done-is m a r) (done-is n b q) (r .contract .count) (q .contract .count)
       (sym (length-map (hems (meshEdgesOf m)) key) ∙ ap length (d .same-hems) ∙ length-map (hems (meshEdgesOf n)) key);
   same-edges = ap (map key) (edges-are m a r) ∙ d .same-hems ∙ sym (ap (map key) (edges-are n b q));
   same-starts = λ h. starts-are m a r ∙ ap (map start) (d .same-directions (unsaid m a v Irregular h)) ∙ sym (starts-are n b q);

@@ -5,14 +5,13 @@ use mathlib.Core.List.{List, map}
 use Prim.Native.Nat.{ℕ}
 use native.Mathlib.Omega.{arith}
 use lib.ListN.{length, take, length-map}
-use Rattle.lists.specs.Lists.{joined}
-use Rattle.lists.proofs.Classes.{together}
+use Rattle.lists.specs.Lists.{joined, together}
 use Rattle.mesh.specs.Mesh.{Mesh, faces}
 use Rattle.mesh.specs.Table.{meshNumber}
 use Rattle.panels.specs.Panels.{panels}
 use Rattle.panels.specs.Contract.{componentsNumber, panelsOf}
-use Rattle.lines.specs.Working.{parts}
-use Rattle.lines.proofs.Wiring.{parts-back}
+use Rattle.lists.specs.Cutting.{parts}
+use Rattle.lists.proofs.Cutting.{parts-back}
 use Rattle.panels.proofs.Panelled.{panels-length, panels-count}
 use Rattle.order.specs.Same.{Matching}
 use Rattle.order.specs.Demand.{SameTogether}

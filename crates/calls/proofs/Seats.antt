@@ -9,12 +9,11 @@ use native.Mathlib.Omega.{arith}
 use lib.Dec.{eqb}
 use lib.ListN.{length, getD, length-append, length-map}
 use borrow.Author.Tests.{ne-eqb}
-use Rattle.lists.specs.Lists.{count, has, joined}
+use Rattle.lists.specs.Lists.{count, has, joined, together}
 use Rattle.lists.proofs.Bools.{by-cases, or-neither}
 use Rattle.lists.proofs.Cases.{and-parts}
 use Rattle.lists.proofs.Counting.{clash, or-either, count-none, some-counted}
 use Rattle.lists.proofs.Members.{In, in-cases, in-head, in-tail, in-left, in-right, in-append, Once, once-apart, once-rear, once-cons, free, once-free}
-use Rattle.lists.proofs.Classes.{together}
 use Rattle.mesh.specs.Mesh.{Ring}
 use Rattle.searching.specs.Search.{Join, Search, neighbours, look, searchFrom, panelsFrom}
 use Rattle.panels.specs.Panels.{joins, panels}

@@ -9,7 +9,7 @@ use Rattle.mesh.specs.Limits.{width}
 use Rattle.mesh.specs.Mesh.{Mesh}
 use Rattle.mesh.specs.Listed.{Listed}
 use Rattle.edges.specs.Edges.{Edge}
-use Rattle.edges.specs.Answers.{answerOf, judged, HemAnswer}
+use Rattle.edges.specs.Answers.{answerOf, judged, HemLists, HemAnswer}
 use Rattle.edges.specs.declared.ShellCondition.{ShellCondition}
 use Rattle.edges.specs.declared.Judged.{Judged}
 use Rattle.edges.specs.declared.Judged.the-variants.{Found}
@@ -18,7 +18,7 @@ use Rattle.tracing.specs.Hems.{pairs}
 use Rattle.tracing.specs.declared.Wires.{Wires}
 use Rattle.ported.specs.Answers.{PortedAnswer}
 use Rattle.house.specs.Answers.{HouseAnswer}
-use Rattle.lines.specs.Working.{parts}
+use Rattle.lists.specs.Cutting.{parts}
 use Rattle.panels.specs.Contract.{PanelsAnswer}
 use Rattle.panels.specs.declared.Answer.{Answer}
 
@@ -39,22 +39,20 @@ says v c = v .answer ≡ Found c
 -- ---- `edges::hem_edges`
 
 pub record HemCall (m : Mesh) : Type 0 where
-  pub starts : List ℕ
-  pub ends : List ℕ
-  pub starts′ : List ℕ
-  pub ends′ : List ℕ
+  pub before : HemLists
+  pub afterwards : HemLists
   pub answer : HemEdges
-  pub contract : HemAnswer m starts ends starts′ ends′ answer
-  pub starts-room : cornersOf m ≤ length starts
-  pub ends-room : cornersOf m ≤ length ends
+  pub contract : HemAnswer m before afterwards answer
+  pub starts-room : cornersOf m ≤ length (before .starts)
+  pub ends-room : cornersOf m ≤ length (before .ends)
 
 -- what is written at the front of the two lists
 module _ {m : Mesh} (r : HemCall m) where
   abbrev pub startsWritten : List ℕ
-  startsWritten = take (r .answer .count) (r .starts′)
+  startsWritten = take (r .answer .count) (r .afterwards .starts)
 
   abbrev pub endsWritten : List ℕ
-  endsWritten = take (r .answer .count) (r .ends′)
+  endsWritten = take (r .answer .count) (r .afterwards .ends)
 
   abbrev pub edgesWritten : List Edge
   edgesWritten = pairs startsWritten endsWritten

@@ -19,7 +19,9 @@ use Rattle.saving.specs.Pieces.{fileOf}
 use Rattle.saving.specs.Working as writing
 use Rattle.saving.proofs.Parting.{file-is-long, file-fits}
 use Rattle.cleanfile.specs.Working.{CleanRoom, Filed}
-use Rattle.cleanfile.proofs.Fronts.{Front, front, front-positions, front-textures, front-normals}
+use Rattle.lists.specs.Putting.{Front}
+use Rattle.lists.proofs.Fronts.{front}
+use Rattle.mesh.proofs.MeshFronts.{front-positions, front-textures, front-normals}
 
 module _ {m : Mesh} {c out : List ℕ} {p t n : List Float} (room : CleanRoom m c p t n out) where
   pub compaction-ready : steps.Ready (m .positions) (m .textures) (m .normals) (m .corners) (resultOf c p t n)

@@ -15,9 +15,10 @@ use Rattle.folded.specs.Working.{Given}
 use Rattle.folded.proofs.Answer.{given, done}
 use Rattle.folded.proofs.Accepted.{removed-accepted, flat-removed}
 use Rattle.compaction.specs.Compaction.{compacted}
-use Rattle.cleanfile.specs.Cleaning.{cleanMesh}
+use Rattle.cleaning.specs.Cleaning.{cleaned}
 use Rattle.cleanfile.specs.Working.{Ready, MeshRoom, Filed}
-use Rattle.cleanfile.proofs.Fronts.{Front, front-corners, front-sizes}
+use Rattle.lists.specs.Putting.{Front}
+use Rattle.mesh.proofs.MeshFronts.{front-corners, front-sizes}
 
 module _ {m : Mesh} {c s out : List ℕ} (room : MeshRoom m c s out) where
   corners-room : length (m .corners) ≤ length c
@@ -62,6 +63,6 @@ module _ {m : Mesh} {c c′ s s′ out : List ℕ} {k f : ℕ} (room : MeshRoom 
   pub unfolded-ready : Ready left out
   unfolded-ready = record { accepted = ap meshNumber unfolded-are ∙ unfolded-accepted; room = room .ready .room }
 
-  pub unfolded-filed : (out′ : List ℕ) (n : ℕ) → Filed (compacted left) out out′ n → Filed (cleanMesh m) out out′ n
-  unfolding cleanMesh
+  pub unfolded-filed : (out′ : List ℕ) (n : ℕ) → Filed (compacted left) out out′ n → Filed (cleaned m) out out′ n
+  unfolding cleaned
   unfolded-filed out′ n h = rw unfolded-are at h

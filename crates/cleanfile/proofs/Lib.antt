@@ -1,4 +1,3 @@
-pub mod Fronts
 pub mod Reading
 pub mod Folded
 pub mod Compacting

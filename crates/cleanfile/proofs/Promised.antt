@@ -16,9 +16,7 @@ use Rattle.mesh.specs.Table.{meshNumber, when, short}
 use Rattle.mesh.proofs.Numbers.{first-head, first-tail, when-not}
 use Rattle.floating.specs.Promises.{Doubles}
 use Rattle.folded.specs.Folded.{unfoldedMesh}
-use Rattle.folded.proofs.Accepted.{removed-accepted}
 use Rattle.compaction.specs.Compaction.{entryAt, entries, usedPositions, usedTextures, usedNormals, compacted}
-use Rattle.compaction.proofs.Laws.{accepted-compacted}
 use Rattle.panelfile.specs.Reading.{readAll, finish, readingNumber, panelMesh}
 use Rattle.panelfile.proofs.Ending.{read-accepted}
 use Rattle.saving.specs.Pieces.{fileLength, fileLimit}
@@ -28,17 +26,19 @@ use Rattle.reopened.specs.Said.{isDouble}
 use Rattle.reopened.proofs.Saying.{doubles}
 use Rattle.reopened.proofs.Reading.{doubles-are, read-doubles}
 use Rattle.reopened.proofs.Reopened.{reopens}
-use Rattle.cleanfile.specs.Cleaning.{cleanMesh, meshLeft, cleaningNumber}
+use Rattle.cleaning.specs.Cleaning.{cleaned}
+use Rattle.cleaning.proofs.Cleaned.{cleaned-accepted}
+use Rattle.cleanfile.specs.Cleaning.{meshLeft, cleaningNumber}
 use Rattle.cleanfile.specs.Promises.{LeftIsAccepted, CleanedFits, CleanedReopens}
 
 -- ---- accepted
 
 pub left-accepted : LeftIsAccepted
-unfolding cleanMesh readingNumber short
+unfolding readingNumber short
 left-accepted file h =
     let m = panelMesh file in
     let ok : meshNumber m ≡ 0 = read-accepted file (first-head (finish file (readAll file)) [] h) in
-    accepted-compacted (unfoldedMesh m) (removed-accepted m ok)
+    cleaned-accepted m ok
 
 -- ---- the buffer is long enough
 
@@ -75,8 +75,8 @@ entries-double w l us d =
     doubles-are (each (entryAt w l) us)
     (every-each (entryAt w l) (λ i. every-take isDouble w (drop (i * w) l) (every-drop isDouble (i * w) l (doubles l d))) us)
 
-left-double : (m : Mesh) → DoubleMesh m → DoubleMesh (cleanMesh m)
-unfolding cleanMesh compacted unfoldedMesh
+left-double : (m : Mesh) → DoubleMesh m → DoubleMesh (cleaned m)
+unfolding cleaned compacted unfoldedMesh
 left-double m d = record {
   positions = entries-double 3 (m .positions) (usedPositions (unfoldedMesh m)) (d .positions);
   textures = entries-double 2 (m .textures) (usedTextures (unfoldedMesh m)) (d .textures);

@@ -19,9 +19,11 @@ use Rattle.panelfile.specs.Answer.{PanelRead}
 use Rattle.panelfile.proofs.Ending.{read-accepted}
 use Rattle.saving.specs.Pieces.{fileLimit}
 use Rattle.cleanfile.specs.declared.Cleaned.{Cleaned}
-use Rattle.cleanfile.specs.Cleaning.{cleanMesh, meshLeft, cleanFile, cleaningNumber, PanelCleaned}
+use Rattle.cleaning.specs.Cleaning.{cleaned}
+use Rattle.cleanfile.specs.Cleaning.{meshLeft, cleanFile, cleaningNumber, PanelCleaned}
 use Rattle.cleanfile.specs.Working.{Ready, FileRoom, Filed, refusedBy, Answered}
-use Rattle.cleanfile.proofs.Fronts.{Front, front-positions, front-textures, front-normals, front-corners, front-sizes}
+use Rattle.lists.specs.Putting.{Front}
+use Rattle.mesh.proofs.MeshFronts.{front-positions, front-textures, front-normals, front-corners, front-sizes}
 
 -- ---- the reader's answer
 
@@ -92,7 +94,7 @@ module _ {file : List ℕ} {r : MeshRead} {p p′ t t′ n n′ : List Float} {c
       go (suc k) e h = record { number = e; byte-count = rw (sym e); bytes = rw (sym e) }
 
   pub read-cleaned :
-      (z : r .number ≡ 0) (out′ : List ℕ) (l : ℕ) → Filed (cleanMesh given) out out′ l
+      (z : r .number ≡ 0) (out′ : List ℕ) (l : ℕ) → Filed (cleaned given) out out′ l
       → Answered (readingNumber [] file) (meshLeft file) out out′ (record { number = 0; length = l })
   read-cleaned z out′ l f =
       let e : readingNumber [] file ≡ 0 = sym read-number ∙ z in

@@ -8,19 +8,14 @@ use lib.Seq.{sets}
 use lib.Dec.{ltb}
 use Rattle.mesh.specs.Mesh.{Mesh}
 use Rattle.mesh.specs.Table.{when, firstOf, lent, short, after}
-use Rattle.folded.specs.Folded.{unfoldedMesh}
-use Rattle.compaction.specs.Compaction.{compacted}
+use Rattle.cleaning.specs.Cleaning.{cleaned}
 use Rattle.panelfile.specs.Reading.{readingNumber, panelMesh}
 use Rattle.saving.specs.Pieces.{fileOf, fileLength, fileLimit}
 use Rattle.cleanfile.specs.declared.Cleaned.{Cleaned}
 
--- removes folded faces, compacts
-unfoldable pub cleanMesh : Mesh → Mesh
-cleanMesh m = compacted (unfoldedMesh m)
-
 -- the mesh that is left of a file, and its file
 abbrev pub meshLeft : List ℕ → Mesh
-meshLeft file = cleanMesh (panelMesh file)
+meshLeft file = cleaned (panelMesh file)
 
 unfoldable pub cleanFile : List ℕ → List ℕ
 cleanFile file = fileOf (meshLeft file)

@@ -11,7 +11,8 @@ ghost use Rattle.mesh.specs.Mesh.{meshOf};
 ghost use Rattle.compaction.specs.Compaction.{compacted};
 ghost use Rattle.panelfile.specs.Reading.{readingNumber};
 ghost use Rattle.saving.specs.Pieces.{fileLimit};
-ghost use Rattle.cleanfile.specs.Cleaning.{cleanMesh, meshLeft, PanelCleaned};
+ghost use Rattle.cleaning.specs.Cleaning.{cleaned};
+ghost use Rattle.cleanfile.specs.Cleaning.{meshLeft, PanelCleaned};
 ghost use Rattle.cleanfile.specs.Working.{Ready, FileRoom, MeshRoom, CleanRoom, Filed, refusedBy, Answered};
 
 // The number returned, and how many bytes the cleaned file has.
@@ -110,7 +111,7 @@ fn from_mesh(
 ) -> usize
     requires { ⌜ Ready (meshOf (now positions) (now textures) (now normals) (now corners) (now sizes)) (now out) ⌝ }
     ensures { λ r. ⌜ Filed
-        (cleanMesh (meshOf (now (positions .entry)) (now (textures .entry)) (now (normals .entry)) (now (corners .entry)) (now (sizes .entry))))
+        (cleaned (meshOf (now (positions .entry)) (now (textures .entry)) (now (normals .entry)) (now (corners .entry)) (now (sizes .entry))))
         (now (out .entry)) (now (out .exit)) r ⌝ }
 {
     let mut newcorners = [0u32; mesh::CORNER_NUMBERS];
@@ -141,7 +142,7 @@ fn unfold_in(
     requires { ⌜ MeshRoom
         (meshOf (now positions) (now textures) (now normals) (now corners) (now sizes)) (now newcorners) (now newsizes) (now out) ⌝ }
     ensures { λ r. ⌜ Filed
-        (cleanMesh (meshOf (now (positions .entry)) (now (textures .entry)) (now (normals .entry)) (now (corners .entry)) (now (sizes .entry))))
+        (cleaned (meshOf (now (positions .entry)) (now (textures .entry)) (now (normals .entry)) (now (corners .entry)) (now (sizes .entry))))
         (now (out .entry)) (now (out .exit)) r ⌝ }
 {
     let left = folded::remove(corners, sizes, newcorners, newsizes);

@@ -11,12 +11,12 @@ use Rattle.mesh.specs.Face.{facePart}
 use Rattle.faces.specs.Faces.{facesOf}
 use Rattle.compaction.specs.Compaction as compaction
 use Rattle.folded.specs.Folded as removal
-use Rattle.edges.specs.Answers.{answerOf, judged}
+use Rattle.edges.specs.Answers.{answerOf, judged, hemsIn}
 use Rattle.edges.proofs.Answering.{answer-only}
 use Rattle.tracing.specs.Answers.{Answered}
 use Rattle.tracing.specs.declared.Wires.{Wires}
 use Rattle.determined.specs.Determined.{Call, Determined, _and_, done, equals, number, face, pushCall, compactionCall, removalCall}
-use Rattle.determined.specs.Determined.{mergingCall, verdictCall, hemCall, portedCall, houseCall, panelsCall, readCall, writeCall, sheetCall, cleanCall, AllDetermined}
+use Rattle.determined.specs.Determined.{mergingCall, verdictCall, hemCall, portedCall, houseCall, panelsCall, readCall, writeCall, cleanCall, sheetCall, AllDetermined}
 
 -- ---- the general law
 
@@ -86,9 +86,9 @@ hem-determined : Determined hemCall
 hem-determined g r q a b =
     let n : r .0 .number ≡ q .0 .number = cc in
     let c : r .0 .count ≡ q .0 .count = cc in
-    let s : r .1 .0 ≡ q .1 .0 = cc in
-    let e : r .1 .1 ≡ q .1 .1 = cc in
-    λ i. (record { number = n i; count = c i }, (s i, e i))
+    let s : r .1 .starts ≡ q .1 .starts = cc in
+    let e : r .1 .ends ≡ q .1 .ends = cc in
+    λ i. (record { number = n i; count = c i }, hemsIn (s i) (e i))
 
 -- ported and house wires answer alike
 wires-determined :
@@ -175,6 +175,6 @@ all-determined =
     and panels-determined
     and read-determined
     and write-determined
-    and sheet-determined
     and clean-determined
+    and sheet-determined
     and done

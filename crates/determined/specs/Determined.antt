@@ -22,8 +22,8 @@ use Rattle.panels.specs.Contract.{PanelsAnswer}
 use Rattle.panels.specs.declared.Answer.{Answer}
 use Rattle.panelfile.specs.Answer.{PanelRead}
 use Rattle.saving.specs.Answer.{PanelWritten}
+use Rattle.cleanfile.specs.Cleaning.{PanelCleaned}
 use Rattle.sheet.specs.Sheet.{Printed}
-use Rattle.cleanfile.specs.Answer.{PanelCleaned}
 
 -- a call: what it is given, what it answers and leaves, and which of these its contract allows
 pub record Call : Type 1 where
@@ -84,11 +84,8 @@ abbrev pub mergingCall : Call
 mergingCall = lending (λ (g : Mesh × Float). PutTogether (g .0) (g .1))
 
 -- `edges::hem_edges`
-abbrev pub TwoLists : Type 0
-TwoLists = List ℕ × List ℕ
-
 abbrev pub hemCall : Call
-hemCall = lending (λ (m : Mesh) (before afterwards : TwoLists) (answer : HemEdges). HemAnswer m (before .0) (before .1) (afterwards .0) (afterwards .1) answer)
+hemCall = lending HemAnswer
 
 -- `ported::extract_boundaries` and `house::house_wires`
 abbrev pub portedCall : Call
@@ -109,13 +106,13 @@ readCall = lending PanelRead
 abbrev pub writeCall : Call
 writeCall = lending PanelWritten
 
--- `sheet::sheet`: the bytes of a file are given
-abbrev pub sheetCall : Call
-sheetCall = lending Printed
-
--- `cleanfile::clean`: likewise
+-- `cleanfile::clean`: the bytes of a file are given
 abbrev pub cleanCall : Call
 cleanCall = lending PanelCleaned
+
+-- `sheet::sheet`: likewise
+abbrev pub sheetCall : Call
+sheetCall = lending Printed
 
 abbrev pub calls : List Call
 calls =
@@ -132,8 +129,8 @@ calls =
     ∷ panelsCall
     ∷ readCall
     ∷ writeCall
-    ∷ sheetCall
     ∷ cleanCall
+    ∷ sheetCall
     ∷ []
 
 -- the statement: every call's results are determined

@@ -11,8 +11,9 @@ use Rattle.mesh.specs.Listed.{Listed, listedOf}
 use Rattle.faces.specs.Faces.{FaceLists, facesOf}
 use Rattle.compaction.specs.Compaction as compaction
 use Rattle.folded.specs.Folded as removal
-use Rattle.determined.specs.Determined.{Call, TwoLists, number, face, pushCall, compactionCall, removalCall, mergingCall, verdictCall}
-use Rattle.determined.specs.Determined.{hemCall, portedCall, houseCall, panelsCall, readCall, writeCall, sheetCall, cleanCall}
+use Rattle.edges.specs.Answers.{HemLists, hemsIn}
+use Rattle.determined.specs.Determined.{Call, number, face, pushCall, compactionCall, removalCall, mergingCall, verdictCall}
+use Rattle.determined.specs.Determined.{hemCall, portedCall, houseCall, panelsCall, readCall, writeCall, cleanCall, sheetCall}
 use Rattle.mesh.proofs.number.Reads as mesh-number
 use Rattle.mesh.proofs.face.Reads as mesh-face
 use Rattle.faces.proofs.push.Reads as push
@@ -52,8 +53,8 @@ module _ {Rest : Type 0} where
   abbrev pub list : {X : Type 0} → Lends X Rest → List X
   list a = now (a .0)
 
-  abbrev pub twoLists : Lends ℕ (Lends ℕ Rest) → TwoLists
-  twoLists a = (now (a .0), now (a .1 .0))
+  abbrev pub hemLists : Lends ℕ (Lends ℕ Rest) → HemLists
+  hemLists a = hemsIn (now (a .0)) (now (a .1 .0))
 
   abbrev pub listed : Lends ℕ (Lends ℕ Rest) → Listed
   listed a = listedOf (now (a .0)) (now (a .1 .0))
@@ -93,7 +94,7 @@ pub record AllTied : Type 0 where
   pub merging-tied :
       Tied put-together-same-attrs.Post mergingCall (λ a. ((meshIn a, rest a .0), list (rest a .1))) (λ r e. (r, list (rest e .1)))
   pub verdict-tied : Tied shell-condition.Post verdictCall meshIn (λ r e. r)
-  pub hem-tied : Tied hem-edges.Post hemCall (λ a. (meshIn a, twoLists (rest a))) (λ r e. (r, twoLists (rest e)))
+  pub hem-tied : Tied hem-edges.Post hemCall (λ a. (meshIn a, hemLists (rest a))) (λ r e. (r, hemLists (rest e)))
   pub ported-tied : Tied extract-boundaries.Post portedCall (λ a. (meshIn a, listed (rest a))) (λ r e. (r, listed (rest e)))
   pub house-tied : Tied house-wires.Post houseCall (λ a. (meshIn a, listed (rest a))) (λ r e. (r, listed (rest e)))
   pub panels-tied :

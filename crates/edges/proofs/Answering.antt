@@ -14,7 +14,7 @@ use Rattle.mesh.specs.Table.{meshNumber, when, lent, short, after}
 use Rattle.mesh.proofs.Numbers.{first-is, first-on, row-given}
 pub use Rattle.mesh.proofs.Edges.{edged}
 use Rattle.edges.specs.Edges.{edgesOf, Verdict, verdict, hems}
-use Rattle.edges.specs.Answers.{verdictOf, Answer, answerOf, judged, meshEdgesOf, start, end, hemNumber, HemAnswer, Hemmed}
+use Rattle.edges.specs.Answers.{verdictOf, Answer, answerOf, judged, meshEdgesOf, start, end, hemNumber, hemsIn, HemAnswer, Hemmed}
 use Rattle.edges.specs.declared.ShellCondition.{ShellCondition}
 use Rattle.edges.specs.declared.Judged.{Judged}
 use Rattle.edges.specs.declared.Judged.the-variants.{Found, Refused}
@@ -61,15 +61,15 @@ hem-zero m starts ends z g k =
 
 module _ (m : Mesh) (starts ends : List ℕ) where
   -- a number that is not 0: nothing is written
-  pub hem-refused : (n : ℕ) → n ≡ hemNumber m (length starts) (length ends) → (n ≡ 0 → ⊥) → HemAnswer m starts ends starts ends (record { number = n; count = 0 })
-  hem-refused n e h =
-      let z : hemNumber m (length starts) (length ends) ≡ 0 → ⊥ = λ q. h (e ∙ q) in
-      record {
-        number = e;
-        count = sym (refused (length (hems (meshEdgesOf m))) 0 (hemNumber m (length starts) (length ends)) z);
-        starting = sym (refused _ starts (hemNumber m (length starts) (length ends)) z);
-        ending = sym (refused _ ends (hemNumber m (length starts) (length ends)) z);
-      }
+  pub hem-refused :
+      (n : ℕ) → n ≡ hemNumber m (length starts) (length ends) → (n ≡ 0 → ⊥)
+      → HemAnswer m (hemsIn starts ends) (hemsIn starts ends) (record { number = n; count = 0 })
+  hem-refused n e h = record {
+    number = e;
+    count = sym (refused (length (hems (meshEdgesOf m))) 0 n h);
+    starts = sym (refused _ starts n h);
+    ends = sym (refused _ ends n h);
+  }
 
   module _ (n : ℕ) (e : n ≡ meshNumber m) where
     -- the mesh earns a number
@@ -96,43 +96,12 @@ module _ (m : Mesh) (starts ends : List ℕ) where
     -- neither
     pub hem-done :
         n ≡ 0 → length (m .corners) / width ≤ length starts → length (m .corners) / width ≤ length ends → (starts′ ends′ : List ℕ) (r : Hems)
-        → Hemmed (edgesOf (rings (m .sizes) (m .corners))) starts ends starts′ ends′ r → HemAnswer m starts ends starts′ ends′ (record { number = 0; count = r .count })
+        → Hemmed (edgesOf (rings (m .sizes) (m .corners))) starts ends starts′ ends′ r
+        → HemAnswer m (hemsIn starts ends) (hemsIn starts′ ends′) (record { number = 0; count = r .count })
     unfolding faces
     hem-done z g k starts′ ends′ r h = record {
-      number = sym zero-is;
-      count = h .count ∙ sym (done (length (hems (meshEdgesOf m))) 0 (hemNumber m (length starts) (length ends)) zero-is);
-      starting = h .starting ∙ sym (done (sets starts 0 (map start (hems (meshEdgesOf m)))) starts (hemNumber m (length starts) (length ends)) zero-is);
-      ending = h .ending ∙ sym (done (sets ends 0 (map end (hems (meshEdgesOf m)))) ends (hemNumber m (length starts) (length ends)) zero-is);
+      number = sym (hem-zero m starts ends (sym e ∙ z) g k);
+      count = h .count;
+      starts = h .starting;
+      ends = h .ending;
     }
-      where
-        zero-is : hemNumber m (length starts) (length ends) ≡ 0
-        zero-is = hem-zero m starts ends (sym e ∙ z) g k
-
--- ---- an answer is known by its number and verdict
-
-verdict-only : (a b : ShellCondition) → verdictOf a ≡ verdictOf b → a ≡ b
-unfolding verdictOf
-verdict-only ShellCondition.Irregular ShellCondition.Irregular e = refl
-verdict-only ShellCondition.Irregular ShellCondition.Regular e = cc
-verdict-only ShellCondition.Irregular ShellCondition.Oriented e = cc
-verdict-only ShellCondition.Irregular ShellCondition.Closed e = cc
-verdict-only ShellCondition.Regular ShellCondition.Irregular e = cc
-verdict-only ShellCondition.Regular ShellCondition.Regular e = refl
-verdict-only ShellCondition.Regular ShellCondition.Oriented e = cc
-verdict-only ShellCondition.Regular ShellCondition.Closed e = cc
-verdict-only ShellCondition.Oriented ShellCondition.Irregular e = cc
-verdict-only ShellCondition.Oriented ShellCondition.Regular e = cc
-verdict-only ShellCondition.Oriented ShellCondition.Oriented e = refl
-verdict-only ShellCondition.Oriented ShellCondition.Closed e = cc
-verdict-only ShellCondition.Closed ShellCondition.Irregular e = cc
-verdict-only ShellCondition.Closed ShellCondition.Regular e = cc
-verdict-only ShellCondition.Closed ShellCondition.Oriented e = cc
-verdict-only ShellCondition.Closed ShellCondition.Closed e = refl
-
-pub answer-only : (a b : Judged) → answerOf a ≡ answerOf b → a ≡ b
-unfolding answerOf
-answer-only (Found v) (Found w) e =
-    ap Found (verdict-only v w (let q : some (verdictOf v) ≡ some (verdictOf w) = ap (λ (x : Answer). x .verdict) e in cc))
-answer-only (Found v) (Refused n) e = let q : _≡_ {A = Option Verdict} (some (verdictOf v)) none = ap (λ (x : Answer). x .verdict) e in cc
-answer-only (Refused n) (Found v) e = let q : _≡_ {A = Option Verdict} none (some (verdictOf v)) = ap (λ (x : Answer). x .verdict) e in cc
-answer-only (Refused n) (Refused m) e = ap Refused (ap (λ (x : Answer). x .number) e)

@@ -52,12 +52,21 @@ unfoldable pub hemNumber : Mesh → ℕ → ℕ → ℕ
 hemNumber m starts ends =
     firstOf (meshNumber m ∷ when (short (lent starts (length (m .corners) / width) ∷ lent ends (length (m .corners) / width) ∷ [])) 9 ∷ [])
 
--- what `hem_edges` answers and leaves
-pub record HemAnswer (m : Mesh) (starts ends starts′ ends′ : List ℕ) (r : HemEdges) : Type 0 where
-  pub number : r .number ≡ hemNumber m (length starts) (length ends)
-  pub count : r .count ≡ after (hemNumber m (length starts) (length ends)) (length (hems (meshEdgesOf m))) 0
-  pub starting : starts′ ≡ after (hemNumber m (length starts) (length ends)) (sets starts 0 (map start (hems (meshEdgesOf m)))) starts
-  pub ending : ends′ ≡ after (hemNumber m (length starts) (length ends)) (sets ends 0 (map end (hems (meshEdgesOf m)))) ends
+-- the two lists that `hem_edges` lends, at one moment
+pub record HemLists : Type 0 where
+  pub starts : List ℕ
+  pub ends : List ℕ
+
+abbrev pub hemsIn : List ℕ → List ℕ → HemLists
+hemsIn s e = record { starts = s; ends = e }
+
+-- the call: a mesh is given. What it answers, and what the two lent lists hold before and after it: on 0 the hem edges from their beginning
+-- on, room past them unchanged, and how many there are; on any other number nothing is written, and the count is 0
+pub record HemAnswer (m : Mesh) (before afterwards : HemLists) (answer : HemEdges) : Type 0 where
+  pub number : answer .number ≡ hemNumber m (length (before .starts)) (length (before .ends))
+  pub count : answer .count ≡ after (answer .number) (length (hems (meshEdgesOf m))) 0
+  pub starts : afterwards .starts ≡ after (answer .number) (sets (before .starts) 0 (map start (hems (meshEdgesOf m)))) (before .starts)
+  pub ends : afterwards .ends ≡ after (answer .number) (sets (before .ends) 0 (map end (hems (meshEdgesOf m)))) (before .ends)
 
 -- what `hems_of` answers and leaves
 pub record Hemmed (es : List Edge) (starts ends starts′ ends′ : List ℕ) (r : Hems) : Type 0 where

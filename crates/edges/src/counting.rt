@@ -59,7 +59,7 @@ fn tally_use(
     ensures { λ r. ⌜ r ≡ stepped
         (now (lowers .entry)) (now (highers .entry)) (now (downs .entry)) t (getD (now (order .entry)) i 0) (drop (i + 1) (now (order .entry))) ⌝ }
 {
-    let u = crate::wide(order[i]);
+    let u = lists::wide(order[i]);
     let c = count_use(t, downs[u]);
     if uses::goes_on(lowers, highers, downs, order, i) {
         c

@@ -13,7 +13,7 @@ ghost use Rattle.mesh.specs.Mesh.{meshOf, rings};
 ghost use Rattle.mesh.specs.Edges.{edgesOf, Edged};
 ghost use Rattle.uses.specs.Uses.{Gatherable};
 ghost use Rattle.edges.specs.Edges.{verdict};
-ghost use Rattle.edges.specs.Answers.{answerOf, judged, verdictOf, HemAnswer, Hemmed};
+ghost use Rattle.edges.specs.Answers.{answerOf, judged, verdictOf, hemsIn, HemAnswer, Hemmed};
 ghost use Rattle.edges.specs.Runs.{HemRows};
 
 mod counting;
@@ -93,7 +93,9 @@ pub fn hem_edges(
 ) -> HemEdges
     ensures { λ r. ⌜ HemAnswer
         (meshOf (now (positions .entry)) (now (textures .entry)) (now (normals .entry)) (now (corners .entry)) (now (sizes .entry)))
-        (now (starts .entry)) (now (ends .entry)) (now (starts .exit)) (now (ends .exit)) r ⌝ }
+        (hemsIn (now (starts .entry)) (now (ends .entry)))
+        (hemsIn (now (starts .exit)) (now (ends .exit)))
+        r ⌝ }
 {
     let number = mesh::number(positions, textures, normals, corners, sizes);
     if number != 0 {
@@ -241,10 +243,4 @@ fn hem(
         count: count,
         verdict: verdict,
     }
-}
-
-pub fn wide(x: u32) -> usize
-    ensures { λ r. ⌜ r ≡ x ⌝ }
-{
-    x as usize
 }

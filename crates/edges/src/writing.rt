@@ -62,7 +62,7 @@ fn hem_use(
             lowers,
             highers,
             downs,
-            crate::wide(order[i]),
+            lists::wide(order[i]),
             starts,
             ends,
             count,

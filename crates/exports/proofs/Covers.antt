@@ -5,8 +5,7 @@ use mathlib.Core.List.{List, [], map}
 use Prim.Native.Nat.{ℕ, _<_}
 use native.Mathlib.Omega.{arith}
 use lib.ListN.{length, getD, length-map, List·getD-map}
-use Rattle.lists.specs.Lists.{count}
-use Rattle.lists.proofs.Classes.{together}
+use Rattle.lists.specs.Lists.{count, together}
 use Rattle.mesh.specs.Mesh.{Ring}
 use Rattle.order.specs.Same.{Matching}
 use Rattle.order.specs.Demand.{byPosition, SameTogether, SameByPosition}

@@ -21,8 +21,9 @@ use Rattle.calls.proofs.Cleaned.{folded-same, folded-by-position}
 use Rattle.folded.proofs.Accepted.{faces-stay}
 use Rattle.panelfile.specs.Reading.{finish, readAll, readingNumber, panelMesh}
 use Rattle.panelfile.proofs.Ending.{read-accepted}
-use Rattle.lines.specs.Lines.{sheetText, hemLines}
-use Rattle.sheet.specs.Sheet.{cleaned, printed, fileNumber, sheetOf, sheetNumber}
+use Rattle.lines.specs.Lines.{sheetText, sheetRoom, hemLines}
+use Rattle.cleaning.specs.Cleaning.{cleaned}
+use Rattle.sheet.specs.Sheet.{printed, fileLimit, fileNumber, sheetOf, sheetNumber}
 use Rattle.exports.specs.Covers.{OneCover}
 use Rattle.exports.specs.Sheets.{SheetCall, written, firstLines, found, SheetsSay, FirstLinesAreFree, FirstLinesOfUnfolded, SheetsOfOneCover, PositionsAreEnoughForSheets}
 use Rattle.exports.proofs.Rewritten.{rewritten, rewritten-by}
@@ -36,7 +37,7 @@ module _ (a : List ℕ) (e : fileNumber a ≡ 0) where
   unfolding fileNumber readingNumber short
   file-accepted =
       read-accepted a
-      (first-head (finish a (readAll a)) [] (first-head (readingNumber [] a) [] (first-tail (when (ltb 65536 (length a)) 1) (readingNumber [] a ∷ []) e)))
+      (first-head (finish a (readAll a)) [] (first-head (readingNumber [] a) [] (first-tail (when (ltb fileLimit (length a)) 1) (readingNumber [] a ∷ []) e)))
 
   sheet-is : sheetOf a ≡ firstLines (found a) ++ hemLines (found a .wires)
   unfolding sheetOf printed sheetText
@@ -48,7 +49,7 @@ module _ (a : List ℕ) (e : fileNumber a ≡ 0) where
 module _ {a : List ℕ} (r : SheetCall a) where
   call-done : r .answer .number ≡ 0
   unfolding sheetNumber short
-  call-done = r .contract .number ∙ rw (le-ltb (length (r .out)) 65536 (r .room))
+  call-done = r .contract .number ∙ rw (le-ltb (length (r .out)) sheetRoom (r .room))
 
   as-long : r .answer .length ≡ length (sheetOf a)
   as-long = r .contract .count ∙ after-done (r .answer .number) (length (sheetOf a)) 0 call-done

@@ -10,7 +10,8 @@ use Rattle.lists.specs.FirstUses.{firstUses, place}
 use Rattle.compaction.specs.Compaction.{renumber, entries, usedPositions, usedTextures, usedNormals, renumbered, compacted}
 use Rattle.edges.specs.Edges.{key, verdict, hems}
 use Rattle.house.specs.House.{walk, wiresIn, houseWires}
-use Rattle.sheet.specs.Sheet.{cleaned, foundIn}
+use Rattle.cleaning.specs.Cleaning.{cleaned}
+use Rattle.sheet.specs.Sheet.{foundIn}
 use Rattle.calls.specs.Begun.{touching, touchingLater}
 use Rattle.exports.specs.Sheets.{OtherHemLines}
 

@@ -15,8 +15,9 @@ use Rattle.order.specs.Same.{Same}
 use Rattle.order.specs.Demand.{byPosition}
 use Rattle.calls.specs.Begun.{touching, touchingLater}
 use Rattle.panelfile.specs.Reading.{panelMesh}
-use Rattle.lines.specs.Lines.{Found, meshLine, verdictLine, panelsLine, hemLines}
-use Rattle.sheet.specs.Sheet.{cleaned, foundIn, fileNumber, Printed}
+use Rattle.lines.specs.Lines.{Found, sheetRoom, meshLine, verdictLine, panelsLine, hemLines}
+use Rattle.cleaning.specs.Cleaning.{cleaned}
+use Rattle.sheet.specs.Sheet.{foundIn, fileNumber, Printed}
 use Rattle.sheet.specs.declared.Answer.{Answer}
 use Rattle.exports.specs.Covers.{OneCover}
 
@@ -28,7 +29,7 @@ pub record SheetCall (file : List ℕ) : Type 0 where
   pub out′ : List ℕ
   pub answer : Answer
   pub contract : Printed file out out′ answer
-  pub room : 65536 ≤ length out
+  pub room : sheetRoom ≤ length out
 
 -- what is written at the front of the list
 abbrev pub written : {file : List ℕ} → SheetCall file → List ℕ

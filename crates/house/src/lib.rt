@@ -143,7 +143,7 @@ fn link_all(starts: &[u32], nexts: &mut [u32], firsts: &mut [u32])
     let mut k = starts.len();
     while k > 0 {
         k -= 1;
-        let s = tracing::wide(starts[k]);
+        let s = lists::wide(starts[k]);
         nexts[k] = firsts[s];
         firsts[s] = k as u32;
     }

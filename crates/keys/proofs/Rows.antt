@@ -12,7 +12,7 @@ use Rattle.mesh.specs.Limits.{width, cornerLimit, cornerNumbers}
 use Rattle.mesh.specs.Mesh.{Ring, rings}
 use Rattle.mesh.specs.Edges.{ringEdges}
 use Rattle.keys.specs.Keys.{keyOf, faceKeys, Use, usesFrom, useFaces, noUse, FirstOf, FirstUses}
-use Rattle.keys.specs.Columns.{Keyable, chosen, entryOf, column, faceUses, Digits}
+use Rattle.keys.specs.Columns.{Keyable, fewUses, FewRoom, chosen, entryOf, column, faceUses, Digits}
 use Rattle.keys.specs.Firsts.{KeyColumns, Plain, TwoRows, Marked}
 use Rattle.keys.proofs.Valid.{goodKey, uses-good, faces-good, key-columns, key-plain, same-key, uses-corners}
 
@@ -109,3 +109,6 @@ faces-column fs = refl
 
 pub corner-row : (cs s : List ℕ) → Keyable cs s → length (take {A = ℕ} (length cs / width) (replicate cornerLimit 0)) ≡ length cs / width
 corner-row cs s k = length-front 0 (length cs / width) cornerLimit (let a : length cs ≤ cornerNumbers = k .sound .fits in omega arith)
+
+pub few-row : (cs s firsts : List ℕ) → FewRoom cs s firsts → length (take {A = ℕ} (length cs / width) (replicate fewUses 0)) ≡ length cs / width
+few-row cs s firsts f = length-front 0 (length cs / width) fewUses (f .few)

@@ -23,7 +23,8 @@ use Rattle.mesh.proofs.Faces.{face-length, face-fits, offset-step, length-rings
 use Rattle.mesh.specs.Edges.{runEdges, ringEdges}
 use Rattle.mesh.proofs.Edges.{length-ring}
 use Rattle.keys.specs.Keys.{Key, keyOf, faceKeys, Use, usesFrom}
-use Rattle.keys.specs.Columns.{normalDigit, chosen, entryOf, column, nextOf, edgeAt, faceUses, FaceRoom}
+use Rattle.lists.specs.Numbers.{nextOf}
+use Rattle.keys.specs.Columns.{normalDigit, chosen, entryOf, column, edgeAt, faceUses, FaceRoom}
 
 -- ---- the edges of a ring: from each corner, to the one behind it
 
@@ -34,7 +35,8 @@ module _ {A : Type 0} where
   run-at c a (b ∷ r) z zero h = refl
   run-at c a (b ∷ r) z (suc j) h = run-at c b r z j (le-of-suc-le-suc h)
 
-  behind-at : (c : A) (a : A) (r : List A) (j : ℕ) → j < suc (length r) → getD (r ++ (a ∷ [])) j c ≡ getD (a ∷ r) (nextOf (suc (length r)) j) c
+  behind-at : (c : A) (a : A) (r : List A) (j : ℕ) → j < suc (length r) → getD (r ++ (a ∷ [])) j c ≡ getD (a ∷ r) (nextOf j (suc (length r))) c
+  unfolding nextOf
   behind-at c a r j h =
       ⊎-elim
       (λ l.
@@ -48,12 +50,13 @@ module _ {A : Type 0} where
       ∙ ap (λ (b : Bool). getD (a ∷ r) (cond b (j + 1) 0) c) (sym (le-ltb (j + 1) (suc (length r)) (omega arith))))
       (lt-or-ge j (length r))
 
-  pub ring-at : (c : A) (f : List A) (j : ℕ) → j < length f → getD (ringEdges f) j (c, c) ≡ (getD f j c, getD f (nextOf (length f) j) c)
+  pub ring-at : (c : A) (f : List A) (j : ℕ) → j < length f → getD (ringEdges f) j (c, c) ≡ (getD f j c, getD f (nextOf j (length f)) c)
   ring-at c [] j h = absurd (not-suc-le-zero h)
   ring-at c (a ∷ r) j h = run-at c a r a j h ∙ ap (λ (b : A). (getD (a ∷ r) j c, b)) (behind-at c a r j h)
 
 -- a corner behind one of n is one of n
-pub next-below : (n j : ℕ) → j < n → nextOf n j < n
+pub next-below : (n j : ℕ) → j < n → nextOf j n < n
+unfolding nextOf
 next-below n j h =
     ⊎-elim
     (λ l. rw (lt-ltb (j + 1) n l) l)
@@ -69,8 +72,8 @@ ring-part part =
     (length-ring (cornersIn part) ∙ n)
     (λ j h.
     ring-at [] (cornersIn part) j (omega arith)
-    ∙ ap (λ (m : ℕ). (getD (cornersIn part) j [], getD (cornersIn part) (nextOf m j) [])) n
-    ∙ ap₂ (λ (a b : Corner). (a, b)) (getD-cornersIn part j h) (getD-cornersIn part (nextOf (length part / width) j) (next-below (length part / width) j h)))
+    ∙ ap (λ (m : ℕ). (getD (cornersIn part) j [], getD (cornersIn part) (nextOf j m) [])) n
+    ∙ ap₂ (λ (a b : Corner). (a, b)) (getD-cornersIn part j h) (getD-cornersIn part (nextOf j (length part / width)) (next-below (length part / width) j h)))
 
 module _ (normals : Bool) (which : ℕ) where
   -- ---- the uses of one face
@@ -251,7 +254,7 @@ unfolding normalDigit
 digit-there normals n e h = rw (e, ne-eqb n missing h)
 
 -- the edge from corner j to the one behind it, b: by which position is lower
-module _ (normals : Bool) (which k : ℕ) (part : List ℕ) (j b n m r : ℕ) (e : b ≡ nextOf (length part / width) j) where
+module _ (normals : Bool) (which k : ℕ) (part : List ℕ) (j b n m r : ℕ) (e : b ≡ nextOf j (length part / width)) where
   entry-at :
       chosen which (keyOf normals (cornerAt part j, cornerAt part b) .0) (keyOf normals (cornerAt part j, cornerAt part b) .1)
       (normalDigit (keyOf normals (cornerAt part j, cornerAt part b) .2)) (normalDigit (keyOf normals (cornerAt part j, cornerAt part b) .3)) k

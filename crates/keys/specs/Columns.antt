@@ -4,8 +4,9 @@ use mathlib.Core.Path.{_≡_}
 use mathlib.Core.Bool.{Bool, cond}
 use mathlib.Core.List.{List, map}
 use Prim.Native.Nat.{ℕ, zero, suc, _+_, _*_, _/_, _%_, _≤_, _<_}
-use lib.Dec.{ltb, eqb}
+use lib.Dec.{eqb}
 use lib.ListN.{length, getD}
+use Rattle.lists.specs.Numbers.{nextOf}
 use Rattle.mesh.specs.Limits.{width, entryLimit, cornerNumbers}
 use Rattle.mesh.specs.Mesh.{Corner, Ring, missing, cornerAt}
 use Rattle.mesh.specs.Face.{Sound}
@@ -35,13 +36,9 @@ entryOf which u = chosen which (u .1 .0) (u .1 .1) (normalDigit (u .1 .2)) (norm
 unfoldable pub column : Bool → ℕ → List Ring → List ℕ
 column normals which fs = map (entryOf which) (usesFrom normals 0 fs)
 
--- the corner behind corner j of n: the next, or the first
-abbrev pub nextOf : ℕ → ℕ → ℕ
-nextOf n j = cond (ltb (j + 1) n) (j + 1) 0
-
 -- the edge from corner j of a face, a part of the list of corners, to the one behind it
 unfoldable pub edgeAt : List ℕ → ℕ → Corner × Corner
-edgeAt part j = (cornerAt part j, cornerAt part (nextOf (length part / width) j))
+edgeAt part j = (cornerAt part j, cornerAt part (nextOf j (length part / width)))
 
 -- the uses of face k
 abbrev pub faceUses : Bool → ℕ → Ring → List Use
@@ -78,10 +75,19 @@ pub record Digits (normals : Bool) (fs : List Ring) (lower higher n m : List ℕ
   pub n-is : n ≡ column normals 2 fs
   pub m-is : m ≡ column normals 3 fs
 
+-- so many uses count as few
+abbrev pub fewUses : ℕ
+fewUses = 512
+
 -- room for one number for each use
 pub record FirstRoom (cs s firsts : List ℕ) : Type 0 where
   pub keyable : Keyable cs s
   pub room : length firsts ≡ length cs / width
+
+-- and few of them
+pub record FewRoom (cs s firsts : List ℕ) : Type 0 where
+  pub first : FirstRoom cs s firsts
+  pub few : length cs / width ≤ fewUses
 
 -- and rows beside it, of one number for each use
 pub record KeyRows (cs s lower higher n m order firsts : List ℕ) : Type 0 where

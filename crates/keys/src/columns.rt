@@ -6,10 +6,9 @@ ghost use mathlib.Core.List.{map};
 ghost use Prim.Native.Nat.{ℕ, _+_, _*_, _/_, _%_, _<_, _≤_};
 ghost use lib.ListN.{length};
 ghost use lib.Seq.{sets};
-ghost use Rattle.mesh.specs.Limits.{cornerLimit};
 ghost use Rattle.mesh.specs.Mesh.{rings, cornersIn};
 ghost use Rattle.keys.specs.Keys.{keyOf};
-ghost use Rattle.keys.specs.Columns.{normalDigit, chosen, entryOf, nextOf, edgeAt, faceUses, column, AtCorner, FaceRoom, ColumnRoom, DigitRoom, Digits};
+ghost use Rattle.keys.specs.Columns.{normalDigit, chosen, entryOf, edgeAt, faceUses, column, AtCorner, FaceRoom, ColumnRoom, DigitRoom, Digits};
 
 // The digit of a missing normal, and that of the first one: a normal's digit is one more than its index.
 const NO_NORMAL: u32 = 0;
@@ -80,7 +79,7 @@ fn edge_entry(part: &[u32], j: usize, face: u32, normals: bool, which: u32) -> u
     ensures { λ r. ⌜ r ≡ entryOf which (face, keyOf normals (edgeAt (now (part .entry)) j)) ⌝ }
 {
     let a = mesh::WIDTH * j;
-    let b = mesh::WIDTH * behind(part.len() / mesh::WIDTH, j);
+    let b = mesh::WIDTH * lists::next_of(j, part.len() / mesh::WIDTH);
     let p = part[a];
     let q = part[b];
     let n = normal_digit(part[a + 2], normals);
@@ -90,14 +89,6 @@ fn edge_entry(part: &[u32], j: usize, face: u32, normals: bool, which: u32) -> u
     } else {
         choose(which, q, p, m, n, face)
     }
-}
-
-// The corner behind corner `j` of `n`.
-fn behind(n: usize, j: usize) -> usize
-    requires { ⌜ (j < n) × (n ≤ cornerLimit) ⌝ }
-    ensures { λ r. ⌜ (r ≡ nextOf n j) × (r < n) ⌝ }
-{
-    if j + 1 < n { j + 1 } else { 0 }
 }
 
 // A normal index as a digit; without the normals setting it is not looked at, and all count as the first.

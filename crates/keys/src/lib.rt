@@ -6,13 +6,51 @@
 ghost use mathlib.Core.Path.{_≡_};
 ghost use Rattle.mesh.specs.Mesh.{rings};
 ghost use Rattle.keys.specs.Keys.{usesFrom, useFaces, FirstUses};
-ghost use Rattle.keys.specs.Columns.{ColumnRoom, FirstRoom, KeyRows};
+ghost use Rattle.keys.specs.Columns.{ColumnRoom, FirstRoom, FewRoom, KeyRows};
 
 mod columns;
 mod firsts;
 
-// The first use of each use's key, for a mesh that is accepted.
+// So many uses count as few.
+const FEW_USES: usize = 512;
+
+// The first use of each use's key, for a mesh that is accepted. Where there are few uses the rows to work in are short, since a long
+// row takes time to begin with.
 pub fn first_uses(corners: &[u32], sizes: &[u32], normals: bool, firsts: &mut [u32])
+    requires { ⌜ FirstRoom (now corners) (now sizes) (now firsts) ⌝ }
+    ensures { λ _. ⌜ FirstUses (usesFrom normals 0 (rings (now (sizes .entry)) (now (corners .entry)))) (now (firsts .exit)) ⌝ }
+{
+    if corners.len() / mesh::WIDTH <= FEW_USES {
+        first_of_few(corners, sizes, normals, firsts);
+    } else {
+        first_of_many(corners, sizes, normals, firsts);
+    }
+}
+
+fn first_of_few(corners: &[u32], sizes: &[u32], normals: bool, firsts: &mut [u32])
+    requires { ⌜ FewRoom (now corners) (now sizes) (now firsts) ⌝ }
+    ensures { λ _. ⌜ FirstUses (usesFrom normals 0 (rings (now (sizes .entry)) (now (corners .entry)))) (now (firsts .exit)) ⌝ }
+{
+    let mut lower = [0u32; FEW_USES];
+    let mut higher = [0u32; FEW_USES];
+    let mut n = [0u32; FEW_USES];
+    let mut m = [0u32; FEW_USES];
+    let mut order = [0u32; FEW_USES];
+    let u = corners.len() / mesh::WIDTH;
+    first_uses_in(
+        corners,
+        sizes,
+        normals,
+        &mut lower[..u],
+        &mut higher[..u],
+        &mut n[..u],
+        &mut m[..u],
+        &mut order[..u],
+        firsts,
+    );
+}
+
+fn first_of_many(corners: &[u32], sizes: &[u32], normals: bool, firsts: &mut [u32])
     requires { ⌜ FirstRoom (now corners) (now sizes) (now firsts) ⌝ }
     ensures { λ _. ⌜ FirstUses (usesFrom normals 0 (rings (now (sizes .entry)) (now (corners .entry)))) (now (firsts .exit)) ⌝ }
 {
@@ -60,10 +98,4 @@ pub fn put_faces(corners: &[u32], sizes: &[u32], out: &mut [u32])
     ensures { λ _. ⌜ now (out .exit) ≡ useFaces (rings (now (sizes .entry)) (now (corners .entry))) ⌝ }
 {
     columns::put_column(corners, sizes, false, columns::FACE, out);
-}
-
-pub fn wide(x: u32) -> usize
-    ensures { λ r. ⌜ r ≡ x ⌝ }
-{
-    x as usize
 }

@@ -9,16 +9,19 @@ use lib.ListN.{length, getD, take, drop, length-append, take-append-drop}
 use Rattle.lists.specs.Lists.{each}
 use Rattle.edges.specs.Edges.{Verdict, Irregular, Regular, Oriented, Closed}
 use Rattle.edges.specs.Answers.{verdictOf}
-use Rattle.text.specs.Text.{bytes, decimal, decimalIn, spaced, line, Room, Written}
+use Rattle.lists.specs.Putting.{Room, Written}
+use Rattle.text.specs.Text.{bytes, decimal, decimalIn, spaced, line}
 use Rattle.text.proofs.Decimals.{few-digits}
-use Rattle.text.proofs.Putting.{numberText, spaced-numbers, room-first, room-then, written-then}
+use Rattle.lists.proofs.Listing.{room-first, room-then, written-then}
+use Rattle.text.proofs.Putting.{numberText, spaced-numbers}
 use Rattle.lines.specs.declared.Findings.{Findings}
 use Rattle.lines.specs.Lines.{meshLine, verdictLine, panelsLine, hemLine, hemLines, sheetText, sheetRoom, refusal}
-use Rattle.lines.specs.Working.{parts, wiresBy, foundBy, Ready, Sheeted}
+use Rattle.lists.specs.Cutting.{parts}
+use Rattle.lines.specs.Working.{wiresBy, foundBy, Ready, Sheeted}
 
 -- a text that is written from the front of a list that has room for it
 pub sheeted : {text out out′ : List ℕ} {n : ℕ} → Room text out 0 → Written text out out′ 0 n → Sheeted text out out′ n
-sheeted r w = record { text-is = w .text-is; length-is = omega (arith, w .next-is); fits = omega (arith, w .next-is, r .fits) }
+sheeted r w = record { text-is = w .is; length-is = omega (arith, w .next-is); fits = omega (arith, w .next-is, r .fits) }
 
 -- numbers of 32 bits
 abbrev Small : List ℕ → Type 0

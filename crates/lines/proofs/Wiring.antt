@@ -6,30 +6,14 @@ use Prim.Native.Nat.{ℕ, zero, suc, _+_, _-_, _≤_, _<_}
 use native.Mathlib.Nat.{le-of-suc-le-suc}
 use native.Mathlib.Omega.{arith}
 use lib.ListN.{length, getD, take, drop}
-use lib.Seq.{drop-drop, take-append-seam, drop-append-seam}
 use Rattle.lists.specs.Lists.{sum, joined, each}
+use Rattle.lists.specs.Cutting.{parts}
+use Rattle.lists.proofs.Cutting.{length-parts, parts-at}
 use Rattle.lists.proofs.Parts.{sum-step, sum-at}
-use Rattle.text.specs.Text.{Room, Written}
-use Rattle.text.proofs.Putting.{Listing, listing-begins, listing-room, listing-turns, listing-ends}
+use Rattle.lists.specs.Putting.{Room, Written}
+use Rattle.lists.proofs.Listing.{Listing, listing-begins, listing-room, listing-turns, listing-ends}
 use Rattle.lines.specs.Lines.{hemLine, hemLines}
-use Rattle.lines.specs.Working.{parts, wiresBy, Wired}
-
-pub length-parts : (s flat : List ℕ) → length (parts s flat) ≡ length s
-length-parts [] flat = refl
-length-parts (n ∷ s) flat = ap suc (length-parts s (drop n flat))
-
--- wire k stands behind those before it
-pub parts-at : (s flat : List ℕ) (k : ℕ) → k < length s → getD (parts s flat) k [] ≡ take (getD s k 0) (drop (sum (take k s)) flat)
-parts-at [] flat k h = absurd (omega arith)
-parts-at (n ∷ s) flat zero h = refl
-parts-at (n ∷ s) flat (suc k) h =
-    parts-at s (drop n flat) k (le-of-suc-le-suc h) ∙ ap (take (getD s k 0)) (drop-drop (sum (take k s)) n flat)
-
--- wires that are written one behind the other are the parts by their lengths
-pub parts-back : (ws : List (List ℕ)) → parts (map length ws) (joined ws) ≡ ws
-parts-back [] = refl
-parts-back (w ∷ ws) =
-    rw (take-append-seam, drop-append-seam) (ap (λ (l : List (List ℕ)). w ∷ l) (parts-back ws))
+use Rattle.lines.specs.Working.{wiresBy, Wired}
 
 -- the lines of the first k wires are written, and wire k starts at `from`
 pub record Hemming (flat lengths o o′ : List ℕ) (at to from k : ℕ) : Type 0 where

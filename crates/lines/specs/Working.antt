@@ -3,20 +3,16 @@ use Prim.Native.Nat.{ℕ, _≤_}
 use mathlib.Core.Path.{_≡_}
 use mathlib.Core.Option.{Option, none, some}
 use mathlib.Core.List.{List, [], _∷_}
-use lib.ListN.{length, take, drop}
+use lib.ListN.{length}
 use lib.Seq.{sets}
 use Rattle.lists.specs.Lists.{sum}
+use Rattle.lists.specs.Cutting.{parts}
 use Rattle.mesh.specs.Limits.{cornerLimit}
 use Rattle.mesh.specs.Table.{after}
 use Rattle.edges.specs.Answers.{verdictOf}
-use Rattle.text.specs.Text.{Room}
+use Rattle.lists.specs.Putting.{Room}
 use Rattle.lines.specs.declared.Findings.{Findings}
 use Rattle.lines.specs.Lines.{Found, hemLines, sheetRoom}
-
--- the wires of a flat list: each takes as many numbers as its length says
-abbrev pub parts : List ℕ → List ℕ → List (List ℕ)
-parts [] flat = []
-parts (n ∷ s) flat = take n flat ∷ parts s (drop n flat)
 
 -- the wires, or none where house wires answered another number than 0
 unfoldable pub wiresBy : ℕ → List ℕ → List ℕ → Option (List (List ℕ))

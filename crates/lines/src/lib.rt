@@ -7,9 +7,10 @@ ghost use mathlib.Core.Option.{some, none};
 ghost use Prim.Native.Nat.{_≤_};
 ghost use lib.ListN.{length};
 ghost use Rattle.edges.specs.Answers.{verdictOf};
-ghost use Rattle.text.specs.Text.{Room, Written};
+ghost use Rattle.lists.specs.Putting.{Room, Written};
 ghost use Rattle.lines.specs.Lines.{meshLine, verdictLine, panelsLine, hemLine, hemLines, sheetText, sheetRoom, refusal};
-ghost use Rattle.lines.specs.Working.{parts, wiresBy, foundBy, Wired, Ready, Sheeted};
+ghost use Rattle.lists.specs.Cutting.{parts};
+ghost use Rattle.lines.specs.Working.{wiresBy, foundBy, Wired, Ready, Sheeted};
 use edges::ShellCondition;
 
 // What was found in a mesh, but for its wires: how many positions, texture points, normals, faces and panels there are, the verdict,
@@ -112,7 +113,7 @@ fn put_hems(flat: &[u32], lengths: &[u32], out: &mut [u8], at: usize) -> usize
     let mut from: usize = 0;
     let mut k: usize = 0;
     while k < lengths.len() {
-        let end = from + wide(lengths[k]);
+        let end = from + lists::wide(lengths[k]);
         to = put_hem(&flat[from..end], out, to);
         from = end;
         k += 1;
@@ -126,10 +127,4 @@ fn put_hem(wire: &[u32], out: &mut [u8], at: usize) -> usize
     ensures { λ r. ⌜ Written (hemLine (now (wire .entry))) (now (out .entry)) (now (out .exit)) at r ⌝ }
 {
     text::put_line(b"hem", wire, out, at)
-}
-
-fn wide(x: u32) -> usize
-    ensures { λ r. ⌜ r ≡ x ⌝ }
-{
-    x as usize
 }

@@ -8,17 +8,13 @@ use Prim.Native.Nat.{ℕ, suc, _<_}
 use native.Mathlib.Omega.{arith}
 use lib.Dec.{eqb}
 use borrow.Author.Tests.{eqb-true, eqb-false}
-use Rattle.lists.specs.Lists.{some, has, joined}
+use Rattle.lists.specs.Lists.{has, joined, together}
 use Rattle.lists.proofs.Bools.{by-cases, and-both, or-left, or-right}
 use Rattle.lists.proofs.Cases.{and-parts}
 use Rattle.lists.proofs.Counting.{clash, or-either}
 use Rattle.lists.proofs.Parts.{joined-snoc}
 use Rattle.lists.proofs.Members.{In, in-left, in-right, in-append, Once, once-append}
 use Rattle.lists.proofs.Chains.{Reach, here, step, reach-trans, reach-one, reach-sym}
-
--- a and b stand in one of the lists
-abbrev pub together : ℕ → ℕ → List (List ℕ) → Bool
-together a b ps = some (λ (p : List ℕ). has a p && has b p) ps
 
 -- what holds below i and at i holds below i + 1
 upto : (P : ℕ → Type 0) (i : ℕ) → ((x : ℕ) → x < i → P x) → P i → (x : ℕ) → x < suc i → P x

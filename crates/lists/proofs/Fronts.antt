@@ -5,13 +5,8 @@ use Prim.Native.Nat.{ℕ, _≤_}
 use native.Mathlib.Omega.{arith}
 use lib.ListN.{length, take}
 use lib.Seq.{sets, length-sets}
+use Rattle.lists.specs.Putting.{Front}
 use Rattle.lists.proofs.Copies.{take-written}
-
--- the first k elements of l are xs, and there are so many
-pub record Front {A : Type 0} (l xs : List A) (k : ℕ) : Type 0 where
-  pub is : take k l ≡ xs
-  pub within : k ≤ length l
-  pub long : k ≡ length (take k l)
 
 pub front : {A : Type 0} (l : List A) {l′ xs : List A} {k : ℕ} → l′ ≡ sets l 0 xs → length xs ≡ k → k ≤ length l → Front l′ xs k
 front l {l′} {xs} {k} e n h =

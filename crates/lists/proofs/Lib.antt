@@ -6,7 +6,6 @@ pub mod Chains
 pub mod Classes
 pub mod Copies
 pub mod Counting
-pub mod CountingUp
 pub mod Fronts
 pub mod Growing
 pub mod Mapping
@@ -23,3 +22,4 @@ pub mod Cutting
 pub mod Stores
 pub mod FirstUses
 pub mod Places
+pub mod Listing

@@ -3,3 +3,4 @@ pub mod Numbers
 pub mod Same
 pub mod FirstUses
 pub mod Cutting
+pub mod Putting

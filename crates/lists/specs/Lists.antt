@@ -56,6 +56,10 @@ module _ {A : Type 0} where
 abbrev pub has : ℕ → List ℕ → Bool
 has x l = some (eqb x) l
 
+-- whether a and b stand in one of the lists
+abbrev pub together : ℕ → ℕ → List (List ℕ) → Bool
+together a b ps = some (λ (p : List ℕ). has a p && has b p) ps
+
 -- the numbers other than x, in their order
 abbrev pub others : ℕ → List ℕ → List ℕ
 others x l = only (λ (y : ℕ). not (eqb x y)) l

@@ -4,10 +4,6 @@ use mathlib.Core.Bool.{Bool, true, false, cond}
 use lib.Dec.{ltb}
 use Rattle.lists.specs.Lists.{bump}
 
--- how many numbers a word of 32 bits tells apart
-abbrev pub words : ℕ
-words = 4294967296
-
 -- the place behind i in a ring of n: the first one behind the last
 unfoldable pub nextOf : ℕ → ℕ → ℕ
 nextOf i n = cond (ltb (i + 1) n) (i + 1) 0

@@ -1,12 +1,11 @@
-// Small steps on lists that all crates take: copies of a part to a place, counting up, the place behind another in a ring; and the laws
-// on lists that all crates cite.
+// Small steps on lists that all crates take: copies of a part to a place, the place behind another in a ring; and the laws on lists
+// that all crates cite.
 // The definitions of specs/ are the words in which the rules are written; proofs/ has what is known of them.
 ghost use mathlib.Core.Path.{_≡_};
 ghost use Prim.Native.Nat.{_+_, _<_, _≤_};
 ghost use lib.ListN.{length};
 ghost use lib.Seq.{sets};
-ghost use Rattle.lists.specs.Lists.{span};
-ghost use Rattle.lists.specs.Numbers.{nextOf, words};
+ghost use Rattle.lists.specs.Numbers.{nextOf};
 
 // A number of a list, as a place in another.
 pub fn wide(x: u32) -> usize
@@ -21,18 +20,6 @@ pub fn next_of(i: usize, n: usize) -> usize
     ensures { λ r. ⌜ (r ≡ nextOf i n) × (r < n) ⌝ }
 {
     if i + 1 < n { i + 1 } else { 0 }
-}
-
-// The numbers 0, 1, 2, .. as far as the list goes.
-pub fn count_up(out: &mut [u32])
-    requires { ⌜ length (now out) ≤ words ⌝ }
-    ensures { λ _. ⌜ now (out .exit) ≡ span 0 (length (now (out .entry))) ⌝ }
-{
-    let mut i: usize = 0;
-    while i < out.len() {
-        out[i] = i as u32;
-        i += 1;
-    }
 }
 
 // The numbers of `part` go to `out`, from place `at` on.

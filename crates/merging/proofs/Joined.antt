@@ -9,11 +9,10 @@ use native.Mathlib.Omega.{arith}
 use lib.Dec.{eqb}
 use lib.ListN.{length}
 use lib.Ieee.{Float, lt}
-use Rattle.lists.specs.Lists.{has, joined}
+use Rattle.lists.specs.Lists.{has, joined, together}
 use Rattle.lists.proofs.Bools.{by-cases, or-left}
 use Rattle.lists.proofs.Cases.{and-parts}
 use Rattle.lists.proofs.Chains.{Reach, reach-trans, reach-sym}
-use Rattle.lists.proofs.Classes.{together}
 use Rattle.lists.proofs.Counting.{clash, or-either, count-none, some-counted}
 use Rattle.lists.proofs.Members.{In, in-cases, in-head, in-tail, in-left, in-right, in-append, Once, once-apart, once-rear}
 use Rattle.floating.specs.Points.{row}

@@ -6,4 +6,5 @@ pub mod Numbers
 pub mod Accepted
 pub mod Edges
 pub mod After
+pub mod MeshFronts
 pub mod Walking

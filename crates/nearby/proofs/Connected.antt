@@ -10,7 +10,7 @@ use lib.Dec.{eqb, ltb}
 use lib.ListN.{length}
 use lib.Ieee.{Float}
 use borrow.Author.Tests.{eqb-true, eqb-false, lt-ltb, ltb-true, ltb-false}
-use Rattle.lists.specs.Lists.{every, has, joined, count}
+use Rattle.lists.specs.Lists.{every, has, joined, count, together}
 use Rattle.lists.proofs.Bools.{by-cases, and-both}
 use Rattle.lists.proofs.Counting.{clash}
 use Rattle.lists.proofs.Parts.{every-append}
@@ -21,7 +21,7 @@ use Rattle.nearby.specs.Walk.{unlessHas, groupFrom, groupsBelow, groups}
 use Rattle.nearby.specs.Promises.{Near, lowestFirst, ConnectedSets, GroupsConnected}
 use Rattle.nearby.proofs.Both.{near-both}
 use Rattle.lists.proofs.Chains.{Reach}
-use Rattle.lists.proofs.Classes.{together, Ended, Parted, parted-none, parted-same, parted-more, together-reach, reach-together}
+use Rattle.lists.proofs.Classes.{Ended, Parted, parted-none, parted-same, parted-more, together-reach, reach-together}
 use Rattle.nearby.proofs.Reaching.{group-first, group-ended}
 
 -- ---- the groups of the points below k

@@ -6,9 +6,8 @@ use Prim.Native.Nat.{ℕ, _/_, _<_}
 use lib.Dec.{eqb, ltb}
 use lib.ListN.{length}
 use lib.Ieee.{Float}
-use Rattle.lists.specs.Lists.{every, joined, count}
+use Rattle.lists.specs.Lists.{every, joined, count, together}
 use Rattle.lists.proofs.Chains.{Reach}
-use Rattle.lists.proofs.Classes.{together}
 use Rattle.lists.proofs.Members.{In}
 use Rattle.nearby.specs.Pairs.{nearAt}
 use Rattle.nearby.specs.Walk.{groups}

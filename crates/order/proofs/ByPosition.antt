@@ -6,7 +6,7 @@ use mathlib.Core.List.{List, [], _∷_, _++_, map}
 use Prim.Native.Nat.{ℕ, suc, _<_}
 use native.Mathlib.Omega.{arith}
 use lib.ListN.{length, getD, length-map, List·getD-map}
-use Rattle.lists.proofs.Classes.{together}
+use Rattle.lists.specs.Lists.{together}
 use Rattle.mesh.specs.Mesh.{Corner, Ring, position}
 use Rattle.edges.specs.Edges.{runEdges}
 use Rattle.keys.specs.Keys.{Key, keyOf, Use, faceKeys, usesFrom}

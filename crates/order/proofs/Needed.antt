@@ -8,9 +8,8 @@ use mathlib.Core.List.{[]}
 use Prim.Native.Nat.{ℕ, _<_}
 use native.Mathlib.Omega.{arith}
 use lib.ListN.{length, getD}
-use Rattle.lists.specs.Lists.{some}
+use Rattle.lists.specs.Lists.{some, together}
 use Rattle.lists.proofs.Counting.{clash}
-use Rattle.lists.proofs.Classes.{together}
 use Rattle.mesh.specs.Mesh.{Mesh, faces}
 use Rattle.mesh.specs.Table.{overLimits, uneven, misfit, ungrouped, astray, shapeNumber, meshNumber}
 use Rattle.edges.specs.Edges.{edgesOf, same, key, Irregular, verdict, hems}

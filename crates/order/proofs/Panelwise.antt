@@ -6,7 +6,7 @@ use mathlib.Core.List.{List, [], _∷_}
 use Prim.Native.Nat.{ℕ, _<_}
 use native.Mathlib.Omega.{arith}
 use lib.ListN.{length, getD}
-use Rattle.lists.specs.Lists.{some}
+use Rattle.lists.specs.Lists.{some, together}
 use Rattle.lists.proofs.Bools.{or-left}
 use Rattle.lists.proofs.Cases.{iff}
 use Rattle.lists.proofs.Alike.{some-alike, some-map}
@@ -15,7 +15,6 @@ use Rattle.edges.specs.Edges.{ringEdges}
 use Rattle.keys.specs.Keys.{Key, sameKey, keyOf, faceKeys}
 use Rattle.panels.specs.Panels.{panels}
 use Rattle.lists.proofs.Chains.{Reach, here, step, reach-one}
-use Rattle.lists.proofs.Classes.{together}
 use Rattle.panels.specs.Promises.{keyIn, Share}
 use Rattle.panels.proofs.Sharing.{sameKey-refl, key-below}
 use Rattle.panels.proofs.Panelled.{together-share, share-together}

@@ -6,7 +6,7 @@ use mathlib.Core.Bool.{Bool, false}
 use mathlib.Core.List.{List, [], map}
 use Prim.Native.Nat.{ℕ, _<_}
 use lib.ListN.{length, getD}
-use Rattle.lists.proofs.Classes.{together}
+use Rattle.lists.specs.Lists.{together}
 use Rattle.mesh.specs.Mesh.{Mesh, Ring, position, faces}
 use Rattle.mesh.specs.Table.{meshNumber}
 use Rattle.edges.specs.Edges.{edgesOf, key, Irregular, Oriented, Closed, verdict, hems}

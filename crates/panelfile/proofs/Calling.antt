@@ -1,20 +1,14 @@
 -- The whole call: a refusal, and a file that is read. Assumes nothing.
 use mathlib.Core.Path.{_≡_, refl, sym, _∙_}
-use mathlib.Core.Bool.{Bool, true, false, _||_}
+use mathlib.Core.Bool.{Bool, true, false}
 use mathlib.Core.List.{List, []}
 use Prim.Native.Nat.{ℕ, zero, suc}
 use native.Mathlib.Omega.{arith}
-use lib.ListN.{length}
-use lib.Dec.{ltb}
-use borrow.Author.Tests.{ltb-false}
-use Rattle.lists.proofs.Bools.{or-false-left, or-false-right}
-use Rattle.mesh.specs.Limits.{faceLimit, pointNumbers, texelNumbers, cornerNumbers}
 use Rattle.mesh.specs.Mesh.{Mesh}
 use Rattle.mesh.specs.Table.{short}
 use Rattle.mesh.proofs.Numbers.{first-is}
 use Rattle.panelfile.specs.declared.MeshRead.{MeshRead}
-use Rattle.panelfile.specs.Reading.{readAll, finish, fullRoom, roomOf, readingNumber, panelMesh}
-use Rattle.panelfile.specs.Working.{Full}
+use Rattle.panelfile.specs.Reading.{readAll, finish, roomOf, readingNumber, panelMesh}
 use Rattle.panelfile.specs.Answer.{PanelRead, Handed, refusedWith}
 
 module _ (file : List ℕ) (before : Mesh) where
@@ -65,24 +59,3 @@ module _ (file : List ℕ) (before : Mesh) where
     corners = rw (h .number) (h .corners);
     sizes = rw (h .number) (h .sizes);
   }
-
--- lent lists that are not short are at the full limits at least
-pub not-short : (l : Mesh) → short (roomOf l) ≡ false → Full l
-unfolding short fullRoom
-not-short l e =
-    let a = ltb (length (l .positions)) pointNumbers in
-    let b = ltb (length (l .textures)) texelNumbers in
-    let d = ltb (length (l .normals)) pointNumbers in
-    let f = ltb (length (l .corners)) cornerNumbers in
-    let g = ltb (length (l .sizes)) faceLimit in
-    let e1 : (b || (d || (f || (g || false)))) ≡ false = or-false-right a (b || (d || (f || (g || false)))) e in
-    let e2 : (d || (f || (g || false))) ≡ false = or-false-right b (d || (f || (g || false))) e1 in
-    let e3 : (f || (g || false)) ≡ false = or-false-right d (f || (g || false)) e2 in
-    let e4 : (g || false) ≡ false = or-false-right f (g || false) e3 in
-    record {
-      positions = ltb-false (length (l .positions)) pointNumbers (or-false-left a (b || (d || (f || (g || false)))) e);
-      textures = ltb-false (length (l .textures)) texelNumbers (or-false-left b (d || (f || (g || false))) e1);
-      normals = ltb-false (length (l .normals)) pointNumbers (or-false-left d (f || (g || false)) e2);
-      corners = ltb-false (length (l .corners)) cornerNumbers (or-false-left f (g || false) e3);
-      sizes = ltb-false (length (l .sizes)) faceLimit (or-false-left g false e4);
-    }

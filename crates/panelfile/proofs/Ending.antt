@@ -1,20 +1,24 @@
--- Once the reading has stopped: the number at the end; and a mesh that is read is an accepted one. Assumes nothing.
+-- The number at the end, once the reading has stopped; a mesh that is read is an accepted one; and what room that is not too short has.
+-- Assumes nothing.
 use mathlib.Core.Path.{_≡_, refl, sym, _∙_}
-use mathlib.Core.Bool.{true, false}
+use mathlib.Core.Bool.{true, false, _||_}
 use mathlib.Core.List.{List, [], _∷_}
 use Prim.Native.Nat.{ℕ, zero, suc, _≤_, _<_}
 use lib.ListN.{length}
 use lib.Dec.{ltb}
-use borrow.Author.Tests.{lt-ltb, le-ltb}
+use lib.Ieee.{Float}
+use borrow.Author.Tests.{lt-ltb, le-ltb, ltb-false}
 use Rattle.lists.specs.Lists.{some, joined}
+use Rattle.lists.proofs.Bools.{or-false-left, or-false-right}
+use Rattle.mesh.specs.Limits.{faceLimit, pointNumbers, texelNumbers, cornerNumbers}
 use Rattle.mesh.specs.Mesh.{Mesh}
-use Rattle.mesh.specs.Table.{when, astrayAt}
+use Rattle.mesh.specs.Table.{when, astrayAt, short}
 use Rattle.mesh.proofs.Numbers.{first-head, first-tail, when-not}
 use Rattle.grouping.proofs.Accepting.{accepted-faces}
 use Rattle.steps.specs.declared.Progress.{Progress}
-use Rattle.panelfile.specs.Reading.{Drawn, Reader, readAll, meshDrawn, finish, panelMesh}
+use Rattle.panelfile.specs.Reading.{Drawn, Reader, readAll, meshDrawn, finish, fullRoom, panelMesh}
 use Rattle.panelfile.specs.Promises.{ReadIsAccepted}
-use Rattle.panelfile.specs.Working.{Drawing}
+use Rattle.panelfile.specs.Working.{Drawing, Full}
 use Rattle.panelfile.proofs.Sane.{all-sane}
 
 -- a refusal's number stands, whatever is looked at behind it
@@ -57,3 +61,26 @@ read-accepted file e =
     let e1 = first-tail (z .number) (a ∷ when b 5 ∷ []) e in
     let e2 = first-tail a (when b 5 ∷ []) e1 in
     accepted-faces (z .drawn .positions) (z .drawn .textures) (z .drawn .normals) (z .drawn .faces) (all-sane file .drawn) (when-not b 4 (first-head (when b 5) [] e2))
+
+-- lent lists that are not short are at the full limits at least
+pub not-short :
+    (p t n : List Float) (c s : List ℕ) → short (fullRoom (length p) (length t) (length n) (length c) (length s)) ≡ false
+    → Full p t n c s
+unfolding short fullRoom
+not-short p t n c s e =
+    let a = ltb (length p) pointNumbers in
+    let b = ltb (length t) texelNumbers in
+    let d = ltb (length n) pointNumbers in
+    let f = ltb (length c) cornerNumbers in
+    let g = ltb (length s) faceLimit in
+    let e1 : (b || (d || (f || (g || false)))) ≡ false = or-false-right a (b || (d || (f || (g || false)))) e in
+    let e2 : (d || (f || (g || false))) ≡ false = or-false-right b (d || (f || (g || false))) e1 in
+    let e3 : (f || (g || false)) ≡ false = or-false-right d (f || (g || false)) e2 in
+    let e4 : (g || false) ≡ false = or-false-right f (g || false) e3 in
+    record {
+      positions = ltb-false (length p) pointNumbers (or-false-left a (b || (d || (f || (g || false)))) e);
+      textures = ltb-false (length t) texelNumbers (or-false-left b (d || (f || (g || false))) e1);
+      normals = ltb-false (length n) pointNumbers (or-false-left d (f || (g || false)) e2);
+      corners = ltb-false (length c) cornerNumbers (or-false-left f (g || false) e3);
+      sizes = ltb-false (length s) faceLimit (or-false-left g false e4);
+    }

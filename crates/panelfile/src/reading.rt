@@ -133,7 +133,7 @@ pub fn hand_over(
     sizes: &mut [u32],
 ) -> MeshRead
     requires { ⌜ Drawing (now file) x (meshOf (now p) (now t) (now n) (now c) (now s))
-        × Full (meshOf (now positions) (now textures) (now normals) (now corners) (now sizes)) ⌝ }
+        × Full (now positions) (now textures) (now normals) (now corners) (now sizes) ⌝ }
     ensures { λ r. ⌜ Handed (panelMesh (now (file .entry)))
         (meshOf (now (positions .entry)) (now (textures .entry)) (now (normals .entry)) (now (corners .entry)) (now (sizes .entry)))
         (meshOf (now (positions .exit)) (now (textures .exit)) (now (normals .exit)) (now (corners .exit)) (now (sizes .exit)))

@@ -11,7 +11,8 @@ use lib.Seq.{sets, length-take-le}
 use borrow.Author.Tests.{ltb-true}
 use Rattle.lists.specs.Lists.{joined, sum}
 use Rattle.lists.proofs.Parts.{every-at}
-use Rattle.lists.proofs.Fronts.{Front, front}
+use Rattle.lists.specs.Putting.{Front}
+use Rattle.lists.proofs.Fronts.{front}
 use Rattle.mesh.specs.Limits.{width, cornerLimit}
 use Rattle.mesh.specs.Mesh.{Mesh, Ring, rings, faces}
 use Rattle.mesh.specs.Listed.{listedOf}

@@ -5,9 +5,8 @@ use mathlib.Core.List.{List, [], _∷_}
 use Prim.Native.Nat.{ℕ, suc, _≤_, _<_}
 use lib.Dec.{eqb}
 use lib.ListN.{length, getD}
-use Rattle.lists.specs.Lists.{has, some, joined, count}
+use Rattle.lists.specs.Lists.{has, some, joined, count, together}
 use Rattle.lists.proofs.Chains.{Reach}
-use Rattle.lists.proofs.Classes.{together}
 use Rattle.mesh.specs.Mesh.{Ring}
 use Rattle.keys.specs.Keys.{Key, sameKey, faceKeys}
 use Rattle.panels.specs.Panels.{panels}

@@ -22,7 +22,7 @@ fn put_join(faces: &[u32], firsts: &[u32], u: usize, out: &mut [u32], m: usize) 
     requires { ⌜ JoinableAt (now faces) (now firsts) u (now out) m ⌝ }
     ensures { λ r. ⌜ Wrote (joinAt (now (faces .entry)) (now (firsts .entry)) u) (now (out .entry)) m (now (out .exit)) r ⌝ }
 {
-    let f = keys::wide(firsts[u]);
+    let f = lists::wide(firsts[u]);
     if f == u {
         return m;
     }

@@ -108,7 +108,7 @@ fn keep_last(starts: &[u32], firsts: &mut [u32])
 {
     let mut k: usize = 0;
     while k < starts.len() {
-        let s = tracing::wide(starts[k]);
+        let s = lists::wide(starts[k]);
         firsts[s] = k as u32;
         k += 1;
     }

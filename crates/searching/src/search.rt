@@ -123,9 +123,9 @@ fn pop(
         (now (flat .entry)) n (now (seen .exit)) (now (stack .exit)) (now (flat .exit)) (r .top) (r .n) ⌝ }
 {
     let left = top - 1;
-    let x = keys::wide(stack[left]);
+    let x = lists::wide(stack[left]);
     let from = begin_of(ends, x);
-    let to = keys::wide(ends[x]);
+    let to = lists::wide(ends[x]);
     look(joins, order, from, to, seen, stack, flat, left, n)
 }
 
@@ -151,7 +151,7 @@ fn look(
     let mut listed = n;
     let mut p = from;
     while p < to {
-        let x = other_end(joins, keys::wide(order[p]));
+        let x = other_end(joins, lists::wide(order[p]));
         let marks = visit(x, seen, stack, flat, height, listed);
         height = marks.top;
         listed = marks.n;
@@ -177,7 +177,7 @@ fn visit(
         (length (now (seen .entry))) (look [] (x ∷ []) (walk.stateOf (now (stack .entry)) top (now (flat .entry)) n)) (now (flat .entry)) n
         (now (seen .exit)) (now (stack .exit)) (now (flat .exit)) (r .top) (r .n) ⌝ }
 {
-    let i = keys::wide(x);
+    let i = lists::wide(x);
     if seen[i] != 0 {
         return Marks { top: top, n: n };
     }
@@ -210,5 +210,5 @@ fn begin_of(ends: &[u32], x: usize) -> usize
     if x == 0 {
         return 0;
     }
-    keys::wide(ends[x - 1])
+    lists::wide(ends[x - 1])
 }

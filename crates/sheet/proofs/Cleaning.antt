@@ -20,9 +20,11 @@ use Rattle.compaction.specs.declared.Compacted.{Compacted}
 use Rattle.compaction.proofs.Answer.{ready, done as compaction-done}
 use Rattle.compaction.proofs.Laws.{corners-kept, accepted-compacted}
 use Rattle.panelfile.specs.declared.MeshRead.{MeshRead}
-use Rattle.sheet.specs.Sheet.{cleaned}
-use Rattle.sheet.specs.Working.{Front, Kept, Unfolding, Unfolded, Compacting}
-use Rattle.sheet.proofs.Fronts.{front, front-corners, front-sizes}
+use Rattle.cleaning.specs.Cleaning.{cleaned}
+use Rattle.lists.specs.Putting.{Front}
+use Rattle.lists.proofs.Fronts.{front}
+use Rattle.mesh.proofs.MeshFronts.{front-corners, front-sizes}
+use Rattle.sheet.specs.Working.{Kept, Unfolding, Unfolded, Compacting}
 use Rattle.folded.specs.Folded as folding
 use Rattle.compaction.specs.Compaction as compacting
 use Rattle.compaction.specs.Working as compacting-steps

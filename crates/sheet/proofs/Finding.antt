@@ -9,12 +9,15 @@ use native.Mathlib.Omega.{arith}
 use lib.ListN.{length, take, length-map}
 use lib.Seq.{length-sets, length-take-le}
 use Rattle.lists.specs.Lists.{joined, sum}
+use Rattle.lists.specs.Putting.{Front}
 use Rattle.lists.proofs.Bools.{by-cases}
+use Rattle.lists.proofs.Cutting.{parts-back}
+use Rattle.lists.proofs.Fronts.{front}
 use Rattle.lists.proofs.Parts.{length-joined}
 use Rattle.mesh.specs.Limits.{width, cornerLimit, faceLimit}
 use Rattle.mesh.specs.Mesh.{Ring, rings}
 use Rattle.mesh.specs.Table.{when}
-use Rattle.mesh.proofs.After.{after-done, after-refused}
+use Rattle.mesh.proofs.After.{after-done, after-refused, after-length}
 use Rattle.mesh.proofs.Faces.{length-rings}
 use Rattle.edges.specs.Edges.{Edge, edgesOf, hems, verdict}
 use Rattle.edges.specs.Answers.{start, end, verdictOf, Hemmed}
@@ -31,9 +34,7 @@ use Rattle.searching.specs.Walk.{Parted}
 use Rattle.searching.proofs.Parting.{panels-few}
 use Rattle.lines.specs.Working.{wiresBy, foundBy, Ready}
 use Rattle.lines.specs.Lines.{sheetText}
-use Rattle.lines.proofs.Wiring.{parts-back}
-use Rattle.sheet.specs.Working.{Front, WireRoom, foundOf}
-use Rattle.sheet.proofs.Fronts.{after-length, front}
+use Rattle.sheet.specs.Working.{WireRoom, foundOf}
 
 module _ {p t n : ℕ} {c s starts ends flat lengths out : List ℕ} (room : WireRoom p t n c s starts ends flat lengths out) where
   abbrev fs : List Ring

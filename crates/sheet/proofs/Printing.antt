@@ -17,7 +17,8 @@ use Rattle.lines.specs.Lines.{sheetText, sheetRoom, refusal}
 use Rattle.lines.specs.Working.{Sheeted}
 use Rattle.panelfile.specs.declared.MeshRead.{MeshRead}
 use Rattle.panelfile.specs.Reading.{readingNumber, panelMesh}
-use Rattle.sheet.specs.Sheet.{cleaned, foundIn, printed, fileLimit, fileNumber, sheetOf, sheetNumber, Printed}
+use Rattle.cleaning.specs.Cleaning.{cleaned}
+use Rattle.sheet.specs.Sheet.{foundIn, printed, fileLimit, fileNumber, sheetOf, sheetNumber, Printed}
 use Rattle.sheet.specs.Working.{Kept, Cleaned, Findable, foundOf}
 
 -- ---- the file's number, and its mesh after cleaning

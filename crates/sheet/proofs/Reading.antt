@@ -16,9 +16,11 @@ use Rattle.panelfile.specs.declared.MeshRead.{MeshRead}
 use Rattle.panelfile.specs.Reading.{readAll, finish, fullRoom, readingNumber, panelMesh}
 use Rattle.panelfile.specs.Answer.{PanelRead}
 use Rattle.panelfile.proofs.Ending.{read-accepted}
-use Rattle.sheet.specs.Sheet.{cleaned}
-use Rattle.sheet.specs.Working.{Front, Kept, Cleaned, FileRoom, Drawn}
-use Rattle.sheet.proofs.Fronts.{after-length, front-positions, front-textures, front-normals, front-corners, front-sizes}
+use Rattle.cleaning.specs.Cleaning.{cleaned}
+use Rattle.lists.specs.Putting.{Front}
+use Rattle.mesh.proofs.After.{after-length}
+use Rattle.mesh.proofs.MeshFronts.{front-positions, front-textures, front-normals, front-corners, front-sizes}
+use Rattle.sheet.specs.Working.{Kept, Cleaned, FileRoom, Drawn}
 
 -- a mesh that stands at the front of five lists, by its counts
 pub record Fronts (m : Mesh) (p t n : List Float) (c s : List ℕ) (r : MeshRead) : Type 0 where

@@ -11,18 +11,13 @@ use lib.Dec.{ltb}
 use Rattle.mesh.specs.Mesh.{Mesh, faces, positionCount, textureCount, normalCount}
 use Rattle.mesh.specs.Table.{when, firstOf, lent, short, after}
 use Rattle.panelfile.specs.Reading.{readingNumber, panelMesh}
-use Rattle.folded.specs.Folded.{unfoldedMesh}
-use Rattle.compaction.specs.Compaction.{compacted}
+use Rattle.cleaning.specs.Cleaning.{cleaned}
 use Rattle.edges.specs.Edges.{Edge, edgesOf, hems, verdict}
 use Rattle.house.specs.House.{houseWires}
 use Rattle.house.specs.Answers.{wired}
 use Rattle.panels.specs.Panels.{panels}
 use Rattle.lines.specs.Lines.{Found, sheetText, sheetRoom, refusal}
 use Rattle.sheet.specs.declared.Answer.{Answer}
-
--- removes folded faces, compacts
-unfoldable pub cleaned : Mesh → Mesh
-cleaned m = compacted (unfoldedMesh m)
 
 -- positions, texture points, normals, faces; the verdict; panels without the normals setting; the house wires, where the verdict allows
 -- them

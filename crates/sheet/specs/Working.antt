@@ -6,6 +6,7 @@ use mathlib.Core.Option.{none, some}
 use mathlib.Core.List.{List, []}
 use lib.ListN.{length, take}
 use lib.Ieee.{Float}
+use Rattle.lists.specs.Putting.{Front}
 use Rattle.mesh.specs.Limits.{width, entryLimit, cornerLimit, faceLimit, pointNumbers, texelNumbers, cornerNumbers}
 use Rattle.mesh.specs.Mesh.{Mesh, meshOf, rings, positionCount, textureCount, normalCount}
 use Rattle.mesh.specs.Table.{meshNumber}
@@ -18,15 +19,9 @@ use Rattle.house.specs.Answers.{wired}
 use Rattle.panels.specs.Panels.{panels}
 use Rattle.keys.specs.Columns.{Keyable}
 use Rattle.lines.specs.Lines.{Found, sheetRoom}
-use Rattle.sheet.specs.Sheet.{cleaned}
+use Rattle.cleaning.specs.Cleaning.{cleaned}
 
 -- ---- from the file to its mesh after cleaning
-
--- the first k elements of l are xs
-pub record Front {A : Type 0} (l xs : List A) (k : ℕ) : Type 0 where
-  pub is : take k l ≡ xs
-  pub within : k ≤ length l
-  pub long : k ≡ length (take k l)
 
 -- an accepted mesh by its counts, and with its corners and sizes at the front of two lists; its entries are not kept
 pub record Kept (m : Mesh) (r : MeshRead) (corners sizes : List ℕ) : Type 0 where

@@ -6,7 +6,7 @@ ghost use Rattle.mesh.specs.Mesh.{meshOf};
 ghost use lib.ListN.{take};
 ghost use Rattle.compaction.specs.Compaction.{compacted};
 ghost use Rattle.panelfile.specs.Reading.{panelMesh};
-ghost use Rattle.sheet.specs.Sheet.{cleaned};
+ghost use Rattle.cleaning.specs.Cleaning.{cleaned};
 ghost use Rattle.sheet.specs.Working.{FaceRoom, FileRoom, Cleaned, Drawn, Unfolding, Unfolded, Compacting, Kept};
 use panelfile::MeshRead;
 

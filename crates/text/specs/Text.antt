@@ -1,12 +1,9 @@
--- Text as bytes: words, decimal numbers and lines, and text that is written to a lent list. Assumes nothing.
-use Prim.Native.Nat.{ℕ, zero, suc, _+_, _/_, _%_, _≤_}
+-- Text as bytes: words, decimal numbers and lines. Assumes nothing.
+use Prim.Native.Nat.{ℕ, zero, suc, _+_, _/_, _%_}
 use Prim.Native.Char.{code}
 use Prim.Native.String.{String, [] as []ˢ, _∷_ as _∷ˢ_}
-use mathlib.Core.Path.{_≡_}
 use mathlib.Core.Bool.{true, false}
 use mathlib.Core.List.{List, [], _∷_, _++_, map}
-use lib.ListN.{length}
-use lib.Seq.{sets}
 use lib.Dec.{ltb}
 use Rattle.lists.specs.Lists.{each}
 
@@ -35,12 +32,3 @@ spaced ws = each (λ (w : List ℕ). 32 ∷ w) ws
 -- a line: its first word, each other word behind a space, and a line feed (10)
 unfoldable pub line : String → List (List ℕ) → List ℕ
 line w ws = bytes w ++ spaced ws ++ 10 ∷ []
-
--- there is room for the text in a lent list, from place `at` on
-pub record Room (text out : List ℕ) (at : ℕ) : Type 0 where
-  pub fits : at + length text ≤ length out
-
--- the text is written from place `at` on, and `next` is the place behind it
-pub record Written (text out out′ : List ℕ) (at next : ℕ) : Type 0 where
-  pub text-is : out′ ≡ sets out at text
-  pub next-is : next ≡ at + length text

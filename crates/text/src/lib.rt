@@ -1,11 +1,12 @@
 // Text written to a lent list of bytes: words, decimal numbers and lines of them.
 //
 // Each call takes the place to write at and answers the place behind what it wrote, so that texts are put one behind the other.
-// The definitions that a caller cites stand in specs/Text.antt.
+// The definitions that a caller cites stand in specs/Text.antt, and `Room` and `Written` in lists' specs/Putting.antt.
 ghost use mathlib.Core.Path.{_≡_};
 ghost use mathlib.Core.List.{[], _∷_, _++_, map};
 ghost use Prim.Native.Nat.{_<_};
-ghost use Rattle.text.specs.Text.{digitByte, decimal, spaced, Room, Written};
+ghost use Rattle.lists.specs.Putting.{Room, Written};
+ghost use Rattle.text.specs.Text.{digitByte, decimal, spaced};
 
 // A line: a word, the numbers `ns`, each behind a space, and a line feed.
 pub fn put_line(word: &[u8], ns: &[u32], out: &mut [u8], at: usize) -> usize

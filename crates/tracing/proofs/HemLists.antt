@@ -9,7 +9,8 @@ use lib.ListN.{length, getD, take, replicate, length-map, length-replicate, List
 use borrow.Author.Tests.{ltb-true}
 use Rattle.lists.specs.Lists.{every}
 use Rattle.lists.proofs.Bools.{and-left, and-right}
-use Rattle.lists.proofs.Fronts.{Front, front}
+use Rattle.lists.specs.Putting.{Front}
+use Rattle.lists.proofs.Fronts.{front}
 use Rattle.lists.proofs.Parts.{every-at}
 use Rattle.mesh.specs.Limits.{width, entryLimit, cornerLimit}
 use Rattle.mesh.specs.Mesh.{Ring, position, rings}

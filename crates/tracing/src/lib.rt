@@ -35,12 +35,6 @@ pub fn refused(number: u32) -> Wires
     }
 }
 
-pub fn wide(x: u32) -> usize
-    ensures { λ r. ⌜ r ≡ x ⌝ }
-{
-    x as usize
-}
-
 // All wires, from the smallest start on, from the front of `flat` and `lengths` on. A position is left only when no edge is left there.
 pub fn trace_all(
     starts: &[u32],
@@ -58,7 +52,7 @@ pub fn trace_all(
     let mut done = Traced { flat: 0, wires: 0 };
     let mut p: usize = 0;
     while p < firsts.len() {
-        let k = wide(firsts[p]);
+        let k = lists::wide(firsts[p]);
         if k < starts.len() {
             done = trace_one(starts, ends, nexts, firsts, p, flat, lengths, done);
         } else {
@@ -134,8 +128,8 @@ fn onward_from(
     requires { ⌜ Underway (now starts) (now ends) (now nexts) (now firsts) first c ⌝ }
     ensures { λ r. ⌜ StepTaken (now (starts .entry)) (now (ends .entry)) (now (nexts .entry)) first c (now (firsts .entry)) (now (firsts .exit)) r ⌝ }
 {
-    let p = wide(c);
-    let k = wide(firsts[p]);
+    let p = lists::wide(c);
+    let k = lists::wide(firsts[p]);
     if k >= starts.len() {
         return first;
     }

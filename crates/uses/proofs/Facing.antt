@@ -12,7 +12,8 @@ use Rattle.mesh.specs.Mesh.{rings}
 use Rattle.mesh.specs.Face.{Sound, offsetOf, faceOf}
 use Rattle.mesh.proofs.Faces.{face-length, offset-step}
 use Rattle.mesh.specs.Edges.{Edge, edgesOf}
-use Rattle.uses.specs.Uses.{Written, Columned, faceEdges, nextOf}
+use Rattle.lists.specs.Numbers.{nextOf}
+use Rattle.uses.specs.Uses.{Written, Columned, faceEdges}
 use Rattle.uses.proofs.Sides.{edgesFrom, edges-begin, edges-step, edges-end, length-face-edges, uses-step, uses-end}
 use Rattle.uses.proofs.Filling.{Filling, fill-begins, fill-left, fill-part, fill-ends}
 

@@ -21,7 +21,8 @@ use Rattle.mesh.proofs.Corners.{length-cornersIn, getD-cornersIn, cornersIn-spl
 use Rattle.mesh.proofs.Faces.{rings-step, sizes-back}
 use Rattle.mesh.specs.Edges.{Edge, runEdges, ringEdges, edgesOf, Edged}
 use Rattle.mesh.proofs.Edges.{length-ring}
-use Rattle.uses.specs.Uses.{faceEdges, nextOf}
+use Rattle.lists.specs.Numbers.{nextOf}
+use Rattle.uses.specs.Uses.{faceEdges}
 
 -- ---- a face's edges, corner by corner
 

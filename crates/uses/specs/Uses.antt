@@ -63,10 +63,6 @@ pub record Gatherable (cs s : List ℕ) (n : ℕ) (lowers highers downs first or
 unfoldable pub faceEdges : List ℕ → List Edge
 faceEdges f = ringEdges (map position (cornersIn f))
 
--- the corner behind corner i of n: the next, or the first
-unfoldable pub nextOf : ℕ → ℕ → ℕ
-nextOf i n = cond (ltb (i + 1) n) (i + 1) 0
-
 -- the uses sorted by higher, then by lower position
 unfoldable pub inOrder : ℕ → List ℕ → List ℕ → List ℕ
 inOrder n lowers highers = passed (digit n lowers ∷ digit n highers ∷ []) (span 0 (length lowers))

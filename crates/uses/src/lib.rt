@@ -10,7 +10,7 @@ ghost use lib.ListN.{length, getD, drop};
 ghost use Rattle.mesh.specs.Limits.{width};
 ghost use Rattle.mesh.specs.Mesh.{rings};
 ghost use Rattle.mesh.specs.Edges.{same, edgesOf};
-ghost use Rattle.uses.specs.Uses.{Written, Columned, UseRoom, Gatherable, Gathered, ReadyAt, faceEdges, nextOf, keyAt, goesOn};
+ghost use Rattle.uses.specs.Uses.{Written, Columned, UseRoom, Gatherable, Gathered, ReadyAt, faceEdges, keyAt, goesOn};
 
 // The uses of all edges of a mesh that is accepted, with so many positions: their columns, and their order by edge. `first` is a row
 // to work in.
@@ -41,7 +41,12 @@ pub fn goes_on(lowers: &[u32], highers: &[u32], downs: &[u32], order: &[u32], i:
 {
     let next = i + 1;
     if next < order.len() {
-        same_edge(lowers, highers, wide(order[i]), wide(order[next]))
+        same_edge(
+            lowers,
+            highers,
+            lists::wide(order[i]),
+            lists::wide(order[next]),
+        )
     } else {
         false
     }
@@ -76,7 +81,7 @@ fn put_uses(
     while k < sizes.len() {
         let face = mesh::face_at(corners, sizes, k, at);
         put_face(face, lowers, highers, downs, at);
-        at += wide(sizes[k]);
+        at += lists::wide(sizes[k]);
         k += 1;
     }
 }
@@ -92,17 +97,10 @@ fn put_face(face: &[u32], lowers: &mut [u32], highers: &mut [u32], downs: &mut [
     let mut i: usize = 0;
     while i < n {
         let a = mesh::WIDTH * i;
-        let b = mesh::WIDTH * next_of(i, n);
+        let b = mesh::WIDTH * lists::next_of(i, n);
         put_use(face[a], face[b], lowers, highers, downs, at + i);
         i += 1;
     }
-}
-
-fn next_of(i: usize, n: usize) -> usize
-    requires { ⌜ i < n ⌝ }
-    ensures { λ r. ⌜ (r ≡ nextOf i n) × (r < n) ⌝ }
-{
-    if i + 1 < n { i + 1 } else { 0 }
 }
 
 // One use, from position a to position b.
@@ -121,10 +119,4 @@ fn put_use(a: u32, b: u32, lowers: &mut [u32], highers: &mut [u32], downs: &mut 
         highers[at] = a;
         downs[at] = 1;
     }
-}
-
-fn wide(x: u32) -> usize
-    ensures { λ r. ⌜ r ≡ x ⌝ }
-{
-    x as usize
 }

@@ -28,6 +28,13 @@ fn meshsheet_prints_the_sheet() {
 }
 
 #[test]
+fn meshclean_writes_the_cleaned_file() {
+    let folder = root().join("crates/meshclean");
+    let cleaned = writing::clean(&read(folder.join("stdin")).unwrap()).unwrap();
+    assert_eq!(cleaned, read(folder.join("stdout")).unwrap());
+}
+
+#[test]
 fn sheets_prints_each_sheet() {
     let sheets: String = files("try_sheets").iter().map(|(name, file)| format!("== {name}\n{}", sheet::sheet(file))).collect();
     assert_eq!(sheets, stored("try_sheets"));

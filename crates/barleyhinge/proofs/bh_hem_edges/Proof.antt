@@ -18,7 +18,7 @@ same-length-2 : tie.Need-same-length-2
 same-length-2 c = search needs
 
 returns : tie.Need-returns
-returns c = taken (HemAnswer _ _ _ _ _) _ _ (c .hemmed .ensures) (c .before .before .before .before .before .before .hem-edges .ensures)
+returns c = taken (HemAnswer _ _ _) _ _ (c .hemmed .ensures) (c .before .before .before .before .before .before .hem-edges .ensures)
 
 pub bh-hem-edges-spec : {M : Type 1} → statement M
 bh-hem-edges-spec = tie.close (tie.spec hem-edges-requires hemmed-requires same-length same-length-2 returns)

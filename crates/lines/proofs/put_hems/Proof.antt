@@ -1,7 +1,7 @@
 -- `lines::put_hems` meets its contract: the lines of the first k wires are put, `from` is where wire k starts, and k rises to all of them. Assumes nothing.
 use Prim.Native.Nat.{_-_}
 use lib.ListN.{length}
-use Rattle.text.proofs.Putting.{written-long}
+use Rattle.lists.proofs.Listing.{written-long}
 use Rattle.lines.proofs.Wiring.{Hemming, hemming-begins, hemming-within, hemming-room, hemming-turns, hemming-ends}
 use borrow.Author.Needs.{needs}
 use native.Mathlib.Omega.{arith}

@@ -1,6 +1,6 @@
 -- `lines::put_sheet` meets its contract: 65,536 bytes are room for the four parts (`sheet-room`), which are put one behind the other. Assumes nothing.
 use Rattle.lines.proofs.Fitting.{Narrow, sheeted, sheet-room, mesh-room, verdict-room, panels-room, hems-room, sheet-written}
-use Rattle.text.specs.Text.{Room}
+use Rattle.lists.specs.Putting.{Room}
 use Rattle.lines.specs.Lines.{sheetText}
 use Rattle.lines.specs.Working.{foundBy}
 use native.Mathlib.Omega.{arith}

@@ -3,7 +3,7 @@ use mathlib.Core.Path.{ap}
 use mathlib.Core.List.{List}
 use Prim.Native.Nat.{ℕ}
 use Rattle.text.specs.Text.{line}
-use Rattle.text.proofs.Putting.{room-as, written-as}
+use Rattle.lists.proofs.Listing.{room-as, written-as}
 use Rattle.edges.specs.declared.ShellCondition.{ShellCondition}
 use Rattle.lines.specs.Lines.{verdictLine}
 use Rattle.edges.specs.Answers.{verdictOf}

@@ -1,5 +1,5 @@
 -- `lines::put_wires` meets its contract: with 0 a line for each wire, with another number the one line. Assumes nothing.
-use Rattle.text.proofs.Putting.{room-as, written-as}
+use Rattle.lists.proofs.Listing.{room-as, written-as}
 use Rattle.lines.proofs.Wiring.{hem-lines, refused-lines, wired-zero}
 use borrow.Author.Needs.{needs}
 use Rattle.lines.proofs.put_wires.Statement.{statement}

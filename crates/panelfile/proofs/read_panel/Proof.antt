@@ -1,6 +1,7 @@
 -- `panelfile::read_panel` meets its contract: rooms first, then the number at the end, then the mesh. Assumes nothing.
 use mathlib.Core.Path.{sym, _∙_}
-use Rattle.panelfile.proofs.Calling.{call-short, call-refused, call-done, not-short}
+use Rattle.panelfile.proofs.Ending.{not-short}
+use Rattle.panelfile.proofs.Calling.{call-short, call-refused, call-done}
 use borrow.Author.Needs.{needs}
 use Rattle.panelfile.proofs.read_panel.Statement.{statement}
 use Rattle.panelfile.proofs.read_panel.Tie as tie
@@ -79,7 +80,7 @@ hand-over-requires c κs =
     let on20 = c .before .before .before .before .before .before .before .before .before .before .before .before .before .before .before .before .before .before .before .before in
     let at-read-records = on20 .before .before in
     let at-if1 = at-read-records .before .before .before .before .before .before in
-    (at-read-records .read-records .ensures, not-short _ (sym (at-if1 .before .is-short .ensures) ∙ at-if1 .if1 .left))
+    (at-read-records .read-records .ensures, not-short _ _ _ _ _ (sym (at-if1 .before .is-short .ensures) ∙ at-if1 .if1 .left))
 
 same-length : tie.Need-same-length
 same-length c = search needs

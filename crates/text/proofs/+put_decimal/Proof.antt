@@ -5,7 +5,8 @@ use native.Mathlib.Omega.{arith}
 use Prim.Native.Nat.{ℕ, _<_}
 use borrow.Fn.Kinds.{In}
 use borrow.Fn.PlainCycle.{Measures, is, falls, and}
-use Rattle.text.proofs.Putting.{written-long, room-digit, written-digit, room-tenth, room-last, written-last}
+use Rattle.lists.proofs.Listing.{written-long}
+use Rattle.text.proofs.Putting.{room-digit, written-digit, room-tenth, room-last, written-last}
 use Rattle.text.proofs.put_decimal.Reads as reads
 use Rattle.text.proofs.put_decimal.Kinds as kinds
 use Rattle.text.proofs.+put_decimal.Lts-put_decimal as lts

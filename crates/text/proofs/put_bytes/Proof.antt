@@ -42,7 +42,7 @@ same-length : tie.Need-same-length Inv-loop μ-loop
 same-length c = search needs
 
 returns : tie.Need-returns Inv-loop μ-loop
-returns c = record { text-is = copy-ends 0 _ _ _ _ _ (omega arith) (c .before .loop .inv); next-is = refl }
+returns c = record { is = copy-ends 0 _ _ _ _ _ (omega arith) (c .before .loop .inv); next-is = refl }
 
 pub put-bytes-spec : {M : Type 1} → statement M
 put-bytes-spec =

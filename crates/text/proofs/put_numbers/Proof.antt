@@ -1,7 +1,8 @@
 -- `text::put_numbers` meets its contract: the first i numbers are put, each behind a space, and i rises to all of them. Assumes nothing.
 use Prim.Native.Nat.{_-_}
 use lib.ListN.{length}
-use Rattle.text.proofs.Putting.{written-long, Listing, listing-begins, listing-room, listing-turns, listing-ends, numberText, spaced-numbers}
+use Rattle.lists.proofs.Listing.{written-long, Listing, listing-begins, listing-room, listing-turns, listing-ends}
+use Rattle.text.proofs.Putting.{numberText, spaced-numbers}
 use borrow.Author.Needs.{needs}
 use Rattle.text.proofs.put_numbers.Statement.{statement}
 use Rattle.text.proofs.put_numbers.Tie as tie

@@ -8,8 +8,8 @@ use Rattle.keys.proofs.columns.edge_entry.Tie as tie
 mul-a : tie.Need-mul-a
 mul-a c = search needs
 
-behind-requires : tie.Need-behind-requires
-behind-requires c κs = search needs
+next-of-requires : tie.Need-next-of-requires
+next-of-requires c κs = search needs
 
 mul-b : tie.Need-mul-b
 mul-b c = search needs
@@ -58,24 +58,24 @@ choose-requires-2 c κs = search needs
 
 returns : tie.Need-returns
 returns c =
-    let behind = c .before .before .before .before .before .before .before .before .behind in
+    let next-of = c .before .before .before .before .before .before .before .before .next-of in
     let normal-digit = c .before .before .before .before .normal-digit in
     let normal-digit2 = c .before .before .normal-digit2 in
-    entry-up _ _ _ _ _ _ _ _ _ (behind .ensures .0) (c .before .if1 .taken) (normal-digit .ensures) (normal-digit2 .ensures) (c .choose .ensures)
+    entry-up _ _ _ _ _ _ _ _ _ (next-of .ensures .0) (c .before .if1 .taken) (normal-digit .ensures) (normal-digit2 .ensures) (c .choose .ensures)
 
 returns-2 : tie.Need-returns-2
 returns-2 c =
-    let behind = c .before .before .before .before .before .before .before .before .behind in
+    let next-of = c .before .before .before .before .before .before .before .before .next-of in
     let normal-digit = c .before .before .before .before .normal-digit in
     let normal-digit2 = c .before .before .normal-digit2 in
-    entry-down _ _ _ _ _ _ _ _ _ (behind .ensures .0) (c .before .if1 .left) (normal-digit .ensures) (normal-digit2 .ensures) (c .choose2 .ensures)
+    entry-down _ _ _ _ _ _ _ _ _ (next-of .ensures .0) (c .before .if1 .left) (normal-digit .ensures) (normal-digit2 .ensures) (c .choose2 .ensures)
 
 pub edge-entry-spec : {M : Type 1} → statement M
 edge-entry-spec =
     tie.close
     (tie.spec
     mul-a
-    behind-requires
+    next-of-requires
     mul-b
     mul-p
     shared-slice-read-p

@@ -1,9 +1,9 @@
--- `keys::first_uses` meets its contract: it is `first_uses_in` with the fronts of rows of fixed length. Assumes nothing.
+-- `keys::first_of_many` meets its contract: it is `first_uses_in` with the fronts of rows of fixed length. Assumes nothing.
 use mathlib.Core.Path.{sym}
 use Rattle.keys.proofs.Rows.{corner-row}
 use borrow.Author.Needs.{needs}
-use Rattle.keys.proofs.first_uses.Statement.{statement}
-use Rattle.keys.proofs.first_uses.Tie as tie
+use Rattle.keys.proofs.first_of_many.Statement.{statement}
+use Rattle.keys.proofs.first_of_many.Tie as tie
 
 array-borrow-prefix-lower : tie.Need-array-borrow-prefix-lower
 array-borrow-prefix-lower c = search needs
@@ -55,8 +55,8 @@ same-length c = search needs
 returns : tie.Need-returns
 returns c = c .before .before .before .before .before .before .before .first-uses-in .ensures
 
-pub first-uses-spec : {M : Type 1} → statement M
-first-uses-spec =
+pub first-of-many-spec : {M : Type 1} → statement M
+first-of-many-spec =
     tie.close
     (tie.spec
     array-borrow-prefix-lower

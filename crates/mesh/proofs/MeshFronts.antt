@@ -1,28 +1,17 @@
--- A result that was written from the front of a list: the front of that length is the result again. The lists of an accepted mesh,
--- written to lists at the full limits. Assumes nothing.
-use mathlib.Core.Path.{_≡_, _∙_, refl, sym, ap}
+-- The lists of an accepted mesh, written to the front of lists at the full limits, stand there by its counts. Assumes nothing.
+use mathlib.Core.Path.{_≡_, sym}
 use mathlib.Core.List.{List}
-use Prim.Native.Nat.{_*_, _/_, _≤_, ℕ, zero, suc}
+use Prim.Native.Nat.{ℕ, _*_, _/_}
 use native.Mathlib.Omega.{arith}
-use lib.ListN.{length, take}
-use lib.Seq.{sets, length-sets}
+use lib.ListN.{length}
+use lib.Seq.{sets}
 use lib.Ieee.{Float}
-use Rattle.lists.proofs.Copies.{take-written}
+use Rattle.lists.specs.Putting.{Front}
+use Rattle.lists.proofs.Fronts.{front}
 use Rattle.mesh.specs.Limits.{width, faceLimit, pointNumbers, texelNumbers, cornerNumbers}
 use Rattle.mesh.specs.Mesh.{Mesh, positionCount, textureCount, normalCount}
-use Rattle.mesh.specs.Table.{meshNumber, after}
+use Rattle.mesh.specs.Table.{meshNumber}
 use Rattle.mesh.proofs.Accepted.{Accepted, accepted}
-use Rattle.sheet.specs.Working.{Front}
-
--- a call leaves a list as long as it was
-pub after-length : {A : Type 0} (n : ℕ) (l xs : List A) → length (after n (sets l 0 xs) l) ≡ length l
-after-length zero l xs = length-sets l 0 xs
-after-length (suc n) l xs = refl
-
-pub front : {A : Type 0} (l : List A) {l′ xs : List A} {k : ℕ} → l′ ≡ sets l 0 xs → length xs ≡ k → k ≤ length l → Front l′ xs k
-front l {l′} {xs} {k} e n h =
-    let i : take k l′ ≡ xs = ap (take k) e ∙ take-written l xs k n h in
-    record { is = i; within = omega (arith, ap length e, length-sets l 0 xs); long = sym n ∙ ap length (sym i) }
 
 -- the lists of an accepted mesh, by its counts
 module _ (m : Mesh) (ok : meshNumber m ≡ 0) where
