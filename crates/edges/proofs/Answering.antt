@@ -105,3 +105,32 @@ module _ (m : Mesh) (starts ends : List ℕ) where
       starts = h .starting;
       ends = h .ending;
     }
+
+-- ---- an answer is known by its number and verdict
+
+verdict-only : (a b : ShellCondition) → verdictOf a ≡ verdictOf b → a ≡ b
+unfolding verdictOf
+verdict-only ShellCondition.Irregular ShellCondition.Irregular e = refl
+verdict-only ShellCondition.Irregular ShellCondition.Regular e = cc
+verdict-only ShellCondition.Irregular ShellCondition.Oriented e = cc
+verdict-only ShellCondition.Irregular ShellCondition.Closed e = cc
+verdict-only ShellCondition.Regular ShellCondition.Irregular e = cc
+verdict-only ShellCondition.Regular ShellCondition.Regular e = refl
+verdict-only ShellCondition.Regular ShellCondition.Oriented e = cc
+verdict-only ShellCondition.Regular ShellCondition.Closed e = cc
+verdict-only ShellCondition.Oriented ShellCondition.Irregular e = cc
+verdict-only ShellCondition.Oriented ShellCondition.Regular e = cc
+verdict-only ShellCondition.Oriented ShellCondition.Oriented e = refl
+verdict-only ShellCondition.Oriented ShellCondition.Closed e = cc
+verdict-only ShellCondition.Closed ShellCondition.Irregular e = cc
+verdict-only ShellCondition.Closed ShellCondition.Regular e = cc
+verdict-only ShellCondition.Closed ShellCondition.Oriented e = cc
+verdict-only ShellCondition.Closed ShellCondition.Closed e = refl
+
+pub answer-only : (a b : Judged) → answerOf a ≡ answerOf b → a ≡ b
+unfolding answerOf
+answer-only (Found v) (Found w) e =
+    ap Found (verdict-only v w (let q : some (verdictOf v) ≡ some (verdictOf w) = ap (λ (x : Answer). x .verdict) e in cc))
+answer-only (Found v) (Refused n) e = let q : _≡_ {A = Option Verdict} (some (verdictOf v)) none = ap (λ (x : Answer). x .verdict) e in cc
+answer-only (Refused n) (Found v) e = let q : _≡_ {A = Option Verdict} none (some (verdictOf v)) = ap (λ (x : Answer). x .verdict) e in cc
+answer-only (Refused n) (Refused m) e = ap Refused (ap (λ (x : Answer). x .number) e)
