@@ -16,7 +16,14 @@ fn main() {
         return;
     }
     let length = answer.length;
-    io::write_all(1, &out[..length]);
+    hand_over(&out[..length]);
+}
+
+// The cleaned file, to its last byte; where that cannot be, `unwritten` goes to standard error.
+fn hand_over(file: &[u8]) {
+    if !io::write_all(1, file) {
+        io::write_all(2, b"unwritten\n");
+    }
 }
 
 // What is said of a refused file.

@@ -1,29 +1,29 @@
 -- The calls: what `read_panel` hands over of the bytes that `write_panel` wrote, and what `write_panel` makes of that. Assumes nothing.
-use mathlib.Core.Path.{_≡_, sym, ap, _∙_}
+use mathlib.Core.Path.{_≡_, refl, sym, ap, _∙_}
 use mathlib.Core.Bool.{false}
 use mathlib.Core.List.{List}
-use Prim.Native.Nat.{ℕ, _*_, _≤_}
+use Prim.Native.Nat.{ℕ, _*_, _/_, _≤_}
 use native.Mathlib.Omega.{arith}
 use lib.ListN.{length, take}
 use lib.Seq.{sets}
 use Rattle.lists.proofs.Copies.{take-written}
 use Rattle.mesh.specs.Limits.{width}
-use Rattle.mesh.specs.Mesh.{Mesh}
-use Rattle.mesh.specs.Table.{meshNumber, short}
+use Rattle.mesh.specs.Mesh.{Mesh, meshOf, positionCount, textureCount, normalCount}
+use Rattle.mesh.specs.Table.{meshNumber, short, after}
 use Rattle.mesh.proofs.Accepted.{Accepted, accepted}
 use Rattle.mesh.proofs.After.{after-done}
 use Rattle.panelfile.specs.declared.MeshRead.{MeshRead}
-use Rattle.panelfile.specs.Reading.{panelMesh, roomOf}
+use Rattle.panelfile.specs.Reading.{readingNumber, panelMesh, roomOf}
 use Rattle.panelfile.specs.Working.{Full}
 use Rattle.panelfile.specs.Answer.{PanelRead}
 use Rattle.panelfile.proofs.Ending.{not-short}
 use Rattle.saving.specs.declared.Saved.{Saved}
 use Rattle.saving.specs.Pieces.{fileOf, fileLength}
-use Rattle.saving.specs.Answer.{PanelWritten}
+use Rattle.saving.specs.Answer.{savingNumber, PanelWritten}
 use Rattle.saving.specs.Working.{Ready}
 use Rattle.saving.proofs.Parting.{file-is-long}
 use Rattle.saving.proofs.Saving.{ready, number-well}
-use Rattle.reopened.specs.Promises.{Reopens, handed, CallsReopen, CallsWriteAgain}
+use Rattle.reopened.specs.Promises.{Reopens, handed, CanReopen, CallsReopen, CallsWriteAgain}
 use Rattle.reopened.proofs.Reopened.{reopens}
 
 -- ---- what the writer leaves
@@ -80,6 +80,45 @@ module _ (file : List ℕ) (lists lists' : Mesh) (answer : MeshRead) (ok : meshN
       )
 
 -- ---- both calls
+
+-- the answers that the two contracts determine
+pub can-reopen : CanReopen
+can-reopen m out lists ok doubles room full =
+    let n : ℕ = savingNumber m (length out) in
+    let saved : Saved = record { number = n; length = after n (fileLength m) 0 } in
+    let out' : List ℕ = after n (sets out 0 (fileOf m)) out in
+    let file : List ℕ = take (saved .length) out' in
+    let k : ℕ = readingNumber (roomOf lists) file in
+    let r : Mesh = panelMesh file in
+    let lists' : Mesh = meshOf
+    (after k (sets (lists .positions) 0 (r .positions)) (lists .positions))
+    (after k (sets (lists .textures) 0 (r .textures)) (lists .textures))
+    (after k (sets (lists .normals) 0 (r .normals)) (lists .normals))
+    (after k (sets (lists .corners) 0 (r .corners)) (lists .corners))
+    (after k (sets (lists .sizes) 0 (r .sizes)) (lists .sizes)) in
+    let answer : MeshRead = record {
+      number = k;
+      positions = after k (positionCount r) 0;
+      textures = after k (textureCount r) 0;
+      normals = after k (normalCount r) 0;
+      corners = after k (length (r .corners) / width) 0;
+      faces = after k (length (r .sizes)) 0;
+    } in
+    let read : PanelRead file lists lists' answer = record {
+      number = refl;
+      position-count = refl;
+      texture-count = refl;
+      normal-count = refl;
+      corner-count = refl;
+      face-count = refl;
+      positions = refl;
+      textures = refl;
+      normals = refl;
+      corners = refl;
+      sizes = refl;
+    } in
+    let written : PanelWritten m out out' saved = record { number = refl; byte-count = refl; bytes = refl } in
+    (out', saved, lists', answer, record { doubles = doubles; written = written; done = sym (number-well m (length out) ok room); read = read; room = full })
 
 pub calls-reopen : CallsReopen
 calls-reopen m out out' saved lists lists' answer h =

@@ -14,11 +14,12 @@ use Rattle.panelfile.specs.declared.MeshRead.{MeshRead}
 use Rattle.panelfile.specs.Reading.{readingNumber, panelMesh, roomOf}
 use Rattle.panelfile.specs.Answer.{PanelRead}
 use Rattle.saving.specs.declared.Saved.{Saved}
-use Rattle.saving.specs.Pieces.{Piece, recordOf, fileOf}
+use Rattle.saving.specs.Pieces.{Piece, recordOf, fileOf, fileLength}
 use Rattle.saving.specs.Answer.{PanelWritten}
 use Rattle.reopened.specs.Said.{sayable, answerAt}
 
--- ---- one record, over all kinds: written anywhere in a file, it is read back there
+-- ---- one record, over all kinds: written anywhere in a file, it is read back there; of a face its place and its count, and its corners
+-- ---- come back with the mesh
 
 abbrev pub RecordReopens : Type 0
 RecordReopens = (s : List ℕ) (at : ℕ) (p : Piece) (r : List ℕ) → sayable p ≡ true → drop at s ≡ recordOf p ++ r → recordFrom s at ≡ answerAt at p
@@ -70,6 +71,12 @@ pub record Reopening (m : Mesh) (out out' : List ℕ) (saved : Saved) (lists lis
 pub record HandedBack (m : Mesh) (lists' : Mesh) (answer : MeshRead) : Type 0 where
   pub number : answer .number ≡ 0
   pub mesh : handed answer lists' ≡ m
+
+-- what is asked of the two calls can be had, of every accepted mesh, a buffer that is long enough and lists with room
+abbrev pub CanReopen : Type 0
+CanReopen =
+    (m : Mesh) (out : List ℕ) (lists : Mesh) → meshNumber m ≡ 0 → DoubleMesh m → fileLength m ≤ length out → short (roomOf lists) ≡ false
+    → (out' : List ℕ) × (saved : Saved) × (lists' : Mesh) × (answer : MeshRead) × Reopening m out out' saved lists lists' answer
 
 abbrev pub CallsReopen : Type 0
 CallsReopen =

@@ -34,11 +34,11 @@ returns c = search needs
 array-share-prefix-out : tie.Need-array-share-prefix-out
 array-share-prefix-out c = omega (arith, cleaned-fits _ _ _ _ (c .before .before .clean .ensures))
 
-slice-aggregate-write-all : tie.Need-slice-aggregate-write-all
-slice-aggregate-write-all c = sym (length-take-le _ _ (omega (arith, cleaned-fits _ _ _ _ (c .before .before .before .clean .ensures))))
+slice-aggregate-hand-over : tie.Need-slice-aggregate-hand-over
+slice-aggregate-hand-over c = sym (length-take-le _ _ (omega (arith, cleaned-fits _ _ _ _ (c .before .before .before .clean .ensures))))
 
-write-all-requires : tie.Need-write-all-requires
-write-all-requires c κs = search needs
+hand-over-requires : tie.Need-hand-over-requires
+hand-over-requires c κs = search needs
 
 returns-2 : tie.Need-returns-2
 returns-2 c = search needs
@@ -56,6 +56,6 @@ main-spec =
     refuse-requires
     returns
     array-share-prefix-out
-    slice-aggregate-write-all
-    write-all-requires
+    slice-aggregate-hand-over
+    hand-over-requires
     returns-2)
