@@ -1,6 +1,6 @@
 /* The library tried from C: reads a panel file from standard input, cleans it and prints its sheet, as document 01 has it; then a line
-   from each call that the sheet does not need. A refusal prints 'refused' and its number. Last comes the sheet again, from the one call
-   that makes all of it. One byte more than a file may have is read, so that a longer one is refused and not cut.
+   from each call that the sheet does not need, the cleaned cover as a panel file among them. A refusal prints 'refused' and its number. Last
+   comes the sheet again, from the one call that makes all of it. One byte more than a file may have is read, so that a longer one is refused and not cut.
    rust/barleyhinge/examples/cover.rs is the same from Rust; tools/try_library builds and runs both. */
 #include "barleyhinge.h"
 #include <stdio.h>
@@ -103,6 +103,19 @@ static void print_more(void) {
     printf("merging %u pairs %zu %zu %zu\n", number, pairs[0], pairs[1], pairs[2]);
 }
 
+/* The cleaned cover as a panel file, by a buffer that is one byte short and by one that is not; and the file cleaned by the one call that
+   does all of it, which must be the same. */
+static void print_written(const uint8_t *file, size_t file_len) {
+    static uint8_t written[BH_FILE_ROOM], cleaned[BH_FILE_ROOM];
+    size_t length, bytes;
+    uint32_t number = bh_write_panel(LISTS(&clean), ROOM(written), &length);
+    printf("written %u bytes %zu\n", number, length);
+    bool refused = bh_write_panel(LISTS(&clean), written, length - 1, &bytes) == BH_ROOM && bytes == 0;
+    number = bh_clean_panel(file, file_len, ROOM(cleaned), &bytes);
+    bool same = bytes == length && memcmp(cleaned, written, length) == 0;
+    printf("cleaned %u bytes %zu%s\n", number, bytes, same && refused ? ", the same" : "");
+}
+
 int main(void) {
     static uint8_t file[BH_MAX_FILE + 1], text[BH_SHEET_ROOM];
     size_t length = fread(file, 1, sizeof file, stdin), bytes;
@@ -110,6 +123,7 @@ int main(void) {
     if (number == BH_DONE) {
         print_sheet();
         print_more();
+        print_written(file, length);
     } else {
         printf("refused %u\n", number);
     }

@@ -24,9 +24,9 @@
    MEMORY. No call allocates, and none keeps anything: there are no statics, so calls may run side by side, each with lists of its own to
    write; lists that are only read may be shared. A lent list need not be initialised. What a call needs beside its lists is stack, in KB
    of 1,024 bytes, measured on x86-64 by tools/measure_stack, which also holds these figures to the library; none is proved:
-     bh_sheet 560, bh_components 200, bh_read_panel 192, bh_put_together_same_attrs 192, bh_extract_boundaries 164, bh_house_wires 164,
-     bh_remove_degenerate_faces 104, bh_shell_condition 104, bh_hem_edges 104, bh_remove_unused_attrs 32, bh_push 4, bh_mesh_number 4,
-     bh_face 4
+     bh_clean_panel 600, bh_sheet 560, bh_components 200, bh_read_panel 192, bh_put_together_same_attrs 192, bh_extract_boundaries 164,
+     bh_house_wires 164, bh_remove_degenerate_faces 104, bh_shell_condition 104, bh_hem_edges 104, bh_remove_unused_attrs 32, bh_push 4,
+     bh_write_panel 4, bh_mesh_number 4, bh_face 4
 
    What is promised is proved for every input: each call's contract stands in crates/barleyhinge/src/lib.rt. */
 #ifndef BARLEYHINGE_H
@@ -34,9 +34,9 @@
 
 /* The version of this interface. */
 #define BH_VERSION_MAJOR 0
-#define BH_VERSION_MINOR 2
+#define BH_VERSION_MINOR 3
 #define BH_VERSION_PATCH 0
-#define BH_VERSION "0.2.0"
+#define BH_VERSION "0.3.0"
 
 #include <stdbool.h>
 #include <stddef.h>
@@ -56,7 +56,8 @@ enum bh_limit {
     BH_MAX_FACES = 1365,
     BH_MAX_FACE_CORNERS = 32,
     BH_MAX_FILE = 65536,  /* bytes of a panel file that has a sheet; of a longer one the sheet is 'refused 1' */
-    BH_SHEET_ROOM = 65536 /* bytes: room for every sheet */
+    BH_SHEET_ROOM = 65536, /* bytes: room for every sheet */
+    BH_FILE_ROOM = 211629  /* bytes: room for every panel file that a mesh can make, all of its lists at their limits */
 };
 
 /* The numbers that calls return. */
@@ -289,6 +290,30 @@ uint32_t bh_read_panel(
     size_t *normalcount,
     size_t *cornercount,
     size_t *facecount);
+
+/* Writes a mesh as a panel file: positions, texture points, normals, faces in their order, end. bh_read_panel of what was written gives the
+   same mesh, bit for bit, and a mesh that was read from a written file is written as the same bytes. A NaN comes back as a NaN.
+   Lends 'file', with room for the whole file: 28 bytes for a position or a normal, 20 for a texture point, 5 for a face and 12 for each
+   of its corners, 4 for the end; BH_FILE_ROOM bytes are enough for every mesh.
+   On 0: '*length' bytes in 'file'.
+   May also answer 9, where 'file' is shorter than the whole file. */
+uint32_t bh_write_panel(
+    const double *positions, size_t positions_len,
+    const double *textures, size_t textures_len,
+    const double *normals, size_t normals_len,
+    const uint32_t *corners, size_t corners_len,
+    const uint32_t *sizes, size_t sizes_len,
+    uint8_t *file, size_t file_len,
+    size_t *length);
+
+/* Cleans a panel file: reads it, removes folded faces, compacts, and writes what is left as a panel file, as the program meshclean does.
+   Lends 'cleaned', with room for BH_FILE_ROOM bytes, whatever the file holds.
+   On 0: '*length' bytes in 'cleaned'.
+   Answers 9; then 1 for a file of more than BH_FILE_ROOM bytes; then what bh_read_panel answers to a file. */
+uint32_t bh_clean_panel(
+    const uint8_t *file, size_t file_len,
+    uint8_t *cleaned, size_t cleaned_len,
+    size_t *length);
 
 /* The sheet of a panel file, as the program meshsheet prints it. Lends 'text', with room for BH_SHEET_ROOM bytes, which are enough for
    every sheet.

@@ -17,6 +17,10 @@ HOUSE = "crates/house/specs/Answers.antt"
 RECORDS = "crates/records/specs/Records.antt"
 READING = "crates/panelfile/specs/Reading.antt"
 LINES = "crates/lines/specs/Lines.antt"
+PIECES = "crates/saving/specs/Pieces.antt"
+SAVING = "crates/saving/specs/Answer.antt"
+WRITER = "crates/saving/src/lib.rt"
+CLEANING = "crates/cleanfile/specs/Cleaning.antt"
 SHEET = "crates/sheet/specs/Sheet.antt"
 SHEET_CONSTS = "crates/sheet/src/lib.rt"
 ANSWERS = "crates/answers/specs/Answers.antt"
@@ -25,7 +29,8 @@ FOLDED = "crates/folded/specs/Folded.antt"
 EDGES = "crates/edges/specs/Answers.antt"
 PANELS = "crates/panels/specs/Contract.antt"
 SOURCES = (
-    LIMITS, CONSTS, MESH, TABLE, COMPACTION, MERGING, PORTED, HOUSE, RECORDS, READING, LINES, SHEET, SHEET_CONSTS, ANSWERS, FACES, FOLDED,
+    LIMITS, CONSTS, MESH, TABLE, COMPACTION, MERGING, PORTED, HOUSE, RECORDS, READING, PIECES, SAVING, WRITER, CLEANING, LINES, SHEET, SHEET_CONSTS, ANSWERS,
+    FACES, FOLDED,
     EDGES, PANELS,
 )
 
@@ -76,16 +81,23 @@ ROOM_RULES = {
     "bh_house_wires": (HOUSE, "houseShort"),
     "bh_components": (PANELS, "componentsNumber"),
     "bh_read_panel": (READING, "fullRoom"),
+    "bh_write_panel": (SAVING, "savingNumber"),
+    "bh_clean_panel": (CLEANING, "cleaningNumber"),
     "bh_sheet": (SHEET, "sheetNumber"),
 }
 
 
-def only_one(texts, path, pattern):
-    """The number that the pattern finds in a text, which must have it once or say the same each time."""
+def words_at(texts, path, pattern):
+    """What the pattern finds in a text, which must have it once or say the same each time."""
     found = set(re.findall(pattern, texts[path], flags=re.M))
     if len(found) != 1:
         raise Unreadable(f"{path}: '{pattern}' is found {len(found)} times")
-    return int(found.pop())
+    return found.pop()
+
+
+def only_one(texts, path, pattern):
+    """The number that it finds."""
+    return int(words_at(texts, path, pattern))
 
 
 def limits_of(texts):
@@ -95,7 +107,18 @@ def limits_of(texts):
         if len(said) != 1:
             raise Unreadable(f"{name}: the code and its rules differ")
         values[name] = said.pop()
-    return values
+    return values | {"FILE_ROOM": longest_file(texts, values)}
+
+
+def longest_file(texts, limits):
+    """How long the longest file is, which the rules and the code each say by the other limits."""
+    numbers = limits["MAX_CORNERS"] * only_one(texts, LIMITS, r"^width = (\d+)$")
+    rules = {"entryLimit": limits["MAX_ENTRIES"], "faceLimit": limits["MAX_FACES"], "cornerNumbers": numbers}
+    code = {"ENTRIES": limits["MAX_ENTRIES"], "FACES": limits["MAX_FACES"], "CORNER_NUMBERS": numbers}
+    said = value(words_at(texts, PIECES, r"^fileLimit = (.*)$"), rules)
+    if said != value(words_at(texts, WRITER, r"^pub const FILE: usize = (.*);$").replace("mesh::", ""), code):
+        raise Unreadable("FILE_ROOM: the code and its rules differ")
+    return said
 
 
 def numbers_of(texts):
@@ -118,6 +141,7 @@ SAMPLES = (
 
 def value(words, given):
     """An expression of names, numbers and + * / with brackets, where '/' cuts."""
+    words = " ".join(words.split())
     if not re.fullmatch(r"[\w\s+*/()]*", words):
         raise Unreadable(f"a room '{words}'")
     try:
@@ -153,9 +177,19 @@ def rooms_of_rule(text, name):
     return rooms
 
 
+def file_length(texts):
+    """How long the whole file of a mesh is, by the rules, in this tool's words."""
+    counts = {"positionCount m": "(positions / 3)", "textureCount m": "(textures / 2)", "normalCount m": "(normals / 3)"}
+    words = words_at(texts, PIECES, r"^fileLength m =\s+(.*)$")
+    for rule, count in counts.items():
+        words = words.replace(rule, count)
+    return re.sub(r"\blength \(m \.(\w+)\)", r"\1", words)
+
+
 def rooms_in(texts):
     """Each call's stated rooms."""
-    return {call: rooms_of_rule(texts[path], name) for call, (path, name) in ROOM_RULES.items()}
+    stated = {call: rooms_of_rule(texts[path], name) for call, (path, name) in ROOM_RULES.items()}
+    return {call: [room.replace("fileLength m", file_length(texts)) for room in rooms] for call, rooms in stated.items()}
 
 
 # ---- what the wrapper says
@@ -209,7 +243,7 @@ def consts(text):
 def lent_rooms(text):
     """The room of each list that the wrapper lends, by call and by the list's name."""
     plain = re.sub(r"//[^\n]*", "", text)
-    shared = dict(re.findall(r"(\w+)(?:: | = )vec!\[0(?:\.0)?; ([^\]]*)\]", body_of(plain, r"macro_rules! rows ")))
+    shared = dict(re.findall(r"(\w+)(?:: | = )vec!\[\s*0(?:\.0)?;\s+([^\]]*)\]", body_of(plain, r"macro_rules! rows ")))
     rooms = {}
     for name in re.findall(r"pub fn (\w+)\(", plain):
         body = body_of(plain, rf"pub fn {name}\(")
@@ -220,7 +254,7 @@ def lent_rooms(text):
         if through:
             rooms[call[0]] = {list_: room.replace("$room", through[1]).replace("$mesh", "self") for list_, room in shared.items()}
         else:
-            rooms[call[0]] = dict(re.findall(r"(\w+)(?:: | = )vec!\[0(?:\.0)?; ([^\]]*)\]", body))
+            rooms[call[0]] = dict(re.findall(r"(\w+)(?:: | = )vec!\[\s*0(?:\.0)?;\s+([^\]]*)\]", body))
     if "fn corner_count(self) -> usize {\n        self.corners.len() / 3\n    }" not in text:
         raise Unreadable("corner_count")
     return rooms

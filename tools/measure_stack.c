@@ -25,7 +25,7 @@ struct mesh {
 
 static struct mesh mesh, made;
 static uint32_t flat[2 * BH_MAX_CORNERS], lengths[BH_MAX_CORNERS], verdict;
-static uint8_t file[LONGEST_FILE], text[BH_SHEET_ROOM];
+static uint8_t file[LONGEST_FILE], text[BH_SHEET_ROOM], written[BH_FILE_ROOM];
 static size_t file_len, a, b, c;
 
 static void nothing(void) {}
@@ -46,6 +46,8 @@ static void hems(void) { bh_hem_edges(LISTS, ROOM(flat), ROOM(lengths), &a); }
 static void ported(void) { bh_extract_boundaries(LISTS, ROOM(flat), ROOM(lengths), &a, &b); }
 static void house(void) { bh_house_wires(LISTS, ROOM(flat), ROOM(lengths), &a, &b); }
 static void panels(void) { bh_components(LISTS, true, ROOM(flat), ROOM(lengths), &a, &b); }
+static void writing(void) { bh_write_panel(LISTS, ROOM(written), &a); }
+static void cleaning(void) { bh_clean_panel(file, file_len, ROOM(written), &a); }
 static void sheet(void) { bh_sheet(file, file_len, ROOM(text), &a); }
 
 /* The reader stands first: it makes the mesh of the others. */
@@ -56,7 +58,8 @@ static struct { const char *name; void (*call)(void); size_t deepest; } calls[] 
     {"bh_remove_degenerate_faces", removal, 0}, {"bh_put_together_same_attrs", merging, 0},
     {"bh_shell_condition", condition, 0}, {"bh_hem_edges", hems, 0},
     {"bh_extract_boundaries", ported, 0}, {"bh_house_wires", house, 0},
-    {"bh_components", panels, 0},        {NULL, nothing, 0},
+    {"bh_components", panels, 0},        {"bh_write_panel", writing, 0},
+    {"bh_clean_panel", cleaning, 0},     {NULL, nothing, 0},
 };
 
 static unsigned char *stack;

@@ -1,6 +1,7 @@
 """The panel file of document 01, for the tools: its limits, its records, a writer, and a reader that refuses by the same numbers.
 
-Outside the proofs. The numbers of a refusal have their words in refusals.txt, which ./meshsheet reads too.
+Outside the proofs. The numbers of a refusal have their words in refusals.txt, which ./meshsheet and ./meshclean read too; LONGEST in
+them is how many bytes a file may have, for these tools as many as have a sheet.
 """
 import os
 import struct
@@ -63,7 +64,7 @@ def words_of(number):
     """What a refusal means for a file."""
     with open(os.path.join(os.path.dirname(os.path.abspath(__file__)), "refusals.txt"), encoding="utf-8") as file:
         texts = dict(line.rstrip("\n").split(" ", 1) for line in file)
-    return texts.get(str(number), "")
+    return texts.get(str(number), "").replace("LONGEST", f"{BYTES:,}")
 
 
 def refuse(number):

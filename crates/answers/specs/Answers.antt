@@ -18,7 +18,9 @@ use Rattle.edges.specs.declared.HemEdges.{HemEdges}
 use Rattle.tracing.specs.declared.Wires.{Wires}
 use Rattle.panels.specs.declared.Answer.{Answer as Panels}
 use Rattle.panelfile.specs.declared.MeshRead.{MeshRead}
+use Rattle.saving.specs.declared.Saved.{Saved}
 use Rattle.sheet.specs.declared.Answer.{Answer as Sheet}
+use Rattle.cleanfile.specs.declared.Cleaned.{Cleaned}
 
 -- where the part of face k starts in the list of corners: behind three numbers for each corner of the faces before it; 0 where
 -- the part is empty
@@ -71,6 +73,14 @@ abbrev pub readBy : ℕ → ℕ → ℕ → ℕ → ℕ → ℕ → MeshRead
 readBy number p t n c f =
     record { number = number; positions = p; textures = t; normals = n; corners = c; faces = f }
 
+-- what the writer answers: the number returned, and the file's length
+abbrev pub savedBy : ℕ → ℕ → Saved
+savedBy number n = record { number = number; length = n }
+
 -- what the sheet answers: the number returned, and the sheet's length
 abbrev pub printedBy : ℕ → ℕ → Sheet
 printedBy number n = record { number = number; length = n }
+
+-- what the cleaning of a file answers: the number returned, and the cleaned file's length
+abbrev pub cleanedBy : ℕ → ℕ → Cleaned
+cleanedBy number n = record { number = number; length = n }

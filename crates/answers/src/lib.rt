@@ -144,10 +144,26 @@ pub fn read(
     drawn.number
 }
 
+// The writer: the file's length.
+pub fn saved(written: saving::Saved, length: &mut usize) -> u32
+    ensures { λ r. ⌜ want.savedBy r (now (length .exit)) ≡ written ⌝ }
+{
+    *length = written.length;
+    written.number
+}
+
 // The sheet: its length.
 pub fn printed(text: sheet::Answer, length: &mut usize) -> u32
     ensures { λ r. ⌜ want.printedBy r (now (length .exit)) ≡ text ⌝ }
 {
     *length = text.length;
     text.number
+}
+
+// The cleaning of a file: the cleaned file's length.
+pub fn cleaned(clean: cleanfile::Cleaned, length: &mut usize) -> u32
+    ensures { λ r. ⌜ want.cleanedBy r (now (length .exit)) ≡ clean ⌝ }
+{
+    *length = clean.length;
+    clean.number
 }

@@ -17,6 +17,8 @@ ghost use Rattle.ported.specs.Answers.{PortedAnswer};
 ghost use Rattle.house.specs.Answers.{HouseAnswer};
 ghost use Rattle.panels.specs.Contract.{PanelsAnswer};
 ghost use Rattle.panelfile.specs.Answer.{PanelRead};
+ghost use Rattle.saving.specs.Answer.{PanelWritten};
+ghost use Rattle.cleanfile.specs.Cleaning.{PanelCleaned};
 ghost use Rattle.sheet.specs.Sheet.{Printed};
 ghost use Rattle.answers.specs.Answers as answer;
 ghost use Rattle.barleyhinge.specs.Calls as call;
@@ -337,6 +339,35 @@ pub extern "C" fn bh_read_panel(
         cornercount,
         facecount,
     )
+}
+
+// A mesh as a panel file: its bytes, and how many they are.
+#[no_mangle]
+pub extern "C" fn bh_write_panel(
+    positions: &[f64],
+    textures: &[f64],
+    normals: &[f64],
+    corners: &[u32],
+    sizes: &[u32],
+    file: &mut [u8],
+    length: &mut usize,
+) -> u32
+    ensures { λ r. ⌜ PanelWritten
+        (meshOf (now (positions .entry)) (now (textures .entry)) (now (normals .entry)) (now (corners .entry)) (now (sizes .entry)))
+        (now (file .entry)) (now (file .exit))
+        (answer.savedBy r (now (length .exit))) ⌝ }
+{
+    let written = saving::write_panel(positions, textures, normals, corners, sizes, file);
+    answers::saved(written, length)
+}
+
+// A panel file, cleaned: the bytes of the cleaned file, and how many they are.
+#[no_mangle]
+pub extern "C" fn bh_clean_panel(file: &[u8], cleaned: &mut [u8], length: &mut usize) -> u32
+    ensures { λ r. ⌜ PanelCleaned (now (file .entry)) (now (cleaned .entry)) (now (cleaned .exit)) (answer.cleanedBy r (now (length .exit))) ⌝ }
+{
+    let clean = cleanfile::clean(file, cleaned);
+    answers::cleaned(clean, length)
 }
 
 // The sheet of a panel file: its bytes, and how many they are.

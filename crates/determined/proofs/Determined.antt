@@ -16,7 +16,7 @@ use Rattle.edges.proofs.Answering.{answer-only}
 use Rattle.tracing.specs.Answers.{Answered}
 use Rattle.tracing.specs.declared.Wires.{Wires}
 use Rattle.determined.specs.Determined.{Call, Determined, _and_, done, equals, number, face, pushCall, compactionCall, removalCall}
-use Rattle.determined.specs.Determined.{mergingCall, verdictCall, hemCall, portedCall, houseCall, panelsCall, readCall, sheetCall, AllDetermined}
+use Rattle.determined.specs.Determined.{mergingCall, verdictCall, hemCall, portedCall, houseCall, panelsCall, readCall, writeCall, cleanCall, sheetCall, AllDetermined}
 
 -- ---- the general law
 
@@ -137,8 +137,22 @@ read-determined g r q a b =
       meshOf (p′ i) (t′ i) (u′ i) (c′ i) (s′ i),
     )
 
+write-determined : Determined writeCall
+write-determined g r q a b =
+    let n : r .0 .number ≡ q .0 .number = cc in
+    let l : r .0 .length ≡ q .0 .length = cc in
+    let o : r .1 ≡ q .1 = cc in
+    λ i. (record { number = n i; length = l i }, o i)
+
 sheet-determined : Determined sheetCall
 sheet-determined g r q a b =
+    let n : r .0 .number ≡ q .0 .number = cc in
+    let l : r .0 .length ≡ q .0 .length = cc in
+    let o : r .1 ≡ q .1 = cc in
+    λ i. (record { number = n i; length = l i }, o i)
+
+clean-determined : Determined cleanCall
+clean-determined g r q a b =
     let n : r .0 .number ≡ q .0 .number = cc in
     let l : r .0 .length ≡ q .0 .length = cc in
     let o : r .1 ≡ q .1 = cc in
@@ -160,5 +174,7 @@ all-determined =
     and house-determined
     and panels-determined
     and read-determined
+    and write-determined
+    and clean-determined
     and sheet-determined
     and done

@@ -21,6 +21,8 @@ use Rattle.house.specs.Answers.{HouseAnswer}
 use Rattle.panels.specs.Contract.{PanelsAnswer}
 use Rattle.panels.specs.declared.Answer.{Answer}
 use Rattle.panelfile.specs.Answer.{PanelRead}
+use Rattle.saving.specs.Answer.{PanelWritten}
+use Rattle.cleanfile.specs.Cleaning.{PanelCleaned}
 use Rattle.sheet.specs.Sheet.{Printed}
 
 -- a call: what it is given, what it answers and leaves, and which of these its contract allows
@@ -100,7 +102,15 @@ panelsCall = lending (λ (g : Mesh × Bool) (before afterwards : Listed) (answer
 abbrev pub readCall : Call
 readCall = lending PanelRead
 
--- `sheet::sheet`: the bytes of a file are given
+-- `saving::write_panel`: a mesh is given, and the bytes of a file lent
+abbrev pub writeCall : Call
+writeCall = lending PanelWritten
+
+-- `cleanfile::clean`: the bytes of a file are given
+abbrev pub cleanCall : Call
+cleanCall = lending PanelCleaned
+
+-- `sheet::sheet`: likewise
 abbrev pub sheetCall : Call
 sheetCall = lending Printed
 
@@ -118,6 +128,8 @@ calls =
     ∷ houseCall
     ∷ panelsCall
     ∷ readCall
+    ∷ writeCall
+    ∷ cleanCall
     ∷ sheetCall
     ∷ []
 

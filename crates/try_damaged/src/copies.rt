@@ -74,25 +74,17 @@ fn behind(file: &[u8], at: usize) -> usize
     if left < 4 {
         return file.len();
     }
-    let low = wide(file[at]);
-    let high = wide(file[at + 1]);
-    let n = 4 + low + 256 * high;
+    let n = 4 + little::half(file, at) as usize;
     if left <= n { file.len() } else { at + n }
-}
-
-fn wide(byte: u8) -> usize
-    ensures { λ r. ⌜ r < 256 ⌝ }
-{
-    byte as usize
 }
 
 // One copy is read, and its number counted.
 fn tally(file: &[u8], counts: &mut [u32]) {
-    let mut positions = [0.0f64; 6144];
-    let mut textures = [0.0f64; 4096];
-    let mut normals = [0.0f64; 6144];
-    let mut corners = [0u32; 12288];
-    let mut sizes = [0u32; 1365];
+    let mut positions = [0.0f64; mesh::POINT_NUMBERS];
+    let mut textures = [0.0f64; mesh::TEXEL_NUMBERS];
+    let mut normals = [0.0f64; mesh::POINT_NUMBERS];
+    let mut corners = [0u32; mesh::CORNER_NUMBERS];
+    let mut sizes = [0u32; mesh::FACES];
     let panel = panelfile::read_panel(
         file,
         &mut positions[..],

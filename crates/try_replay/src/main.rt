@@ -3,24 +3,18 @@
 // result. It prints for each call how many cases there were, how many by number, and how many differed: none may.
 //
 // The list was made by the oracle, from the Rust itself and from a second reading of document 01 (oracle/README.md); README.md has
-// its format, and how this program was seen to fail.
-mod ask;
-mod attributes;
-mod calls;
-mod files;
-mod lent;
-mod list;
-mod pairs;
-mod tally;
-
-use calls::Outcome;
+// its format, and how this program was seen to fail. Here the records are gone through; `try_answers` reads the list, `try_questions` puts
+// a case to its call, by `try_faces`, `try_attributes` and `try_files`, and `try_tally` counts how the cases came out.
+use try_answers::cases;
+use try_answers::cases::Outcome;
+use try_answers::list;
 
 fn main() {
     let mut list = [0u8; 524288];
     let n = io::read_full(0, &mut list);
-    let mut counts = [0u32; tally::COUNTS];
+    let mut counts = [0u32; try_tally::COUNTS];
     let whole = replay(list::front_of_bytes(&list, n), &mut counts);
-    tally::print(&counts);
+    try_tally::print(&counts);
     if !whole {
         io::write_all(1, b"the list is damaged\n");
     }
@@ -46,27 +40,26 @@ fn replay(list: &[u8], counts: &mut [u32]) -> bool {
     list.len() % 4 == 0
 }
 
-// One record: a mesh or a panel file, which the cases after it are about, or a case, which must end where the next record begins.
-// Answers where the words of the mesh or the file begin.
+// One record: a mesh or a panel file, which the cases after it are about, or a case. Answers where the words of the mesh or the file begin.
 fn record(list: &[u8], at: usize, next: usize, subject: usize, counts: &mut [u32]) -> usize {
     let kind = list::word(list, list::plus(at, 1));
-    let body = list::plus(at, 2);
-    if kind == ask::MESH {
-        return body;
+    if is_subject(kind) {
+        return list::plus(at, 2);
     }
-    if kind == ask::FILE {
-        return body;
-    }
-    let found = ask::ask(list, subject, kind, body);
-    let differs = calls::either(found.differs, found.end != next);
-    tally::add(
-        counts,
-        kind,
-        Outcome {
-            number: found.number,
-            differs: differs,
-            end: next,
-        },
-    );
+    try_tally::add(counts, kind, outcome(list, at, next, subject, kind));
     subject
+}
+
+fn is_subject(kind: u32) -> bool {
+    if kind == try_questions::MESH {
+        return true;
+    }
+    kind == try_questions::FILE
+}
+
+// How a case came out; it must end where the next record begins.
+fn outcome(list: &[u8], at: usize, next: usize, subject: usize, kind: u32) -> Outcome {
+    let found = try_questions::ask(list, subject, kind, list::plus(at, 2));
+    let elsewhere = found.end != next;
+    cases::also(found, elsewhere)
 }

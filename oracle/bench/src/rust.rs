@@ -39,7 +39,7 @@ pub fn time(call: Call, case: &Case) -> Option<Duration> {
         Call::ExtractBoundaries | Call::HouseWires => fastest(|| (), |()| mesh.extract_boundaries()),
         Call::Components => fastest(|| (), |()| mesh.components(true)),
         Call::Push => pushing(&mesh),
-        Call::Face | Call::ReadPanel | Call::Sheet => return None,
+        Call::Face | Call::ReadPanel | Call::WritePanel | Call::CleanPanel | Call::Sheet => return None,
     })
 }
 

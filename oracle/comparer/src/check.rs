@@ -1,6 +1,7 @@
 //! Holds what the product answered to what the judge answers, and the judge's parts to each other.
 
 use crate::library::{Asked, Product, UNTOUCHED};
+use crate::round_trip;
 use judge::{reading, rust, Answer, Call, Count, Numbers, Question};
 
 /// A change to what the product answered, before it is compared: see `slips`.
@@ -12,6 +13,8 @@ pub struct Compared {
     pub right: Answer,
     /// Whether the Rust, untouched or ascending, was asked too.
     pub with_rust: bool,
+    /// Whether what was written was read back and written again.
+    pub with_way_back: bool,
     /// What is wrong, in words; none where all agree.
     pub difference: Option<String>,
 }
@@ -22,15 +25,23 @@ pub fn compare(product: &dyn Product, call: Call, question: &Question, slip: Opt
     let with_rust = rust_knows(call, question, &right) && has_turn(call, question, &right);
     if with_rust {
         if let Some(difference) = rust_differs(call, question, &right) {
-            return Compared { right, with_rust, difference: Some(difference) };
+            return Compared { right, with_rust, with_way_back: false, difference: Some(difference) };
         }
     }
     let mut asked = product.ask(call, question);
     if let Some(slip) = slip {
         slip(&mut asked, question, &right);
     }
-    let difference = difference(&asked, &right).map(|difference| format!("the product differs: {difference}"));
-    Compared { right, with_rust, difference }
+    let with_way_back = call == Call::WritePanel && right.number == 0 && product.has(Call::ReadPanel);
+    let difference = difference(&asked, &right).or_else(|| {
+        if with_way_back {
+            round_trip::differs(product, &question.mesh, &asked)
+        } else {
+            None
+        }
+    });
+    let difference = difference.map(|difference| format!("the product differs: {difference}"));
+    Compared { right, with_rust, with_way_back, difference }
 }
 
 /// Where the Rust, untouched or ascending, answers something else than document 01's reading; none where it agrees, or is not asked.
@@ -51,7 +62,7 @@ pub fn rust_knows(call: Call, question: &Question, right: &Answer) -> bool {
     match call {
         Call::MeshNumber => [0, 5].contains(&right.number),
         Call::Face => reading::numbers::mesh_number(&question.mesh) == 0,
-        Call::HouseWires | Call::ReadPanel | Call::Sheet => false,
+        Call::HouseWires | Call::ReadPanel | Call::WritePanel | Call::CleanPanel | Call::Sheet => false,
         _ => right.number == 0,
     }
 }
@@ -76,7 +87,7 @@ fn lot(question: &Question) -> u64 {
 }
 
 /// Where the product's answer is not the right one.
-fn difference(asked: &Asked, right: &Answer) -> Option<String> {
+pub fn difference(asked: &Asked, right: &Answer) -> Option<String> {
     if asked.number != right.number {
         return Some(format!("number {}, not {}", asked.number, right.number));
     }

@@ -2,6 +2,7 @@
 
 use crate::meshes;
 use crate::random::Random;
+use judge::reading::{sheet, writing};
 use judge::{Mesh, MISSING};
 
 /// A random file.
@@ -114,20 +115,15 @@ fn change_a_header(random: &Random, file: &mut [u8]) {
     }
 }
 
-/// Makes the file 65,535 to 65,538 bytes long, in front of its end, as far as its records allow.
+/// Makes the file as long as one that has a sheet may be, or as the longest that a mesh can make, or a byte shorter or up to two longer.
 fn pad(random: &Random, file: &mut Vec<u8>) {
-    let length = 65_535 + random.below(4);
-    if file.len() + 10 > length {
+    let length = random.pick(&[sheet::FILE, writing::LONGEST]) - 1 + random.below(4);
+    if file.len() + 5 * 17 > length {
         return;
     }
-    // Faces of no corners are five bytes, of one corner seventeen; the rest are bytes at the end.
-    let mut front = vec![];
-    while front.len() + file.len() + 17 <= length && random.below(400) != 0 {
-        front.extend(face(&[0; 3]));
-    }
-    while front.len() + file.len() + 5 <= length {
-        front.extend(face(&[]));
-    }
-    front.append(file);
-    *file = front;
+    // In front of it: faces of one corner, seventeen bytes each, so many that faces of none, five bytes each, fill the rest.
+    let left = length - file.len();
+    let of_one = 3 * left % 5 + 5 * random.below(left / (5 * 17));
+    let of_none = (left - 17 * of_one) / 5;
+    file.splice(0..0, [face(&[0; 3]).repeat(of_one), face(&[]).repeat(of_none)].concat());
 }

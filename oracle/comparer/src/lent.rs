@@ -71,6 +71,10 @@ impl<T: Number> List<T> {
         &mut self.numbers[GUARD..end]
     }
 
+    fn front(&self, count: usize) -> Vec<T> {
+        self.numbers[GUARD..GUARD + count].to_vec()
+    }
+
     /// Where the list is not `expected` and then the pattern.
     fn difference(&self, expected: &[T]) -> Option<String> {
         let at = |i: usize| if i < GUARD { None } else { expected.get(i - GUARD) };
@@ -108,6 +112,28 @@ impl Lent {
             (Lent::Words(list), Numbers::Words(expected)) => list.difference(expected),
             (Lent::Bytes(list), Numbers::Bytes(expected)) => list.difference(expected),
             _ => Some("another kind of list".to_string()),
+        }
+    }
+
+    /// The numbers at the front.
+    pub fn front_floats(&self, count: usize) -> Vec<f64> {
+        match self {
+            Lent::Floats(list) => list.front(count),
+            _ => panic!("no list of f64"),
+        }
+    }
+
+    pub fn front_words(&self, count: usize) -> Vec<u32> {
+        match self {
+            Lent::Words(list) => list.front(count),
+            _ => panic!("no list of u32"),
+        }
+    }
+
+    pub fn front_bytes(&self, count: usize) -> Vec<u8> {
+        match self {
+            Lent::Bytes(list) => list.front(count),
+            _ => panic!("no list of bytes"),
         }
     }
 

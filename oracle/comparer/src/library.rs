@@ -52,6 +52,8 @@ pub struct Library {
             *mut u64,
         ) -> u32,
     >,
+    pub write_panel: on_mesh!(*mut u8, usize, *mut u64 => u32),
+    pub clean_panel: Option<unsafe extern "C" fn(*const u8, usize, *mut u8, usize, *mut u64) -> u32>,
     pub sheet: Option<unsafe extern "C" fn(*const u8, usize, *mut u8, usize, *mut u64) -> u32>,
     pub push: Option<
         unsafe extern "C" fn(*const u32, usize, *const u32, usize, *mut u32, usize, *mut u32, usize, *mut u64, *mut u64) -> u32,
@@ -133,6 +135,8 @@ impl Product for Library {
             Call::HouseWires => self.house_wires.is_some(),
             Call::Components => self.components.is_some(),
             Call::ReadPanel => self.read_panel.is_some(),
+            Call::WritePanel => self.write_panel.is_some(),
+            Call::CleanPanel => self.clean_panel.is_some(),
             Call::Sheet => self.sheet.is_some(),
             Call::Push => self.push.is_some(),
         }
@@ -239,15 +243,20 @@ impl Library {
                     counts.add(1),
                 );
             }
-            Call::ReadPanel | Call::Sheet => unreachable!(),
+            Call::WritePanel => {
+                let (file, room) = asked.lists[0].bytes();
+                asked.number = on!(write_panel, file, room, counts);
+            }
+            Call::ReadPanel | Call::CleanPanel | Call::Sheet => unreachable!(),
         }
     }
 
     unsafe fn ask_of_file(&self, call: Call, file: &[u8], asked: &mut Asked) {
         let counts = asked.counts.as_mut_ptr();
-        if call == Call::Sheet {
-            let (text, room) = asked.lists[0].bytes();
-            asked.number = self.sheet.unwrap()(file.as_ptr(), file.len(), text, room, counts);
+        if call != Call::ReadPanel {
+            let function = if call == Call::Sheet { self.sheet } else { self.clean_panel };
+            let (made, room) = asked.lists[0].bytes();
+            asked.number = function.unwrap()(file.as_ptr(), file.len(), made, room, counts);
             return;
         }
         let (positions, positions_room) = asked.lists[0].floats();

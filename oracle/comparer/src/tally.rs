@@ -94,6 +94,8 @@ fn shows(call: Call) -> Option<&'static str> {
         Call::PutTogetherSameAttrs => Some("merged"),
         Call::ExtractBoundaries | Call::HouseWires => Some("several wires"),
         Call::Components => Some("several panels"),
+        Call::WritePanel => Some("read back, and written again"),
+        Call::CleanPanel => Some("another file than it was"),
         _ => None,
     }
 }
@@ -104,6 +106,8 @@ fn is_telling(call: Call, question: &Question, compared: &Compared) -> bool {
             matches!(&compared.right.lists[0], Numbers::Words(corners) if *corners != question.mesh.corners)
         }
         Call::ExtractBoundaries | Call::HouseWires | Call::Components => count(compared, 1) > 1,
+        Call::WritePanel => compared.with_way_back,
+        Call::CleanPanel => matches!(&compared.right.lists[0], Numbers::Bytes(file) if *file != question.file),
         _ => false,
     }
 }

@@ -64,6 +64,34 @@ fn smallest(call: Call, name: &'static str) -> Question {
     shrink(call, &first.unwrap(), &differs)
 }
 
+/// A product whose writer is right and whose reader misreads something.
+struct RightWriter(Misreading);
+
+impl Product for RightWriter {
+    fn has(&self, call: Call) -> bool {
+        [Call::WritePanel, Call::ReadPanel].contains(&call)
+    }
+
+    fn ask(&self, call: Call, question: &Question) -> Asked {
+        match call {
+            Call::WritePanel => Asked::answering(call, question, &reading::answer(call, question)),
+            _ => self.0.ask(call, question),
+        }
+    }
+}
+
+#[test]
+fn what_is_not_read_back_is_found() {
+    let product = RightWriter(Misreading(Call::ReadPanel, "a negative zero read as zero"));
+    let mesh = Mesh { positions: vec![0.5, 1.0, -0.0], ..Mesh::default() };
+    let rooms = reading::numbers::stated_rooms(Call::WritePanel, &mesh);
+    let mut question = Question { mesh, rooms, ..Question::default() };
+    let differs = |question: &Question| compare(&product, Call::WritePanel, question, None).difference;
+    assert_eq!(differs(&question).unwrap(), "the product differs: read back: in list 0 place 2 holds 0.0, not -0.0");
+    question.mesh.positions[2] = 0.0;
+    assert_eq!(differs(&question), None);
+}
+
 #[test]
 fn differences_become_small() {
     let third_use = smallest(Call::ShellCondition, "uses counted modulo two");

@@ -1,5 +1,6 @@
 //! Wrong answers that look right: what a product with one misreading of document 01 would say.
 
+use crate::wrong_files;
 use crate::wrong_merging::{merging, Misread};
 use judge::mesh::{Corner, Merged, Unfolded, Verdict};
 use judge::reading::merging::put_together_same_attrs;
@@ -61,6 +62,8 @@ pub fn answers(call: Call) -> &'static [(&'static str, Wrong)] {
         Call::ReadPanel => {
             &[("an index asked before bytes after the end", index_before_13), ("a negative zero read as zero", no_negative_zero)]
         }
+        Call::WritePanel => wrong_files::WRITER,
+        Call::CleanPanel => wrong_files::CLEANER,
         Call::Sheet => &[("panels by normals", panels_by_normals)],
         Call::Push => &[
             ("quadrangles among the larger faces", |q, right| accepted(right, || pushed_by(q, |n| (n >= 3).then(|| n.min(4))))),
@@ -74,11 +77,11 @@ pub fn answers(call: Call) -> &'static [(&'static str, Wrong)] {
     }
 }
 
-fn accepted(right: &Answer, wrong: impl Fn() -> Answer) -> Option<Answer> {
+pub fn accepted(right: &Answer, wrong: impl Fn() -> Answer) -> Option<Answer> {
     (right.number == 0).then(wrong)
 }
 
-fn number(question: &Question) -> u32 {
+pub fn number(question: &Question) -> u32 {
     numbers::mesh_number(&question.mesh)
 }
 

@@ -15,13 +15,15 @@ pub enum Call {
     HouseWires,
     Components,
     ReadPanel,
+    WritePanel,
+    CleanPanel,
     Sheet,
     Push,
 }
 
 impl Call {
-    /// In the order of the C interface, but that `push` stands last: the kinds of the list for crate try_replay go by the others' places.
-    pub const ALL: [Call; 13] = [
+    /// In the order of the C interface, but that `push` stands last.
+    pub const ALL: [Call; 15] = [
         Call::MeshNumber,
         Call::Face,
         Call::RemoveUnusedAttrs,
@@ -33,6 +35,8 @@ impl Call {
         Call::HouseWires,
         Call::Components,
         Call::ReadPanel,
+        Call::WritePanel,
+        Call::CleanPanel,
         Call::Sheet,
         Call::Push,
     ];
@@ -51,6 +55,8 @@ impl Call {
             Call::HouseWires => "house_wires",
             Call::Components => "components",
             Call::ReadPanel => "read_panel",
+            Call::WritePanel => "write_panel",
+            Call::CleanPanel => "clean_panel",
             Call::Sheet => "sheet",
             Call::Push => "push",
         }
@@ -58,12 +64,12 @@ impl Call {
 
     /// Whether the call reads a panel file in the place of a mesh.
     pub fn reads_a_file(self) -> bool {
-        matches!(self, Call::ReadPanel | Call::Sheet)
+        matches!(self, Call::ReadPanel | Call::CleanPanel | Call::Sheet)
     }
 }
 
 /// All that a call can be given. A call looks at its own part: `face`, `tolerance` and `use_normal` belong to one call each, `file` to
-/// the two that read a panel file, of the mesh only the faces to `push`, `rooms` holds the length of each lent result list, in the order of the C interface.
+/// the three that read a panel file, of the mesh only the faces to `push`, `rooms` holds the length of each lent result list, in the order of the C interface.
 #[derive(Clone, Debug, Default)]
 pub struct Question {
     pub mesh: Mesh,
@@ -112,7 +118,7 @@ impl Answer {
             Call::HemEdges => (vec![words(), words()], 1),
             Call::ExtractBoundaries | Call::HouseWires | Call::Components => (vec![words(), words()], 2),
             Call::ReadPanel => (vec![floats(), floats(), floats(), words(), words()], 5),
-            Call::Sheet => (vec![Bytes(vec![])], 1),
+            Call::WritePanel | Call::CleanPanel | Call::Sheet => (vec![Bytes(vec![])], 1),
         };
         Answer { number, lists, counts: vec![Count::Is(0); counts] }
     }
@@ -181,7 +187,12 @@ impl Answer {
     }
 
     pub fn sheet(text: String) -> Answer {
-        let length = text.len();
-        Answer::done(vec![Numbers::Bytes(text.into_bytes())], &[length])
+        Answer::bytes(text.into_bytes())
+    }
+
+    /// A file, or a sheet, and its length.
+    pub fn bytes(bytes: Vec<u8>) -> Answer {
+        let length = bytes.len();
+        Answer::done(vec![Numbers::Bytes(bytes)], &[length])
     }
 }

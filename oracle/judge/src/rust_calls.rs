@@ -73,6 +73,6 @@ fn answered(call: Call, question: &Question) -> Option<Answer> {
             let faces = pushed(mesh);
             Answer::unfolded(Unfolded { corners: flat_corners(&faces), sizes: faces.face_iter().map(|face| face.len() as u32).collect() })
         }
-        Call::HouseWires | Call::ReadPanel | Call::Sheet => return None,
+        Call::HouseWires | Call::ReadPanel | Call::WritePanel | Call::CleanPanel | Call::Sheet => return None,
     })
 }

@@ -149,13 +149,98 @@ fn face_record(positions: &[u32]) -> Vec<u8> {
     record(4, &[positions.len() as u8].into_iter().chain(corners).collect::<Vec<u8>>())
 }
 
-#[test]
-fn the_sheet_of_document_01() {
+/// The file of document 01: five positions, three faces, of which one is folded.
+fn document() -> Vec<u8> {
     let positions = record(1, &[0; 24]).repeat(5);
     let faces = [face_record(&[1, 2, 3]), face_record(&[3, 1, 3]), face_record(&[1, 3, 4])].concat();
-    let file = [positions, faces, record(0, &[])].concat();
+    [positions, faces, record(0, &[])].concat()
+}
+
+#[test]
+fn the_sheet_of_document_01() {
+    let file = document();
     assert_eq!(file.len(), 267);
     assert_eq!(reading::sheet::sheet(&file), "mesh 4 0 0 2\nverdict Oriented\npanels 1\nhem 0 1 2 3\n");
+}
+
+/// A mesh with something in each list, faces of three sizes, and coordinates of every kind.
+fn furnished() -> Mesh {
+    let faces: Vec<Vec<[u32; 3]>> =
+        [3, 4, 32].iter().map(|n| (0..*n).map(|i| [i % 2, [0, MISSING][i as usize % 2], 0]).collect()).collect();
+    let positions = vec![0.0, -0.0, f64::INFINITY, 5e-324, -1.5, f64::MAX];
+    let (textures, normals) = (vec![0.1, f64::NEG_INFINITY], vec![1.0, 2.0, -3.0]);
+    Mesh { positions, textures, normals, ..Mesh::default() }.with_faces(&faces)
+}
+
+fn bits(mesh: &Mesh) -> String {
+    let of = |list: &[f64]| list.iter().map(|x| x.to_bits()).collect::<Vec<u64>>();
+    format!("{:?} {:?} {:?} {:?} {:?}", of(&mesh.positions), of(&mesh.textures), of(&mesh.normals), mesh.corners, mesh.sizes)
+}
+
+#[test]
+fn what_is_written_is_read_back_bit_for_bit() {
+    for mesh in [Mesh::default(), by_positions(&[&[0, 1, 2], &[3, 2, 1, 0]]), furnished()] {
+        let file = reading::writing::write(&mesh);
+        assert_eq!(file.len(), reading::writing::length(&mesh));
+        let read = reading::panel_file::read(&file).unwrap();
+        assert_eq!(bits(&read), bits(&mesh));
+        assert_eq!(reading::writing::write(&read), file);
+    }
+    assert_eq!(reading::writing::write(&Mesh::default()), [0; 4]);
+}
+
+/// Lengths, kinds and numbers with their lowest byte first; positions, texture points, normals, faces, end.
+#[test]
+fn a_written_file_byte_by_byte() {
+    let faces = [vec![[0, 0, MISSING], [258, MISSING, 0], [1, 0, 0]]];
+    let (positions, textures, normals) = (vec![1.0, -0.0, -2.0], vec![0.5, 0.0], vec![0.0, 0.0, f64::NAN]);
+    let mesh = Mesh { positions, textures, normals, ..Mesh::default() }.with_faces(&faces);
+    #[rustfmt::skip]
+    let file = [
+        24, 0, 1, 0, 0, 0, 0, 0, 0, 0, 0xf0, 0x3f, 0, 0, 0, 0, 0, 0, 0, 0x80, 0, 0, 0, 0, 0, 0, 0, 0xc0,
+        16, 0, 2, 0, 0, 0, 0, 0, 0, 0, 0xe0, 0x3f, 0, 0, 0, 0, 0, 0, 0, 0,
+        24, 0, 3, 0, 0, 0, 0, 0, 0, 0, 0, 0, 0, 0, 0, 0, 0, 0, 0, 0, 0, 0, 0, 0, 0, 0, 0xf8, 0x7f,
+        37, 0, 4, 0, 3, 0, 0, 0, 0, 0, 0, 0, 0, 255, 255, 255, 255, 2, 1, 0, 0, 255, 255, 255, 255, 0, 0, 0, 0, 1, 0, 0, 0, 0, 0, 0, 0, 0, 0, 0, 0,
+        0, 0, 0, 0,
+    ];
+    assert_eq!(reading::writing::write(&mesh), file);
+}
+
+#[test]
+fn the_longest_file_has_every_list_at_its_limit() {
+    let sizes: Vec<u32> = (0..1_365).map(|face| if face < 1_364 { 3 } else { 4 }).collect();
+    let (points, texels, corners) = (vec![0.5; 3 * 2_048], vec![0.5; 2 * 2_048], vec![0; 3 * 4_096]);
+    let mesh = Mesh { positions: points.clone(), textures: texels, normals: points, corners, sizes };
+    assert_eq!(reading::numbers::mesh_number(&mesh), 0);
+    let file = reading::writing::write(&mesh);
+    assert_eq!((file.len(), reading::writing::LONGEST), (211_629, 211_629));
+    assert_eq!(bits(&reading::panel_file::read(&file).unwrap()), bits(&mesh));
+}
+
+#[test]
+fn the_writer_refuses_in_order() {
+    let number = |mesh: &Mesh, room: usize| {
+        let question = Question { mesh: mesh.clone(), rooms: vec![room], ..Question::default() };
+        reading::answer(Call::WritePanel, &question).number
+    };
+    let (good, mut astray) = (by_positions(&[&[0, 1, 2]]), by_positions(&[&[0, 1, 2]]));
+    assert_eq!([number(&good, 129), number(&good, 128), number(&good, 0)], [0, 9, 9]);
+    astray.corners[0] = 3;
+    assert_eq!([number(&astray, 129), number(&astray, 128)], [5, 5]);
+}
+
+#[test]
+fn a_cleaned_file() {
+    let file = reading::writing::clean(&document()).unwrap();
+    let faces = [face_record(&[0, 1, 2]), face_record(&[0, 2, 3])].concat();
+    assert_eq!(file, [record(1, &[0; 24]).repeat(4), faces, record(0, &[])].concat());
+    assert_eq!(reading::writing::clean(&file).unwrap(), file);
+    assert_eq!(reading::sheet::sheet(&file), reading::sheet::sheet(&document()));
+    assert_eq!(reading::writing::clean(&document()[..266]).err(), Some(11));
+    // Dropped faces of no corners, five bytes each, make a file as long as the longest and one that is longer.
+    let dropped = record(4, &[0]).repeat((211_629 - 4) / 5);
+    assert_eq!(reading::writing::clean(&[&dropped[..], &[0; 4]].concat()), Ok(vec![0; 4]));
+    assert_eq!(reading::writing::clean(&[&dropped[..], &[0; 5]].concat()), Err(1));
 }
 
 #[test]

@@ -1,6 +1,6 @@
 //! The outputs that are stored beside the product's programs, held to document 01 read again.
 
-use judge::reading::{panel_file, sheet};
+use judge::reading::{panel_file, sheet, writing};
 use std::collections::BTreeMap;
 use std::fs::{read, read_to_string};
 use std::path::{Path, PathBuf};
@@ -28,6 +28,13 @@ fn meshsheet_prints_the_sheet() {
 }
 
 #[test]
+fn meshclean_writes_the_cleaned_file() {
+    let folder = root().join("crates/meshclean");
+    let cleaned = writing::clean(&read(folder.join("stdin")).unwrap()).unwrap();
+    assert_eq!(cleaned, read(folder.join("stdout")).unwrap());
+}
+
+#[test]
 fn sheets_prints_each_sheet() {
     let sheets: String = files("try_sheets").iter().map(|(name, file)| format!("== {name}\n{}", sheet::sheet(file))).collect();
     assert_eq!(sheets, stored("try_sheets"));
@@ -35,21 +42,40 @@ fn sheets_prints_each_sheet() {
 
 #[test]
 fn damaged_counts_each_number() {
-    let counted: String = files("try_damaged").iter().map(|(name, file)| format!("== {name}\n{}{}", cuts(file), headers(file))).collect();
+    let counted: String =
+        files("try_damaged").iter().map(|(name, file)| format!("== {name}\n{}{}", cuts(file), headers(file))).collect();
     assert_eq!(counted, stored("try_damaged"));
+}
+
+/// The covers of examples/, each without its ending.
+fn covers() -> Vec<PathBuf> {
+    let all = std::fs::read_dir(root().join("examples")).unwrap().map(|entry| entry.unwrap().path());
+    let sheets: Vec<PathBuf> = all.filter(|path| path.extension().map_or(false, |ending| ending == "sheet")).collect();
+    assert!(!sheets.is_empty());
+    sheets.iter().map(|path| path.with_extension("")).collect()
 }
 
 #[test]
 fn examples_have_their_sheets() {
-    let mut seen = 0;
-    for entry in std::fs::read_dir(root().join("examples")).unwrap() {
-        let path = entry.unwrap().path();
-        if path.extension().map_or(false, |e| e == "panel") {
-            assert_eq!(sheet::sheet(&read(&path).unwrap()), read_to_string(path.with_extension("sheet")).unwrap(), "{path:?}");
-            seen += 1;
-        }
+    for cover in covers() {
+        let file = read(cover.with_extension("panel")).unwrap();
+        assert_eq!(sheet::sheet(&file), read_to_string(cover.with_extension("sheet")).unwrap(), "{cover:?}");
     }
-    assert!(seen > 0);
+}
+
+/// A cleaned cover has the sheet of the drawn one, and cleaned again it is the same file. With CLEAN_EXAMPLES the files are made.
+#[test]
+fn examples_have_their_cleaned_files() {
+    for cover in covers() {
+        let path = cover.with_extension("clean.panel");
+        let cleaned = writing::clean(&read(cover.with_extension("panel")).unwrap()).unwrap();
+        if std::env::var_os("CLEAN_EXAMPLES").is_some() {
+            std::fs::write(&path, &cleaned).unwrap();
+        }
+        assert!(cleaned == read(&path).unwrap(), "{path:?}");
+        assert!(cleaned == writing::clean(&cleaned).unwrap(), "{path:?}");
+        assert_eq!(sheet::sheet(&cleaned), read_to_string(cover.with_extension("sheet")).unwrap(), "{path:?}");
+    }
 }
 
 fn number(file: &[u8]) -> u32 {

@@ -11,9 +11,12 @@ mod subjects;
 
 use comparer::check::{rust_differs, rust_knows};
 use comparer::meshes::Case;
-use judge::reading::numbers::stated_rooms;
+use judge::reading::numbers::{mesh_number, stated_rooms};
 use judge::{reading, Call, Mesh, Question};
 use record::{File, List};
+
+/// The longest file that the list holds as an answer.
+const MOST_BYTES: usize = 4_096;
 
 /// The calls that the list asks: all but the sheet.
 fn calls() -> impl Iterator<Item = Call> {
@@ -32,7 +35,7 @@ fn numbers(call: Call) -> &'static [u32] {
         Call::MeshNumber | Call::ShellCondition => &[0, 1, 2, 3, 4, 5],
         Call::PutTogetherSameAttrs => &[0, 1, 2, 3, 4, 5, 6, 7, 8, 9],
         Call::HouseWires => &[0, 1, 2, 3, 4, 5, 9, 10],
-        Call::ReadPanel => &[0, 1, 3, 5, 9, 11, 12, 13],
+        Call::ReadPanel | Call::CleanPanel => &[0, 1, 3, 5, 9, 11, 12, 13],
         Call::Push => &[0, 1, 2, 3, 9],
         _ => &[0, 1, 2, 3, 4, 5, 9],
     }
@@ -62,7 +65,7 @@ impl Lister {
     }
 
     /// A mesh, put to every call that takes one, with exact rooms or `more` in each; panels by both settings, the first face, the last
-    /// one, and some that are no faces.
+    /// one, and some that are no faces. A file that is too long for the list is not asked for.
     fn mesh(&mut self, mesh: &Mesh, tolerance: f64, more: usize) {
         self.list.mesh(mesh);
         let mut question = Question { mesh: mesh.clone(), tolerance, ..Question::default() };
@@ -82,6 +85,7 @@ impl Lister {
                         self.case(call, &question);
                     }
                 }
+                Call::WritePanel if mesh_number(mesh) == 0 && question.rooms[0] > MOST_BYTES => (),
                 _ => self.case(call, &question),
             }
         }
@@ -124,12 +128,22 @@ impl Lister {
         question
     }
 
+    /// A panel file, put to the reader and to the cleaner.
     fn file(&mut self, file: &File) -> Question {
         self.list.file(file);
-        let rooms = stated_rooms(Call::ReadPanel, &Mesh::default());
-        let question = Question { file: file.bytes(), rooms, ..Question::default() };
-        self.case(Call::ReadPanel, &question);
+        let mut question = Question { file: file.bytes(), ..Question::default() };
+        for call in [Call::ReadPanel, Call::CleanPanel] {
+            question.rooms = stated_rooms(call, &Mesh::default());
+            self.case(call, &question);
+        }
         question
+    }
+
+    /// A panel file, put to the cleaner alone.
+    fn clean(&mut self, file: &File) {
+        self.list.file(file);
+        let rooms = stated_rooms(Call::CleanPanel, &Mesh::default());
+        self.case(Call::CleanPanel, &Question { file: file.bytes(), rooms, ..Question::default() });
     }
 }
 
@@ -152,6 +166,8 @@ fn list() -> Lister {
     });
     let mut question = lister.file(&panel_files::both_sides()[0]);
     lister.short_rooms_of(Call::ReadPanel, &mut question);
+    lister.short_rooms_of(Call::CleanPanel, &mut question);
+    panel_files::longest().iter().for_each(|file| lister.clean(file));
     faces::orders().iter().chain(&faces::at_random()).enumerate().for_each(|(i, mesh)| {
         lister.faces(mesh, i % 3);
     });

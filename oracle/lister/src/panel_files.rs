@@ -5,6 +5,7 @@ use crate::subjects::is_plain;
 use comparer::files;
 use comparer::meshes;
 use comparer::random::Random;
+use judge::reading::writing::LONGEST;
 use judge::{reading, MISSING};
 
 const SEED: u64 = 8;
@@ -97,6 +98,11 @@ pub fn both_sides() -> Vec<File> {
     files.push(times(&large, 128, &then_end(&[&small[..], &attributes].concat())));
     files.push(times(&large, 129, &END));
     files
+}
+
+/// Files that the reader refuses by 13: as long as the longest that a mesh can make, and one byte longer, which the cleaner refuses by 1.
+pub fn longest() -> [File; 2] {
+    [LONGEST, LONGEST + 1].map(|times| File { unit: vec![0], times, rest: vec![] })
 }
 
 /// The tolerance of the mesh that a random file is made from: `files::random` draws one number, and then the mesh.

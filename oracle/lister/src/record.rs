@@ -3,9 +3,9 @@
 use crate::place;
 use judge::{Answer, Call, Count, Mesh, Numbers, Question};
 
-/// The kind of a record that holds a mesh; a call's is one more than its place among all calls.
+/// The kind of a record that holds a mesh; `kind` has those of the calls.
 const MESH: u32 = 0;
-/// The kind of a record that holds a panel file: the place of the sheet, which the list does not ask.
+/// The kind of a record that holds a panel file.
 const FILE: u32 = 12;
 /// What stands for a verdict that is not answered.
 const NONE: u32 = 0xffff_ffff;
@@ -71,7 +71,10 @@ impl List {
             match list {
                 Numbers::Floats(list) => floats(&mut body, list),
                 Numbers::Words(list) => words(&mut body, list),
-                Numbers::Bytes(_) => unreachable!("no call of the list lends bytes"),
+                Numbers::Bytes(list) => {
+                    body.push(list.len() as u32);
+                    body.extend(packed(list));
+                }
             }
         }
         self.record(kind(call), &body);
@@ -83,8 +86,15 @@ impl List {
     }
 }
 
+/// The first eleven calls have 1 to 11; those that the list came to ask later have what follows the kind of a panel file.
 fn kind(call: Call) -> u32 {
-    1 + place(call) as u32
+    match call {
+        Call::Push => 13,
+        Call::WritePanel => 14,
+        Call::CleanPanel => 15,
+        Call::Sheet => unreachable!("the list does not ask the sheet"),
+        _ => 1 + place(call) as u32,
+    }
 }
 
 /// The face, the tolerance or the normals setting, in 64 bits; 0 where the call takes none.

@@ -1,12 +1,12 @@
 //! The library tried from Rust: reads a panel file from standard input, cleans it and prints its sheet, as document 01 has it; then a
-//! line from each call that the sheet does not need. A refusal prints 'refused' and its number. Last comes the sheet again, from the
-//! one call that makes all of it. One byte more than a file may have is read, so that a longer one is refused and not cut.
+//! line from each call that the sheet does not need, the cleaned cover as a panel file among them. A refusal prints 'refused' and its
+//! number. Last comes the sheet again, from the one call that makes all of it. One byte more than a file may have is read, so that a longer one is refused and not cut.
 //! examples/cover.c is the same from C; tools/try_library builds and runs both.
 //!
 //! It has C's `main`, since the start-up code of a Rust `main` does not get through the emulator that runs x86-64 programs on Arm.
 #![no_main]
 
-use barleyhinge::{read_panel, sheet, Faces, Mesh, OwnedMesh, Refusal, Rows, MAX_FACES, MAX_FILE};
+use barleyhinge::{clean_panel, read_panel, sheet, Faces, Mesh, OwnedMesh, Refusal, Rows, MAX_FACES, MAX_FILE};
 use std::io::Read;
 
 /// Reads, removes folded faces, compacts.
@@ -67,13 +67,25 @@ fn print_more(mesh: Mesh) -> Result<(), Refusal> {
     Ok(())
 }
 
+/// The cleaned cover as a panel file, which is read back as the same mesh; and the file cleaned by the one call that does all of it, which
+/// must be the same. (The lent buffer is never too short here; examples/cover.c tries that.)
+fn print_written(clean: &OwnedMesh, file: &[u8]) -> Result<(), Refusal> {
+    let written = clean.mesh().to_panel()?;
+    println!("written 0 bytes {}", written.len());
+    let cleaned = clean_panel(file)?;
+    let same = cleaned == written && read_panel(&written)? == *clean;
+    println!("cleaned 0 bytes {}{}", cleaned.len(), if same { ", the same" } else { "" });
+    Ok(())
+}
+
 #[no_mangle]
 pub extern "C" fn main() -> i32 {
     let mut file = vec![];
     std::io::stdin().take(MAX_FILE as u64 + 1).read_to_end(&mut file).unwrap();
     let done = draw(&file).and_then(|clean| {
         print_sheet(clean.mesh())?;
-        print_more(clean.mesh())
+        print_more(clean.mesh())?;
+        print_written(&clean, &file)
     });
     if let Err(refusal) = done {
         println!("refused {}", refusal.number());

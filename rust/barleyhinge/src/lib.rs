@@ -45,6 +45,9 @@ pub const MAX_FILE: usize = 65_536;
 /// Room for every sheet, in bytes.
 pub const SHEET_ROOM: usize = 65_536;
 
+/// Room for every panel file that a mesh can make, in bytes: all of its lists are at their limits.
+pub const FILE_ROOM: usize = 211_629;
+
 /// A mesh in five lists that are only read: 3 numbers to a position, 2 to a texture point, 3 to a normal; 3 indices to a corner
 /// (position, texture point, normal); and how many corners each face has: triangles first, then quadrangles, then larger faces.
 #[derive(Clone, Copy, Debug, Default)]
@@ -296,6 +299,24 @@ impl<'a> Mesh<'a> {
     pub fn components(self, use_normal: bool) -> Result<Rows, Refusal> {
         rows!(self, bh_components, self.corner_count(), use_normal)
     }
+
+    /// The mesh as a panel file: positions, texture points, normals, faces in their order, end. [`read_panel`] gives the same mesh back,
+    /// bit for bit, but that a NaN is some NaN.
+    pub fn to_panel(self) -> Result<Vec<u8>, Refusal> {
+        let mut file = vec![
+            0;
+            28 * (self.positions.len() / 3)
+                + 20 * (self.textures.len() / 2)
+                + 28 * (self.normals.len() / 3)
+                + 5 * self.sizes.len()
+                + 12 * self.corner_count()
+                + 4
+        ];
+        let mut length = 0;
+        Refusal::unless_done(on!(self, bh_write_panel, file.as_mut_ptr(), file.len(), &mut length))?;
+        file.truncate(length);
+        Ok(file)
+    }
 }
 
 /// Reads a panel file.
@@ -336,6 +357,18 @@ pub fn read_panel(file: &[u8]) -> Result<OwnedMesh, Refusal> {
     read.corners.truncate(3 * corners);
     read.sizes.truncate(faces);
     Ok(read)
+}
+
+/// Cleans a panel file, as the program `meshclean` does: folded faces go or are cut open, then the entries that no corner uses go, and what
+/// is left is a panel file again. Refuses 1 where the file has more than [`FILE_ROOM`] bytes, and then what [`read_panel`] refuses.
+pub fn clean_panel(file: &[u8]) -> Result<Vec<u8>, Refusal> {
+    let mut cleaned = vec![0; FILE_ROOM];
+    let mut length = 0;
+    let number = unsafe { library::bh_clean_panel(file.as_ptr(), file.len(), cleaned.as_mut_ptr(), cleaned.len(), &mut length) };
+    Refusal::unless_done(number)?;
+    cleaned.truncate(length);
+    cleaned.shrink_to_fit();
+    Ok(cleaned)
 }
 
 /// The sheet of a panel file, as the program `meshsheet` prints it. A refused file has a sheet too: the line `refused` and its number.

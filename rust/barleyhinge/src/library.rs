@@ -142,6 +142,22 @@ extern "C" {
         facecount: *mut usize,
     ) -> u32;
 
+    pub fn bh_write_panel(
+        positions: *const f64, positions_len: usize,
+        textures: *const f64, textures_len: usize,
+        normals: *const f64, normals_len: usize,
+        corners: *const u32, corners_len: usize,
+        sizes: *const u32, sizes_len: usize,
+        file: *mut u8, file_len: usize,
+        length: *mut usize,
+    ) -> u32;
+
+    pub fn bh_clean_panel(
+        file: *const u8, file_len: usize,
+        cleaned: *mut u8, cleaned_len: usize,
+        length: *mut usize,
+    ) -> u32;
+
     pub fn bh_sheet(
         file: *const u8, file_len: usize,
         text: *mut u8, text_len: usize,

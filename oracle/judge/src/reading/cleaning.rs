@@ -1,7 +1,21 @@
-//! 'Compaction' and 'Folded faces'.
+//! 'Compaction' and 'Folded faces', and the two after each other, which is cleaning.
 
 use crate::mesh::{Compacted, Corner, Mesh, Unfolded, MISSING};
 use std::collections::BTreeMap;
+
+/// Folded faces are removed, then unused entries.
+pub fn cleaned(mesh: Mesh) -> Mesh {
+    let unfolded = remove_degenerate_faces(&mesh);
+    let mesh = Mesh { corners: unfolded.corners, sizes: unfolded.sizes, ..mesh };
+    let compacted = remove_unused_attrs(&mesh);
+    Mesh {
+        positions: compacted.positions,
+        textures: compacted.textures,
+        normals: compacted.normals,
+        corners: compacted.corners,
+        sizes: mesh.sizes,
+    }
+}
 
 /// Each list is renumbered by first use; the new list holds the old entries in that order.
 pub fn remove_unused_attrs(mesh: &Mesh) -> Compacted {

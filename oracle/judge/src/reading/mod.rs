@@ -1,4 +1,5 @@
-//! Document 01, read again: short, plain, and apart from the Rust and from the product. Each file is one section of it.
+//! Document 01, read again: short, plain, and apart from the Rust and from the product. Each file is one section of it, or a request of
+//! document 02.
 
 pub mod cleaning;
 pub mod edges;
@@ -7,6 +8,7 @@ pub mod numbers;
 pub mod panel_file;
 pub mod panels;
 pub mod sheet;
+pub mod writing;
 
 use crate::calls::{Answer, Call, Question};
 
@@ -32,6 +34,8 @@ pub fn answer(call: Call, question: &Question) -> Answer {
         Call::HouseWires => Answer::rows(&edges::house_wires(mesh)),
         Call::Components => Answer::rows(&panels::components(mesh, question.use_normal)),
         Call::ReadPanel => Answer::read(panel_file::read(file).unwrap()),
+        Call::WritePanel => Answer::bytes(writing::write(mesh)),
+        Call::CleanPanel => Answer::bytes(writing::clean(file).unwrap()),
         Call::Sheet => Answer::sheet(sheet::sheet(file)),
         Call::Push => Answer::unfolded(cleaning::push(mesh)),
     }

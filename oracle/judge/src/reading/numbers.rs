@@ -1,6 +1,6 @@
 //! 'The mesh' and 'Numbers returned'.
 
-use super::{edges, panel_file};
+use super::{edges, panel_file, writing};
 use crate::calls::{Call, Question};
 use crate::mesh::{Mesh, Verdict, MISSING};
 use std::ops::Range;
@@ -26,6 +26,8 @@ pub fn number(call: Call, question: &Question) -> u32 {
             number => number,
         },
         Call::ReadPanel => first(&[rooms, panel_file::read(&question.file).err().unwrap_or(0)]),
+        // What is left is a mesh, and its file fits: nothing is refused after the reading.
+        Call::CleanPanel => first(&[rooms, writing::clean(&question.file).err().unwrap_or(0)]),
         // A refused file has a sheet of its own, which says so: only its room can be refused.
         Call::Sheet => rooms,
         Call::Push => first(&[faces_number(mesh), rooms]),
@@ -133,6 +135,9 @@ pub fn stated_rooms(call: Call, mesh: &Mesh) -> Vec<usize> {
         Call::ExtractBoundaries => vec![2 * corners, corners],
         Call::HouseWires | Call::Components => vec![corners, corners],
         Call::ReadPanel => vec![3 * ATTRIBUTES, 2 * ATTRIBUTES, 3 * ATTRIBUTES, 3 * CORNERS, FACES],
+        // Document 02: the whole file. The cleaner's is not known beforehand: as for the reader, the full limits.
+        Call::WritePanel => vec![writing::length(mesh)],
+        Call::CleanPanel => vec![writing::LONGEST],
         Call::Sheet => vec![super::sheet::ROOM],
     }
 }

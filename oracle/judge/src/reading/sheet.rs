@@ -14,21 +14,7 @@ pub fn sheet(file: &[u8]) -> String {
     let read = if file.len() > FILE { Err(1) } else { panel_file::read(file) };
     match read {
         Err(number) => format!("refused {number}\n"),
-        Ok(mesh) => sheet_of(&cleaned(mesh)),
-    }
-}
-
-/// Folded faces are removed, then unused entries.
-fn cleaned(mesh: Mesh) -> Mesh {
-    let unfolded = cleaning::remove_degenerate_faces(&mesh);
-    let mesh = Mesh { corners: unfolded.corners, sizes: unfolded.sizes, ..mesh };
-    let compacted = cleaning::remove_unused_attrs(&mesh);
-    Mesh {
-        positions: compacted.positions,
-        textures: compacted.textures,
-        normals: compacted.normals,
-        corners: compacted.corners,
-        sizes: mesh.sizes,
+        Ok(mesh) => sheet_of(&cleaning::cleaned(mesh)),
     }
 }
 

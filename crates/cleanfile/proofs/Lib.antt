@@ -1,0 +1,4 @@
+pub mod Reading
+pub mod Folded
+pub mod Compacting
+pub mod Promised

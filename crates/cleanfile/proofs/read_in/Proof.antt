@@ -1,0 +1,200 @@
+-- `read_in` meets its contract: a refused file is answered by its number, any other is the mesh at the front of the lists (`Reading`). Assumes nothing.
+use Rattle.cleanfile.proofs.Reading.{read-few, read-fronts, read-ready, read-refused, read-cleaned}
+use native.Mathlib.Omega.{arith}
+use borrow.Author.Needs.{needs}
+use Rattle.cleanfile.proofs.read_in.Statement.{statement}
+use Rattle.cleanfile.proofs.read_in.Tie as tie
+
+read-panel-requires : tie.Need-read-panel-requires
+read-panel-requires c κs = search needs
+
+refused-requires : tie.Need-refused-requires
+refused-requires c κs = search needs
+
+same-length : tie.Need-same-length
+same-length c = search needs
+
+same-length-2 : tie.Need-same-length-2
+same-length-2 c = search needs
+
+same-length-3 : tie.Need-same-length-3
+same-length-3 c = search needs
+
+same-length-4 : tie.Need-same-length-4
+same-length-4 c = search needs
+
+same-length-5 : tie.Need-same-length-5
+same-length-5 c = search needs
+
+returns : tie.Need-returns
+returns c =
+    let at-if1 = c .before in
+    let at-read-panel = at-if1 .before .before .before .before .before .before .before .before .before .before .before in
+    let start = at-read-panel .before .before .before .before .before .before .before .before .before .before .before .before .before in
+    rw (c .refused .ensures) (read-refused (start .pre) (at-read-panel .read-panel .ensures) (at-if1 .if1 .taken))
+
+mul-p : tie.Need-mul-p
+mul-p c =
+    let at-if1 = c .before in
+    let at-read-panel = at-if1 .before .before .before .before .before .before .before .before .before .before .before in
+    let start = at-read-panel .before .before .before .before .before .before .before .before .before .before .before .before .before in
+    omega (arith, read-few (start .pre) (at-read-panel .read-panel .ensures) (at-if1 .if1 .left) .positions)
+
+mul-t : tie.Need-mul-t
+mul-t c =
+    let at-if1 = c .before .before in
+    let at-read-panel = at-if1 .before .before .before .before .before .before .before .before .before .before .before in
+    let start = at-read-panel .before .before .before .before .before .before .before .before .before .before .before .before .before in
+    omega (arith, read-few (start .pre) (at-read-panel .read-panel .ensures) (at-if1 .if1 .left) .textures)
+
+mul-n : tie.Need-mul-n
+mul-n c =
+    let at-if1 = c .before .before .before in
+    let at-read-panel = at-if1 .before .before .before .before .before .before .before .before .before .before .before in
+    let start = at-read-panel .before .before .before .before .before .before .before .before .before .before .before .before .before in
+    omega (arith, read-few (start .pre) (at-read-panel .read-panel .ensures) (at-if1 .if1 .left) .normals)
+
+mul-c : tie.Need-mul-c
+mul-c c =
+    let at-if1 = c .before .before .before .before in
+    let at-read-panel = at-if1 .before .before .before .before .before .before .before .before .before .before .before in
+    let start = at-read-panel .before .before .before .before .before .before .before .before .before .before .before .before .before in
+    omega (arith, read-few (start .pre) (at-read-panel .read-panel .ensures) (at-if1 .if1 .left) .corners)
+
+slice-reshare-prefix-from-mesh : tie.Need-slice-reshare-prefix-from-mesh
+slice-reshare-prefix-from-mesh c =
+    let at-if1 = c .before .before .before .before in
+    let at-read-panel = at-if1 .before .before .before .before .before .before .before .before .before .before .before in
+    let start = at-read-panel .before .before .before .before .before .before .before .before .before .before .before .before .before in
+    read-fronts (start .pre) (at-read-panel .read-panel .ensures) (at-if1 .if1 .left) .positions .within
+
+slice-aggregate-from-mesh : tie.Need-slice-aggregate-from-mesh
+slice-aggregate-from-mesh c =
+    let at-if1 = c .before .before .before .before .before in
+    let at-read-panel = at-if1 .before .before .before .before .before .before .before .before .before .before .before in
+    let start = at-read-panel .before .before .before .before .before .before .before .before .before .before .before .before .before in
+    read-fronts (start .pre) (at-read-panel .read-panel .ensures) (at-if1 .if1 .left) .positions .long
+
+slice-reshare-prefix-from-mesh-2 : tie.Need-slice-reshare-prefix-from-mesh-2
+slice-reshare-prefix-from-mesh-2 c =
+    let at-if1 = c .before .before .before .before .before in
+    let at-read-panel = at-if1 .before .before .before .before .before .before .before .before .before .before .before in
+    let start = at-read-panel .before .before .before .before .before .before .before .before .before .before .before .before .before in
+    read-fronts (start .pre) (at-read-panel .read-panel .ensures) (at-if1 .if1 .left) .textures .within
+
+slice-aggregate-from-mesh-2 : tie.Need-slice-aggregate-from-mesh-2
+slice-aggregate-from-mesh-2 c =
+    let at-if1 = c .before .before .before .before .before .before in
+    let at-read-panel = at-if1 .before .before .before .before .before .before .before .before .before .before .before in
+    let start = at-read-panel .before .before .before .before .before .before .before .before .before .before .before .before .before in
+    read-fronts (start .pre) (at-read-panel .read-panel .ensures) (at-if1 .if1 .left) .textures .long
+
+slice-reshare-prefix-from-mesh-3 : tie.Need-slice-reshare-prefix-from-mesh-3
+slice-reshare-prefix-from-mesh-3 c =
+    let at-if1 = c .before .before .before .before .before .before in
+    let at-read-panel = at-if1 .before .before .before .before .before .before .before .before .before .before .before in
+    let start = at-read-panel .before .before .before .before .before .before .before .before .before .before .before .before .before in
+    read-fronts (start .pre) (at-read-panel .read-panel .ensures) (at-if1 .if1 .left) .normals .within
+
+slice-aggregate-from-mesh-3 : tie.Need-slice-aggregate-from-mesh-3
+slice-aggregate-from-mesh-3 c =
+    let at-if1 = c .before .before .before .before .before .before .before in
+    let at-read-panel = at-if1 .before .before .before .before .before .before .before .before .before .before .before in
+    let start = at-read-panel .before .before .before .before .before .before .before .before .before .before .before .before .before in
+    read-fronts (start .pre) (at-read-panel .read-panel .ensures) (at-if1 .if1 .left) .normals .long
+
+slice-reshare-prefix-from-mesh-4 : tie.Need-slice-reshare-prefix-from-mesh-4
+slice-reshare-prefix-from-mesh-4 c =
+    let at-if1 = c .before .before .before .before .before .before .before in
+    let at-read-panel = at-if1 .before .before .before .before .before .before .before .before .before .before .before in
+    let start = at-read-panel .before .before .before .before .before .before .before .before .before .before .before .before .before in
+    read-fronts (start .pre) (at-read-panel .read-panel .ensures) (at-if1 .if1 .left) .corners .within
+
+slice-aggregate-from-mesh-4 : tie.Need-slice-aggregate-from-mesh-4
+slice-aggregate-from-mesh-4 c =
+    let at-if1 = c .before .before .before .before .before .before .before .before in
+    let at-read-panel = at-if1 .before .before .before .before .before .before .before .before .before .before .before in
+    let start = at-read-panel .before .before .before .before .before .before .before .before .before .before .before .before .before in
+    read-fronts (start .pre) (at-read-panel .read-panel .ensures) (at-if1 .if1 .left) .corners .long
+
+slice-reshare-prefix-from-mesh-5 : tie.Need-slice-reshare-prefix-from-mesh-5
+slice-reshare-prefix-from-mesh-5 c =
+    let at-if1 = c .before .before .before .before .before .before .before .before in
+    let at-read-panel = at-if1 .before .before .before .before .before .before .before .before .before .before .before in
+    let start = at-read-panel .before .before .before .before .before .before .before .before .before .before .before .before .before in
+    read-fronts (start .pre) (at-read-panel .read-panel .ensures) (at-if1 .if1 .left) .sizes .within
+
+slice-aggregate-from-mesh-5 : tie.Need-slice-aggregate-from-mesh-5
+slice-aggregate-from-mesh-5 c =
+    let at-if1 = c .before .before .before .before .before .before .before .before .before in
+    let at-read-panel = at-if1 .before .before .before .before .before .before .before .before .before .before .before in
+    let start = at-read-panel .before .before .before .before .before .before .before .before .before .before .before .before .before in
+    read-fronts (start .pre) (at-read-panel .read-panel .ensures) (at-if1 .if1 .left) .sizes .long
+
+from-mesh-requires : tie.Need-from-mesh-requires
+from-mesh-requires c κs =
+    let at-if1 = c .before .before .before .before .before .before .before .before .before .before in
+    let at-read-panel = at-if1 .before .before .before .before .before .before .before .before .before .before .before in
+    let start = at-read-panel .before .before .before .before .before .before .before .before .before .before .before .before .before in
+    read-ready (start .pre) (at-read-panel .read-panel .ensures) (at-if1 .if1 .left)
+
+same-length-6 : tie.Need-same-length-6
+same-length-6 c = search needs
+
+same-length-7 : tie.Need-same-length-7
+same-length-7 c = search needs
+
+same-length-8 : tie.Need-same-length-8
+same-length-8 c = search needs
+
+same-length-9 : tie.Need-same-length-9
+same-length-9 c = search needs
+
+same-length-10 : tie.Need-same-length-10
+same-length-10 c = search needs
+
+same-length-11 : tie.Need-same-length-11
+same-length-11 c = search needs
+
+returns-2 : tie.Need-returns-2
+returns-2 c =
+    let at-from-mesh = c .before .before in
+    let at-if1 = at-from-mesh .before .before .before .before .before .before .before .before .before .before .before in
+    let at-read-panel = at-if1 .before .before .before .before .before .before .before .before .before .before .before in
+    let start = at-read-panel .before .before .before .before .before .before .before .before .before .before .before .before .before in
+    read-cleaned (start .pre) (at-read-panel .read-panel .ensures) (at-if1 .if1 .left) _ _ (at-from-mesh .from-mesh .ensures)
+
+pub read-in-spec : {M : Type 1} → statement M
+read-in-spec =
+    tie.close
+    (tie.spec
+    read-panel-requires
+    refused-requires
+    same-length
+    same-length-2
+    same-length-3
+    same-length-4
+    same-length-5
+    returns
+    mul-p
+    mul-t
+    mul-n
+    mul-c
+    slice-reshare-prefix-from-mesh
+    slice-aggregate-from-mesh
+    slice-reshare-prefix-from-mesh-2
+    slice-aggregate-from-mesh-2
+    slice-reshare-prefix-from-mesh-3
+    slice-aggregate-from-mesh-3
+    slice-reshare-prefix-from-mesh-4
+    slice-aggregate-from-mesh-4
+    slice-reshare-prefix-from-mesh-5
+    slice-aggregate-from-mesh-5
+    from-mesh-requires
+    same-length-6
+    same-length-7
+    same-length-8
+    same-length-9
+    same-length-10
+    same-length-11
+    returns-2)

@@ -1,0 +1,4 @@
+-- what is promised
+pub mod Promises
+-- which pieces come back, and what they draw
+pub mod Said

@@ -1,0 +1,6 @@
+pub mod Storing
+pub mod Listing
+pub mod Entries
+pub mod Faces
+pub mod Parting
+pub mod Saving

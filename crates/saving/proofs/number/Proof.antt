@@ -1,0 +1,36 @@
+-- `saving::number` meets its contract: row after row. Assumes nothing.
+use mathlib.Core.Path.{sym, _∙_}
+use Rattle.saving.proofs.Saving.{number-first, number-short, number-well}
+use borrow.Author.Needs.{needs}
+use Rattle.saving.proofs.number.Statement.{statement}
+use Rattle.saving.proofs.number.Tie as tie
+
+number-requires : tie.Need-number-requires
+number-requires c κs = search needs
+
+returns : tie.Need-returns
+returns c =
+    let at-number = c .before in
+    number-first _ _ _ (at-number .number .ensures) (c .if1 .taken)
+
+file-length-requires : tie.Need-file-length-requires
+file-length-requires c κs =
+    let at-number = c .before in
+    sym (at-number .number .ensures) ∙ c .if1 .left
+
+returns-2 : tie.Need-returns-2
+returns-2 c =
+    let at-file-length = c .before in
+    let at-if1 = at-file-length .before in
+    let at-number = at-if1 .before in
+    number-short _ _ (sym (at-number .number .ensures) ∙ at-if1 .if1 .left) (rw (at-file-length .file-length .ensures) at (c .if2 .taken))
+
+returns-3 : tie.Need-returns-3
+returns-3 c =
+    let at-file-length = c .before in
+    let at-if1 = at-file-length .before in
+    let at-number = at-if1 .before in
+    number-well _ _ (sym (at-number .number .ensures) ∙ at-if1 .if1 .left) (rw (at-file-length .file-length .ensures) at (c .if2 .left))
+
+pub number-spec : {M : Type 1} → statement M
+number-spec = tie.close (tie.spec number-requires returns file-length-requires returns-2 returns-3)

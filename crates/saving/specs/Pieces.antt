@@ -1,0 +1,84 @@
+-- A mesh as a panel file: positions, texture points, normals, faces in their order, end (document 02, CR 1). Its records are those of
+-- document 01, 'The panel file and the sheet'. Assumes nothing.
+use Prim.Native.Nat.{ℕ, _+_, _*_}
+use mathlib.Core.List.{List, [], _∷_, _++_, map}
+use lib.ListN.{length}
+use lib.Ieee.{Float, toBits, binary64}
+use Rattle.lists.specs.Lists.{each}
+use Rattle.little.specs.Little.{halfBytes, wordBytes, longBytes}
+use Rattle.mesh.specs.Limits.{entryLimit, faceLimit, cornerNumbers}
+use Rattle.mesh.specs.Mesh.{Mesh, Corner, Ring, faces, positionCount, textureCount, normalCount}
+use Rattle.floating.specs.declared.Point.{Point}
+use Rattle.floating.specs.declared.Texel.{Texel}
+use Rattle.floating.specs.Points.{texel, coordinates, pointsOf}
+
+-- what one record says
+pub data Piece : Type 0 where
+  aPosition : Point → Piece
+  aTexture : Texel → Piece
+  aNormal : Point → Piece
+  aFace : Ring → Piece
+  theEnd : Piece
+
+-- the texture points of a flat list, two coordinates each
+abbrev pub texelsOf : List Float → List Texel
+texelsOf [] = []
+texelsOf (a ∷ []) = []
+texelsOf (a ∷ b ∷ s) = texel a b ∷ texelsOf s
+
+abbrev pub pair : Texel → List Float
+pair t = t .u ∷ t .v ∷ []
+
+-- what a file says of a mesh before its end
+unfoldable pub piecesOf : Mesh → List Piece
+piecesOf m =
+    map aPosition (pointsOf (m .positions)) ++ (map aTexture (texelsOf (m .textures)) ++ (map aNormal (pointsOf (m .normals)) ++ map aFace (faces m)))
+
+-- ---- one record
+
+-- kind 0: end; 1: position; 2: texture; 3: normal; 4: face
+abbrev pub kindOf : Piece → ℕ
+kindOf (aPosition p) = 1
+kindOf (aTexture t) = 2
+kindOf (aNormal p) = 3
+kindOf (aFace f) = 4
+kindOf theEnd = 0
+
+-- a coordinate is the eight bytes of its bits, minus zero and the infinities with theirs; a NaN has no bits of its own, and each is written
+-- as the one pattern 7ff8000000000000
+unfoldable pub coordinateBytes : Float → List ℕ
+coordinateBytes x = longBytes (toBits binary64 x)
+
+-- a corner is its numbers, four bytes each
+unfoldable pub cornerBytes : Corner → List ℕ
+cornerBytes c = each wordBytes c
+
+-- a face is a byte n, then n corners
+unfoldable pub bodyOf : Piece → List ℕ
+bodyOf (aPosition p) = each coordinateBytes (coordinates p)
+bodyOf (aTexture t) = each coordinateBytes (pair t)
+bodyOf (aNormal p) = each coordinateBytes (coordinates p)
+bodyOf (aFace f) = length f ∷ each cornerBytes f
+bodyOf theEnd = []
+
+-- a record: two-byte length of its body, two-byte kind, body
+unfoldable pub headerOf : ℕ → ℕ → List ℕ
+headerOf n kind = halfBytes n ++ halfBytes kind
+
+unfoldable pub recordOf : Piece → List ℕ
+recordOf p = headerOf (length (bodyOf p)) (kindOf p) ++ bodyOf p
+
+-- ---- the file
+
+unfoldable pub fileOf : Mesh → List ℕ
+fileOf m = each recordOf (piecesOf m) ++ recordOf theEnd
+
+-- how long the whole file is: four bytes before each body; then 24, 16 and 24 for the entries, one for a face and four for each number of
+-- its corners, and none for the end
+unfoldable pub fileLength : Mesh → ℕ
+fileLength m =
+    28 * positionCount m + 20 * textureCount m + 28 * normalCount m + 5 * length (m .sizes) + 4 * length (m .corners) + 4
+
+-- how long the largest file is that a mesh can make: every limit is full
+abbrev pub fileLimit : ℕ
+fileLimit = 28 * entryLimit + 20 * entryLimit + 28 * entryLimit + 5 * faceLimit + 4 * cornerNumbers + 4

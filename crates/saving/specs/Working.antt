@@ -1,0 +1,65 @@
+-- What the writer's inner functions store, for their contracts. Assumes nothing.
+use Prim.Native.Nat.{ℕ, zero, suc, _+_, _*_, _%_, _≤_, _<_}
+use mathlib.Core.Path.{_≡_}
+use mathlib.Core.List.{List, [], _∷_, _++_}
+use lib.ListN.{length, getD, take, drop}
+use lib.Seq.{sets}
+use lib.Ieee.{Float}
+use Rattle.lists.specs.Lists.{each}
+use Rattle.mesh.specs.Limits.{width, ringLimit}
+use Rattle.mesh.specs.Mesh.{Mesh, Ring, cornersIn, rings}
+use Rattle.mesh.specs.Table.{meshNumber}
+use Rattle.mesh.specs.Face.{Sound}
+use Rattle.saving.specs.Pieces.{coordinateBytes, aFace, headerOf, recordOf, fileLength}
+
+-- the bytes are stored from a place on, and r is the place behind them
+pub record Stored (bytes o o' : List ℕ) (at r : ℕ) : Type 0 where
+  pub file : o' ≡ sets o at bytes
+  pub place : r ≡ at + length bytes
+
+-- there is room for them
+abbrev pub Fits : List ℕ → List ℕ → ℕ → Type 0
+Fits bytes o at = at + length bytes ≤ length o
+
+-- ---- positions, texture points and normals: one rule over the width
+
+-- the record of an entry with these coordinates
+unfoldable pub entryRecord : ℕ → List Float → List ℕ
+entryRecord kind l = headerOf (8 * length l) kind ++ each coordinateBytes l
+
+-- the first n entries of a flat list, w coordinates each
+abbrev pub firstRows : ℕ → ℕ → List Float → List (List Float)
+firstRows w zero s = []
+firstRows w (suc n) s = take w s ∷ firstRows w n (drop w s)
+
+-- an entry, and n entries, with room for their records
+pub record AnEntry (kind : ℕ) (l : List Float) (o : List ℕ) (at : ℕ) : Type 0 where
+  pub small : length l ≤ 3
+  pub fits : Fits (entryRecord kind l) o at
+
+pub record Entries (w n kind : ℕ) (s : List Float) (o : List ℕ) (at : ℕ) : Type 0 where
+  pub small : w ≤ 3
+  pub whole : length s ≡ w * n
+  pub fits : Fits (each (entryRecord kind) (firstRows w n s)) o at
+
+-- ---- faces
+
+unfoldable pub faceRecord : Ring → List ℕ
+faceRecord f = recordOf (aFace f)
+
+-- a face of at most 32 corners, and faces of at most 32 corners each, with room for their records
+pub record AFace (part o : List ℕ) (at : ℕ) : Type 0 where
+  pub whole : length part % width ≡ 0
+  pub small : length part ≤ width * ringLimit
+  pub fits : Fits (faceRecord (cornersIn part)) o at
+
+pub record Faces (cs s o : List ℕ) (at : ℕ) : Type 0 where
+  pub sound : Sound cs s
+  pub small : (k : ℕ) → k < length s → getD s k 0 ≤ ringLimit
+  pub fits : Fits (each faceRecord (rings s cs)) o at
+
+-- ---- the mesh m can be written to the buffer o
+
+pub record Ready (m : Mesh) (o : List ℕ) : Type 0 where
+  pub accepted : meshNumber m ≡ 0
+  pub room : fileLength m ≤ length o

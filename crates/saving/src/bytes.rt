@@ -1,0 +1,130 @@
+// One record after the other. Each function stores bytes from a place on and answers the place behind them.
+ghost use mathlib.Core.Path.{_≡_};
+ghost use mathlib.Core.List.{[], _∷_};
+ghost use Prim.Native.Nat.{_+_, _≤_};
+ghost use lib.ListN.{length};
+ghost use lib.Ieee.{binary64, toBits};
+ghost use Rattle.lists.specs.Lists.{each};
+ghost use Rattle.little.specs.Little.{wordBytes};
+ghost use Rattle.mesh.specs.Mesh.{cornersIn, rings};
+ghost use Rattle.saving.specs.Pieces.{coordinateBytes, headerOf};
+ghost use Rattle.saving.specs.Working.{Stored, Fits, entryRecord, firstRows, faceRecord, AnEntry, Entries, AFace, Faces};
+
+// ---- parts of a record
+
+// The bits of a number. A NaN, which alone is unlike itself, gets one pattern of a NaN.
+fn bits_of(x: f64) -> u64
+    ensures { λ r. ⌜ r ≡ toBits binary64 x ⌝ }
+{
+    if x != x {
+        0x7ff8_0000_0000_0000
+    } else {
+        f64::to_bits(x)
+    }
+}
+
+// A header: the length of a body, and its kind.
+pub fn put_header(n: u32, kind: u32, out: &mut [u8], at: usize) -> usize
+    requires { ⌜ at + 4 ≤ length (now out) ⌝ }
+    ensures { λ r. ⌜ Stored (headerOf n kind) (now (out .entry)) (now (out .exit)) at r ⌝ }
+{
+    little::put_half(out, at, n);
+    little::put_half(out, at + 2, kind);
+    at + 4
+}
+
+// Coordinates: the eight bytes of the bits of each.
+fn put_coordinates(s: &[f64], out: &mut [u8], at: usize) -> usize
+    requires { ⌜ Fits (each coordinateBytes (now s)) (now out) at ⌝ }
+    ensures { λ r. ⌜ Stored (each coordinateBytes (now (s .entry))) (now (out .entry)) (now (out .exit)) at r ⌝ }
+{
+    let mut to = at;
+    let mut k: usize = 0;
+    while k < s.len() {
+        little::put_long(out, to, bits_of(s[k]));
+        to += 8;
+        k += 1;
+    }
+    to
+}
+
+// Numbers of four bytes.
+fn put_words(s: &[u32], out: &mut [u8], at: usize) -> usize
+    requires { ⌜ Fits (each wordBytes (now s)) (now out) at ⌝ }
+    ensures { λ r. ⌜ Stored (each wordBytes (now (s .entry))) (now (out .entry)) (now (out .exit)) at r ⌝ }
+{
+    let mut to = at;
+    let mut k: usize = 0;
+    while k < s.len() {
+        little::put_word(out, to, s[k]);
+        to += 4;
+        k += 1;
+    }
+    to
+}
+
+fn put_byte(x: u8, out: &mut [u8], at: usize) -> usize
+    requires { ⌜ at + 1 ≤ length (now out) ⌝ }
+    ensures { λ r. ⌜ Stored (x ∷ []) (now (out .entry)) (now (out .exit)) at r ⌝ }
+{
+    out[at] = x;
+    at + 1
+}
+
+// ---- positions, texture points and normals
+
+// The record of one of them.
+fn put_entry(part: &[f64], kind: u32, out: &mut [u8], at: usize) -> usize
+    requires { ⌜ AnEntry kind (now part) (now out) at ⌝ }
+    ensures { λ r. ⌜ Stored (entryRecord kind (now (part .entry))) (now (out .entry)) (now (out .exit)) at r ⌝ }
+{
+    let a = put_header((8 * part.len()) as u32, kind, out, at);
+    put_coordinates(part, out, a)
+}
+
+// A record for each of the n entries of a list, w coordinates wide.
+pub fn put_entries(s: &[f64], w: usize, n: usize, kind: u32, out: &mut [u8], at: usize) -> usize
+    requires { ⌜ Entries w n kind (now s) (now out) at ⌝ }
+    ensures { λ r. ⌜ Stored (each (entryRecord kind) (firstRows w n (now (s .entry)))) (now (out .entry)) (now (out .exit)) at r ⌝ }
+{
+    let mut to = at;
+    let mut from: usize = 0;
+    let mut k: usize = 0;
+    while k < n {
+        let end = from + w;
+        to = put_entry(&s[from..end], kind, out, to);
+        from = end;
+        k += 1;
+    }
+    to
+}
+
+// ---- faces
+
+// The record of a face: a byte n, then n corners.
+fn put_face(part: &[u32], out: &mut [u8], at: usize) -> usize
+    requires { ⌜ AFace (now part) (now out) at ⌝ }
+    ensures { λ r. ⌜ Stored (faceRecord (cornersIn (now (part .entry)))) (now (out .entry)) (now (out .exit)) at r ⌝ }
+{
+    let n = part.len() / mesh::WIDTH;
+    let a = put_header((1 + 4 * part.len()) as u32, 4, out, at);
+    let b = put_byte(n as u8, out, a);
+    put_words(part, out, b)
+}
+
+// A record for each face, in their order.
+pub fn put_faces(corners: &[u32], sizes: &[u32], out: &mut [u8], at: usize) -> usize
+    requires { ⌜ Faces (now corners) (now sizes) (now out) at ⌝ }
+    ensures { λ r. ⌜ Stored (each faceRecord (rings (now (sizes .entry)) (now (corners .entry)))) (now (out .entry)) (now (out .exit)) at r ⌝ }
+{
+    let mut to = at;
+    let mut from: usize = 0;
+    let mut k: usize = 0;
+    while k < sizes.len() {
+        let face = mesh::face_at(corners, sizes, k, from);
+        to = put_face(face, out, to);
+        from += sizes[k] as usize;
+        k += 1;
+    }
+    to
+}

@@ -1,0 +1,77 @@
+// Tries the writer on the longest file that a mesh can make, every list at its limit, with exactly its room and with one byte less, and
+// the reader on what was written; and prints what each answers.
+const LESS: usize = saving::FILE - 1;
+
+const LAST: usize = mesh::FACES - 1;
+
+fn main() {
+    let mut less = [b'.'; LESS];
+    let refused = write(&mut less);
+    show(b"one byte short", refused, untouched(&less) as u64);
+    let mut file = [b'.'; saving::FILE];
+    let written = write(&mut file);
+    show(b"with its room", written, untouched(&file) as u64);
+    read(&file);
+}
+
+// 1,364 triangles and a quadrangle are 4,096 corners.
+fn write(out: &mut [u8]) -> saving::Saved {
+    let points = [0.5; mesh::POINT_NUMBERS];
+    let textures = [0.5; mesh::TEXEL_NUMBERS];
+    let corners = [0u32; mesh::CORNER_NUMBERS];
+    let mut sizes = [3u32; mesh::FACES];
+    sizes[LAST] = 4;
+    saving::write_panel(&points, &textures, &points, &corners, &sizes, out)
+}
+
+// The writer: its number, the file's length, and how many bytes at the front of the lent list are as they were.
+fn show(what: &[u8], r: saving::Saved, untouched: u64) {
+    io::write_all(1, what);
+    number(r.number as u64);
+    number(r.length as u64);
+    number(untouched);
+    io::write_all(1, b"\n");
+}
+
+// The reader: its number, and the counts of positions, texture points, normals, corners and faces.
+fn read(file: &[u8]) {
+    let mut positions = [0.0; mesh::POINT_NUMBERS];
+    let mut textures = [0.0; mesh::TEXEL_NUMBERS];
+    let mut normals = [0.0; mesh::POINT_NUMBERS];
+    let mut corners = [0u32; mesh::CORNER_NUMBERS];
+    let mut sizes = [0u32; mesh::FACES];
+    let r = panelfile::read_panel(
+        file,
+        &mut positions,
+        &mut textures,
+        &mut normals,
+        &mut corners,
+        &mut sizes,
+    );
+    io::write_all(1, b"read again");
+    number(r.number as u64);
+    number(r.positions as u64);
+    number(r.textures as u64);
+    number(r.normals as u64);
+    number(r.corners as u64);
+    number(r.faces as u64);
+    io::write_all(1, b"\n");
+}
+
+// A number behind a space.
+fn number(n: u64) {
+    io::write_all(1, b" ");
+    io::print_decimal(1, n);
+}
+
+// How many bytes stand before the first that is not '.'.
+fn untouched(out: &[u8]) -> usize {
+    let mut k: usize = 0;
+    while k < out.len() {
+        if out[k] != b'.' {
+            return k;
+        }
+        k += 1;
+    }
+    k
+}

@@ -1,0 +1,82 @@
+# shellcheck shell=bash disable=SC2154
+# Sourced by ./meshsheet and ./meshclean, each of which runs a proved program of its own name. They set
+#   name       the program's
+#   usage      the line of usage
+#   longest    how many bytes a file may have, as one says it
+# before, and then
+#   open_input [FILE]    makes the file, or standard input, what the program reads; before the folder changes
+#   make_ready           sets 'run' to the words that run the program, which is proved and built where it is not
+#   refused NUMBER       says what a refusal means, and ends with 1
+#   fail WORDS           says that nothing could be read, run or written, and ends with 2
+#   version              prints the version
+#
+# The program is proved and built on first use, and after a change: that takes some minutes, one line per crate goes to standard
+# error, and standard input is left alone. It is an x86-64 program: elsewhere the kit's emulator runs it.
+
+fail() {
+    echo "$name: $*" >&2
+    exit 2
+}
+
+# A folder and a closed standard input would read as a file that is cut.
+open_input() {
+    if [ $# -gt 0 ]; then
+        [ -e "$1" ] || fail "there is no file ${1@Q}"
+        [ -d "$1" ] || [ -r "$1" ] || fail "${1@Q} may not be read"
+        exec <"$1"
+    fi
+    [ -e /dev/stdin ] || fail "standard input is closed"
+    [ ! -d /dev/stdin ] || fail "this is a folder, not a panel file"
+    if [ -t 0 ]; then
+        echo "$usage" >&2
+        exit 2
+    fi
+}
+
+# Nothing is built where nothing has changed since it was.
+stale() {
+    [ ! -x "target/bin/$name" ] || [ ! -e "$built" ] || [ -n "$(find crates crates.txt -newer "$built" -print -quit)" ]
+}
+
+# One builds and the others wait for it, whichever program they build: two at once would write the same files.
+build() {
+    command -v rt >/dev/null ||
+        fail "the program is not built, or not of these sources, and the Rattle kit that builds it is not here: no 'rt' on the path"
+    mkdir -p target
+    exec 9>target/programs.lock
+    if command -v flock >/dev/null && ! flock --nonblock 9; then
+        echo "$name: waiting for another one that is building" >&2
+        flock 9
+    fi
+    if stale; then
+        echo "$name: proving and building, once" >&2
+        touch "$built.begun"
+        rt check "$name" </dev/null 9>&- | grep --line-buffered '^rt: ' >&2 ||
+            fail "it could not be built; 'rt check $name' says more"
+        mv "$built.begun" "$built"
+    fi
+    exec 9>&-
+}
+
+# In front of the program stand no words on x86-64, and the kit's emulator elsewhere.
+make_ready() {
+    built=target/$name.built run=("target/bin/$name")
+    if stale; then
+        build
+    fi
+    [ "$(uname -m)" != x86_64 ] || return 0
+    local kit tools
+    kit=${RATTLE_HOME:-$(dirname "$(dirname "$(readlink -f "$(command -v rt || echo /no/kit)")")")}
+    tools=$kit/on/$(uname -m)/toolchain
+    [ -x "$tools/bin/qemu-x86_64" ] || fail "this is no x86-64 machine, and the Rattle kit that has the emulator is not here: no 'rt' on the path"
+    run=("$tools/bin/qemu-x86_64" "$tools/lib/ld-linux-x86-64.so.2" --library-path "$tools/lib" "${run[@]}")
+}
+
+refused() {
+    echo "$name: the file is refused ($1): $(sed -n "s/^$1 //p" tools/refusals.txt | sed "s/LONGEST/$longest/")" >&2
+    exit 1
+}
+
+version() {
+    sed -n "s/^version = \"\(.*\)\"\$/$name \1/p" "$home/rust/barleyhinge/Cargo.toml"
+}
