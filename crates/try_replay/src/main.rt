@@ -3,18 +3,29 @@
 // result. It prints for each call how many cases there were, how many by number, and how many differed: none may.
 //
 // The list was made by the oracle, from the Rust itself and from a second reading of document 01 (oracle/README.md); README.md has
-// its format, and how this program was seen to fail. Here the records are gone through; `try_answers` reads the list, `try_questions` puts
-// a case to its call, by `try_faces`, `try_attributes` and `try_files`, and `try_tally` counts how the cases came out.
-use try_answers::cases;
-use try_answers::cases::Outcome;
-use try_answers::list;
+// its format, and how this program was seen to fail. Here the records are gone through; `list` reads the list, `lent` fills a list that is lent
+// and holds it to the answer afterwards, `cases` has what the cases of all calls share, `questions` puts a case to its call, by `by_faces`,
+// `attributes` and `files`, and `tally` counts how the cases came out.
+mod attributes;
+mod by_faces;
+mod bytes;
+mod cases;
+mod files;
+mod lent;
+mod list;
+mod pairs;
+mod questions;
+mod reading;
+mod tally;
+
+use cases::Outcome;
 
 fn main() {
     let mut list = [0u8; 524288];
     let n = io::read_full(0, &mut list);
-    let mut counts = [0u32; try_tally::COUNTS];
+    let mut counts = [0u32; tally::COUNTS];
     let whole = replay(list::front_of_bytes(&list, n), &mut counts);
-    try_tally::print(&counts);
+    tally::print(&counts);
     if !whole {
         io::write_all(1, b"the list is damaged\n");
     }
@@ -46,20 +57,20 @@ fn record(list: &[u8], at: usize, next: usize, subject: usize, counts: &mut [u32
     if is_subject(kind) {
         return list::plus(at, 2);
     }
-    try_tally::add(counts, kind, outcome(list, at, next, subject, kind));
+    tally::add(counts, kind, outcome(list, at, next, subject, kind));
     subject
 }
 
 fn is_subject(kind: u32) -> bool {
-    if kind == try_questions::MESH {
+    if kind == questions::MESH {
         return true;
     }
-    kind == try_questions::FILE
+    kind == questions::FILE
 }
 
 // How a case came out; it must end where the next record begins.
 fn outcome(list: &[u8], at: usize, next: usize, subject: usize, kind: u32) -> Outcome {
-    let found = try_questions::ask(list, subject, kind, list::plus(at, 2));
+    let found = questions::ask(list, subject, kind, list::plus(at, 2));
     let elsewhere = found.end != next;
     cases::also(found, elsewhere)
 }

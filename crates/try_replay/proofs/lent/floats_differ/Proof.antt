@@ -1,0 +1,75 @@
+-- `try_answers::lent::floats_differ` is safe and ends: as `words_differ`, for f64. Assumes nothing.
+use Prim.Native.Nat.{_-_}
+use lib.ListN.{length}
+use borrow.Author.Needs.{needs}
+use Rattle.try_replay.proofs.lent.floats_differ.Statement.{statement}
+use Rattle.try_replay.proofs.lent.floats_differ.Tie as tie
+
+abbrev Inv-loop : tie.InvT-loop
+Inv-loop got list room at n i₀ i = Unit {0}
+
+abbrev μ-loop : tie.MeasureT-loop
+μ-loop got list room at n i₀ i = length got - i
+
+is-unlike-requires : tie.Need-is-unlike-requires Inv-loop μ-loop
+is-unlike-requires c κs = search needs
+
+returns : tie.Need-returns Inv-loop μ-loop
+returns c = search needs
+
+plus-requires : tie.Need-plus-requires Inv-loop μ-loop
+plus-requires c κs = search needs
+
+count-requires : tie.Need-count-requires Inv-loop μ-loop
+count-requires c κs = search needs
+
+loop-holds : tie.Need-loop-holds Inv-loop μ-loop
+loop-holds c = search needs
+
+mul-is-same : tie.Need-mul-is-same Inv-loop μ-loop
+mul-is-same c = search needs
+
+shared-slice-read-is-same : tie.Need-shared-slice-read-is-same Inv-loop μ-loop
+shared-slice-read-is-same c = search needs
+
+float-wanted-requires : tie.Need-float-wanted-requires Inv-loop μ-loop
+float-wanted-requires c κs = search needs
+
+is-same-requires : tie.Need-is-same-requires Inv-loop μ-loop
+is-same-requires c κs = search needs
+
+returns-2 : tie.Need-returns-2 Inv-loop μ-loop
+returns-2 c = search needs
+
+add-i : tie.Need-add-i Inv-loop μ-loop
+add-i c = search needs
+
+loop-less : tie.Need-loop-less Inv-loop μ-loop
+loop-less c = search needs
+
+loop-again : tie.Need-loop-again Inv-loop μ-loop
+loop-again c = search needs
+
+returns-3 : tie.Need-returns-3 Inv-loop μ-loop
+returns-3 c = search needs
+
+pub floats-differ-spec : {M : Type 1} → statement M
+floats-differ-spec =
+    tie.close
+    (tie.spec
+    Inv-loop
+    μ-loop
+    is-unlike-requires
+    returns
+    plus-requires
+    count-requires
+    loop-holds
+    mul-is-same
+    shared-slice-read-is-same
+    float-wanted-requires
+    is-same-requires
+    returns-2
+    add-i
+    loop-less
+    loop-again
+    returns-3)

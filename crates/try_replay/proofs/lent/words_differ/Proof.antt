@@ -1,0 +1,71 @@
+-- `try_answers::lent::words_differ` is safe and ends: the measure is what is left of the lent list. Assumes nothing.
+use Prim.Native.Nat.{_-_}
+use lib.ListN.{length}
+use borrow.Author.Needs.{needs}
+use Rattle.try_replay.proofs.lent.words_differ.Statement.{statement}
+use Rattle.try_replay.proofs.lent.words_differ.Tie as tie
+
+abbrev Inv-loop : tie.InvT-loop
+Inv-loop got list room at n i₀ i = Unit {0}
+
+abbrev μ-loop : tie.MeasureT-loop
+μ-loop got list room at n i₀ i = length got - i
+
+is-unlike-requires : tie.Need-is-unlike-requires Inv-loop μ-loop
+is-unlike-requires c κs = search needs
+
+returns : tie.Need-returns Inv-loop μ-loop
+returns c = search needs
+
+plus-requires : tie.Need-plus-requires Inv-loop μ-loop
+plus-requires c κs = search needs
+
+count-requires : tie.Need-count-requires Inv-loop μ-loop
+count-requires c κs = search needs
+
+loop-holds : tie.Need-loop-holds Inv-loop μ-loop
+loop-holds c = search needs
+
+mul-if2 : tie.Need-mul-if2 Inv-loop μ-loop
+mul-if2 c = search needs
+
+shared-slice-read-if2 : tie.Need-shared-slice-read-if2 Inv-loop μ-loop
+shared-slice-read-if2 c = search needs
+
+word-wanted-requires : tie.Need-word-wanted-requires Inv-loop μ-loop
+word-wanted-requires c κs = search needs
+
+returns-2 : tie.Need-returns-2 Inv-loop μ-loop
+returns-2 c = search needs
+
+add-i : tie.Need-add-i Inv-loop μ-loop
+add-i c = search needs
+
+loop-less : tie.Need-loop-less Inv-loop μ-loop
+loop-less c = search needs
+
+loop-again : tie.Need-loop-again Inv-loop μ-loop
+loop-again c = search needs
+
+returns-3 : tie.Need-returns-3 Inv-loop μ-loop
+returns-3 c = search needs
+
+pub words-differ-spec : {M : Type 1} → statement M
+words-differ-spec =
+    tie.close
+    (tie.spec
+    Inv-loop
+    μ-loop
+    is-unlike-requires
+    returns
+    plus-requires
+    count-requires
+    loop-holds
+    mul-if2
+    shared-slice-read-if2
+    word-wanted-requires
+    returns-2
+    add-i
+    loop-less
+    loop-again
+    returns-3)

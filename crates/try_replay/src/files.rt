@@ -1,0 +1,78 @@
+// Cases of the calls on panel files: the reader, the cleaner and the writer.
+//
+// `list` is the list of answers, `at` where the case's own words begin, `subject` where the words of its panel file do.
+use crate::bytes;
+use crate::cases::Outcome;
+use crate::list;
+use crate::reading;
+
+// The calls, by the kind of their records.
+pub const READING: u32 = 11;
+
+pub const WRITING: u32 = 14;
+
+pub const CLEANING: u32 = 15;
+
+// More than any file of the list has bytes, and than any room for one.
+pub const BYTES: usize = 262144;
+
+// The reader and the cleaner: any other kind than the first is the cleaner.
+pub(crate) fn ask(list: &[u8], subject: usize, kind: u32, at: usize) -> Outcome {
+    let mut all = [0u8; BYTES];
+    let n = length(list, subject);
+    copy_file(list, subject, &mut all);
+    let file = list::front_of_bytes(&all, n);
+    if kind == READING {
+        return reading::read_panel(list, at, file);
+    }
+    bytes::clean_panel(list, at, file)
+}
+
+// The writer, of the five lists of a mesh.
+pub(crate) fn write_panel(
+    list: &[u8],
+    at: usize,
+    positions: &[f64],
+    textures: &[f64],
+    normals: &[f64],
+    corners: &[u32],
+    sizes: &[u32],
+) -> Outcome {
+    bytes::write_panel(list, at, positions, textures, normals, corners, sizes)
+}
+
+// ---- the file: some bytes, several times over, and then others
+
+// How many bytes stand there before the others begin.
+fn front(list: &[u8], at: usize) -> usize {
+    list::count(list, list::plus(at, 1))
+}
+
+// How many bytes the file has.
+fn length(list: &[u8], at: usize) -> usize {
+    list::plus(front(list, at), list::count(list, list::plus(at, 2)))
+}
+
+// Byte i of the file.
+fn file_byte(list: &[u8], at: usize, i: usize) -> u8 {
+    let u = list::count(list, at);
+    let before = front(list, at);
+    let begin = list::plus(at, 3);
+    if i < before {
+        if u > 0 {
+            return list::byte(list, begin, i % u);
+        }
+        return 0;
+    }
+    list::byte(list, list::plus(begin, list::words_for(u)), i - before)
+}
+
+// Writes the file to the front of `out`, as far as there is room.
+fn copy_file(list: &[u8], at: usize, out: &mut [u8]) {
+    let n = list::lesser(length(list, at), out.len());
+    let mut i = 0;
+    while i < n {
+        out[i] = file_byte(list, at, i);
+        i += 1;
+    }
+}

@@ -1,0 +1,163 @@
+// Lent lists: filled with a pattern before a call, and held to the list's answer and to the pattern after it.
+use crate::list;
+
+// What is lent where a room of n is asked for: the front of `all`, or all of it where there is no more, filled with the pattern.
+pub(crate) fn lend(all: &mut [u32], n: usize) -> &mut [u32] {
+    fill(all, n);
+    list::front(all, n)
+}
+
+pub(crate) fn lend_floats(all: &mut [f64], n: usize) -> &mut [f64] {
+    fill_floats(all, n);
+    list::front_of_floats(all, n)
+}
+
+pub(crate) fn lend_bytes(all: &mut [u8], n: usize) -> &mut [u8] {
+    fill_bytes(all, n);
+    list::front_to_write(all, n)
+}
+
+// What stands at place i before a call.
+fn pattern(i: usize) -> u32 {
+    0xa5a5_0000 + (i % 65536) as u32
+}
+
+fn pattern_float(i: usize) -> f64 {
+    floating::of_bits(0x4321_8765_0000_0000 + (i % 65536) as u64)
+}
+
+fn pattern_byte(i: usize) -> u8 {
+    (i % 251) as u8
+}
+
+// Fills the first n places with the pattern, as far as there are any.
+fn fill(out: &mut [u32], n: usize) {
+    let end = list::lesser(n, out.len());
+    let mut i = 0;
+    while i < end {
+        out[i] = pattern(i);
+        i += 1;
+    }
+}
+
+fn fill_floats(out: &mut [f64], n: usize) {
+    let end = list::lesser(n, out.len());
+    let mut i = 0;
+    while i < end {
+        out[i] = pattern_float(i);
+        i += 1;
+    }
+}
+
+fn fill_bytes(out: &mut [u8], n: usize) {
+    let end = list::lesser(n, out.len());
+    let mut i = 0;
+    while i < end {
+        out[i] = pattern_byte(i);
+        i += 1;
+    }
+}
+
+// Whether a lent list is not as the list says at `room`: its room, what stands at its front, and the pattern behind that.
+pub(crate) fn words_differ(got: &[u32], list: &[u8], room: usize) -> bool {
+    if is_unlike(got.len(), list, room) {
+        return true;
+    }
+    let at = list::plus(room, 1);
+    let n = list::count(list, at);
+    let mut i = 0;
+    while i < got.len() {
+        if got[i] != word_wanted(list, at, n, i) {
+            return true;
+        }
+        i += 1;
+    }
+    false
+}
+
+pub(crate) fn floats_differ(got: &[f64], list: &[u8], room: usize) -> bool {
+    if is_unlike(got.len(), list, room) {
+        return true;
+    }
+    let at = list::plus(room, 1);
+    let n = list::count(list, at);
+    let mut i = 0;
+    while i < got.len() {
+        if !is_same(got[i], float_wanted(list, at, n, i)) {
+            return true;
+        }
+        i += 1;
+    }
+    false
+}
+
+pub(crate) fn bytes_differ(got: &[u8], list: &[u8], room: usize) -> bool {
+    if is_unlike_bytes(got.len(), list, room) {
+        return true;
+    }
+    let at = list::plus(room, 1);
+    let n = list::count(list, at);
+    let mut i = 0;
+    while i < got.len() {
+        if got[i] != byte_wanted(list, at, n, i) {
+            return true;
+        }
+        i += 1;
+    }
+    false
+}
+
+// Whether this is not the room that the list says, or the room has no place for what it says.
+fn is_unlike(len: usize, list: &[u8], room: usize) -> bool {
+    if len != list::count(list, room) {
+        return true;
+    }
+    if list::is_odd(list, list::plus(room, 1)) {
+        return true;
+    }
+    len < list::count(list, list::plus(room, 1))
+}
+
+fn is_unlike_bytes(len: usize, list: &[u8], room: usize) -> bool {
+    if len != list::count(list, room) {
+        return true;
+    }
+    len < list::count(list, list::plus(room, 1))
+}
+
+// What must stand at place i of a lent list: number i of the answer, or the pattern behind the answer's n.
+fn word_wanted(list: &[u8], at: usize, n: usize, i: usize) -> u32 {
+    if i < n {
+        return list::word_in(list, at, i);
+    }
+    pattern(i)
+}
+
+fn float_wanted(list: &[u8], at: usize, n: usize, i: usize) -> f64 {
+    if i < n {
+        return list::float_in(list, at, i);
+    }
+    pattern_float(i)
+}
+
+fn byte_wanted(list: &[u8], at: usize, n: usize, i: usize) -> u8 {
+    if i < n {
+        return list::byte_in(list, at, i);
+    }
+    pattern_byte(i)
+}
+
+// Equal by its bits, but that a NaN is like any other: two numbers that are equal have the same bits unless they are zeros, and
+// those are told apart by what 1 divided by them is.
+fn is_same(a: f64, b: f64) -> bool {
+    if a == b {
+        if a == 0.0 {
+            return 1.0 / a == 1.0 / b;
+        }
+        return true;
+    }
+    if a == a {
+        return false;
+    }
+    b != b
+}
