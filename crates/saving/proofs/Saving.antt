@@ -12,7 +12,7 @@ use Rattle.lists.specs.Lists.{every}
 use Rattle.lists.proofs.Bools.{or-false-left}
 use Rattle.mesh.specs.Mesh.{Mesh}
 use Rattle.mesh.specs.Table.{meshNumber, when, lent, short}
-use Rattle.mesh.proofs.Numbers.{first-is, first-head, first-tail, when-not}
+use Rattle.mesh.proofs.Numbers.{first-head, first-tail, when-not}
 use Rattle.mesh.proofs.Accepted.{Accepted, accepted}
 use Rattle.floating.specs.Limits.{finite, allFinite}
 use Rattle.floating.proofs.Finite.{Finite, finite-lists}
@@ -111,8 +111,8 @@ module _ (p t n : List Float) (b : Bool) (eb : b ≡ every finite p) where
 module _ (m : Mesh) (room : ℕ) where
   pub number-first : (n : ℕ) → n ≡ meshNumber m → (n ≡ 0 → ⊥) → n ≡ savingNumber m room
   unfolding savingNumber
-  number-first n e h =
-      e ∙ sym (first-is (meshNumber m) (when (not (finiteMesh m)) 14 ∷ when (short (lent room (fileLength m) ∷ [])) 9 ∷ []) (λ z. h (e ∙ z)))
+  number-first zero e h = absurd (h refl)
+  number-first (suc n) e h = rw (sym e)
 
   pub number-broken : meshNumber m ≡ 0 → finiteMesh m ≡ false → 14 ≡ savingNumber m room
   unfolding savingNumber
