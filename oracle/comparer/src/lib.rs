@@ -1,17 +1,19 @@
 //! The comparer: the product's C interface against the judge, mesh by mesh.
 //!
 //! `library` asks the product, with lent lists that are filled with a pattern (`lent`); `check` holds what came back to the judge's
-//! answer. `meshes`, `shapes`, `coordinates`, `damage` and `files` make what is asked. A difference is made small by `shrink` and
-//! printed by `show`. What was written is read back by `round_trip`. `slips`, `wrong`, `wrong_files` and `wrong_merging` show that the
-//! comparer can fail. What is public serves the lister too.
+//! answer. `meshes`, `shapes`, `coordinates`, `damage`, `files` and `faults` make what is asked. A difference is made small by `shrink` and
+//! printed by `show`. What was written is read back by `round_trip`. `slips`, `wrong`, `wrong_broken` (over `one_by_one`), `wrong_files` and
+//! `wrong_merging` show that the comparer can fail. What is public serves the lister too.
 
 pub mod check;
 mod coordinates;
 mod damage;
+mod faults;
 pub mod files;
 mod lent;
 mod library;
 pub mod meshes;
+mod one_by_one;
 mod options;
 pub mod random;
 mod round_trip;
@@ -24,6 +26,7 @@ mod tally;
 #[cfg(test)]
 mod tests;
 mod wrong;
+mod wrong_broken;
 mod wrong_files;
 mod wrong_merging;
 
