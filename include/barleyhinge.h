@@ -173,9 +173,11 @@ uint32_t bh_remove_unused_attrs(
     size_t *normalcount);
 
 /* Folded faces (two corners with one position) go or are cut open; no face of the result is folded.
-   Lends 'newcorners', with room for corners_len numbers, and 'newsizes', with room for a third of the count of corners, rounded
-   down (corners_len / 9). The attribute lists don't change.
-   On 0: 3 numbers in 'newcorners' for each of '*cornercount' corners, and '*facecount' sizes.
+   Lends 'newcorners', with room for corners_len numbers, and 'newsizes' and 'origins', each with room for a third of the count of
+   corners, rounded down (corners_len / 9). The attribute lists don't change.
+   On 0: 3 numbers in 'newcorners' for each of '*cornercount' corners, '*facecount' sizes, and as many origins: face k of the result
+   came from face origins[k]. Where nothing is folded they are 0, 1, 2, .. . bh_remove_unused_attrs changes no face's number, so they
+   hold after it too.
    May also answer 9. */
 uint32_t bh_remove_degenerate_faces(
     const double *positions, size_t positions_len,
@@ -185,6 +187,7 @@ uint32_t bh_remove_degenerate_faces(
     const uint32_t *sizes, size_t sizes_len,
     uint32_t *newcorners, size_t newcorners_len,
     uint32_t *newsizes, size_t newsizes_len,
+    uint32_t *origins, size_t origins_len,
     size_t *cornercount,
     size_t *facecount);
 
