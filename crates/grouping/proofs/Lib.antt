@@ -2,3 +2,4 @@ pub mod Placing
 pub mod Passing
 pub mod Pushed
 pub mod Accepting
+pub mod Tags
