@@ -3,3 +3,5 @@ pub mod Passing
 pub mod Pushed
 pub mod Accepting
 pub mod Tags
+pub mod Beside
+pub mod Filling
