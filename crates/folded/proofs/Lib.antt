@@ -6,3 +6,6 @@ pub mod Unfolded
 pub mod TwoParts
 pub mod Answer
 pub mod Examples
+pub mod Testing
+pub mod CameFrom
+pub mod Ascending
