@@ -6,3 +6,5 @@ pub mod Unfolded
 pub mod TwoParts
 pub mod Answer
 pub mod Examples
+pub mod Origins
+pub mod Telling
