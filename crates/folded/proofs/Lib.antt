@@ -9,3 +9,5 @@ pub mod Examples
 pub mod Testing
 pub mod CameFrom
 pub mod Ascending
+pub mod Origins
+pub mod Telling
