@@ -27,7 +27,7 @@ use Rattle.folding.specs.Folding.{pieces}
 use Rattle.folding.proofs.Pieces.{isFace, pieces-sane, triangle-triangles}
 use Rattle.splitting.proofs.Pieces.{third}
 use Rattle.folded.specs.Folded.{removed}
-use Rattle.folded.specs.Working.{Fit, Triangles, Ready, Behind}
+use Rattle.folded.specs.Working.{Fit, Triangles, Ready, Numbered, Behind}
 use Rattle.folded.proofs.Passing.{pieces-rings}
 use Rattle.folded.proofs.Result.{every-pieces, count-pieces, removed-count, removed-length}
 
@@ -68,7 +68,7 @@ rings-append (n ∷ a) b cs =
     ∙ rw (x, y, z)
 
 module _ (cs s : List ℕ) (k : ℕ) (y : Fit cs s) (t : Triangles s k) where
-  count : length (take k s) ≡ k
+  pub count : length (take k s) ≡ k
   count = length-take-le k s (t .within)
 
   total : sum (take k s) ≡ 3 * k
@@ -109,7 +109,7 @@ module _ (cs s : List ℕ) (k : ℕ) (y : Fit cs s) (t : Triangles s k) where
       }
 
   -- all faces
-  faces-split : rings s cs ≡ rings (take k s) (take (width * 3 * k) cs) ++ rings (drop k s) (drop (width * 3 * k) cs)
+  pub faces-split : rings s cs ≡ rings (take k s) (take (width * 3 * k) cs) ++ rings (drop k s) (drop (width * 3 * k) cs)
   faces-split =
       let n : width * sum (take k s) ≡ width * 3 * k = omega (arith, total) in
       ap (λ (l : List ℕ). rings l cs) (sym (take-append-drop k s))
@@ -117,7 +117,7 @@ module _ (cs s : List ℕ) (k : ℕ) (y : Fit cs s) (t : Triangles s k) where
       ∙ ap (λ (j : ℕ). rings (take k s) (take j cs) ++ rings (drop k s) (drop j cs)) n
 
 -- the pieces of triangles are triangles
-triangle-rings : (s cs : List ℕ) → every (eqb 3) s ≡ true → width * sum s ≤ length cs → every isTriangle (each pieces (rings s cs)) ≡ true
+pub triangle-rings : (s cs : List ℕ) → every (eqb 3) s ≡ true → width * sum s ≤ length cs → every isTriangle (each pieces (rings s cs)) ≡ true
 triangle-rings [] cs e h = refl
 triangle-rings (n ∷ s) cs e h =
     let a : 3 ≡ n = eqb-true 3 n (and-left (eqb 3 n) (every (eqb 3) s) e) in
@@ -142,23 +142,32 @@ module _ (cs s : List ℕ) (k : ℕ) (y : Fit cs s) (t : Triangles s k) where
 -- ---- the two parts are written one behind the other
 
 -- room for the triangles, and behind their pieces for what is left of the others
-pub ready-front : (cs s o l : List ℕ) (k : ℕ) → Ready cs s o l → Triangles s k → Ready (take (width * 3 * k) cs) (take k s) o l
-ready-front cs s o l k y t =
+pub ready-front : (cs s o l u : List ℕ) (k : ℕ) → Ready cs s o l u → Triangles s k → Numbered 0 (take (width * 3 * k) cs) (take k s) o l u
+ready-front cs s o l u k y t =
     let n : length (take (width * 3 * k) cs) ≡ width * 3 * k = front-long cs s k (y .fit) t in
     let w = within-corners cs s k (y .fit) t in
-    record { fit = fit-front cs s k (y .fit) t; corners = omega (arith, y .corners); sizes = omega (arith, y .sizes) }
+    record {
+      ready = record { fit = fit-front cs s k (y .fit) t; corners = omega (arith, y .corners); sizes = omega (arith, y .sizes); origins = omega (arith, y .origins) };
+      few = omega (arith, fit-front cs s k (y .fit) t .sound .few);
+    }
 
-pub ready-behind : (cs s o o' l l' : List ℕ) (k c f : ℕ) → Ready cs s o l → Triangles s k
-    → Placed (each pieces (rings (take k s) (take (width * 3 * k) cs))) o o' l l' 0 0 c f → length o' ≡ length o → length l' ≡ length l
-    → Behind (drop (width * 3 * k) cs) (drop k s) o' l' c f
-ready-behind cs s o o' l l' k c f y t p x z =
+pub ready-behind : (cs s o o' l l' u u' : List ℕ) (k c f : ℕ) → Ready cs s o l u → Triangles s k
+    → Placed (each pieces (rings (take k s) (take (width * 3 * k) cs))) o o' l l' 0 0 c f → length o' ≡ length o → length l' ≡ length l → length u' ≡ length u
+    → Behind k (drop (width * 3 * k) cs) (drop k s) o' l' u' c f
+ready-behind cs s o o' l l' u u' k c f y t p x z w' =
     let a = rings (take k s) (take (width * 3 * k) cs) in
     let w = within-corners cs s k (y .fit) t in
     let d : length (drop (width * 3 * k) cs) ≡ length cs - width * 3 * k = length-drop (width * 3 * k) cs in
     let e : cornerCount a ≡ 3 * k = ap sum (sizes-back (take k s) (take (width * 3 * k) cs) (le-of-eq (fit-front cs s k (y .fit) t .sound .adds))) ∙ total cs s k (y .fit) t in
     let g = count-pieces a in
     let h : 3 * length (each pieces a) ≤ cornerCount (each pieces a) = third (each pieces a) (every-pieces isFace a (λ r. pieces-sane r .faces)) in
-    record { fit = fit-behind cs s k (y .fit) t; corners = omega (arith, p .more, y .corners); sizes = omega (arith, p .more, p .most, y .sizes) }
+    record {
+      fit = fit-behind cs s k (y .fit) t;
+      few = (let n : length (drop k s) ≡ length s - k = length-drop k s in omega (arith, t .within, y .fit .sound .few));
+      corners = omega (arith, p .more, y .corners);
+      sizes = omega (arith, p .more, p .most, y .sizes);
+      origins = omega (arith, p .more, p .most, y .origins);
+    }
 
 -- no more is left than was given
 pub left-corners : (cs s o o' l l' : List ℕ) (c f : ℕ) → Fit cs s → Placed (removed (rings s cs)) o o' l l' 0 0 c f → width * c ≤ length cs
@@ -170,6 +179,13 @@ left-faces cs s o o' l l' c f y p =
     omega (arith, p .more, p .most, left-corners cs s o o' l l' c f y p, removed-length (rings s cs))
 
 -- what is written to all that stands behind is written behind
+pub tail-written : (x x' : List ℕ) (a : ℕ) (vs : List ℕ) → x' ≡ sets (take (length x - a) (drop a x)) 0 vs → take a x ++ (x' ++ drop (length x - a) (drop a x)) ≡ sets x a vs
+tail-written x x' a vs e =
+    let n : length (drop a x) ≤ length x - a = le-of-eq (length-drop a x) in
+    ap (λ (t : List ℕ). take a x ++ (x' ++ t)) (drop-of-length-le (drop a x) n)
+    ∙ ap (λ (t : List ℕ). take a x ++ t) (append-nil x' ∙ e ∙ ap (λ (t : List ℕ). sets t 0 vs) (part-to-end x a))
+    ∙ sets-tail x a vs
+
 pub placed-tail : (fs : List Ring) (o o' l l' : List ℕ) (c f c' f' : ℕ)
     → Placed fs (take (length o - width * c) (drop (width * c) o)) o' (take (length l - f) (drop f l)) l' 0 0 c' f'
     → Placed fs o (take (width * c) o ++ (o' ++ drop (length o - width * c) (drop (width * c) o))) l (take f l ++ (l' ++ drop (length l - f) (drop f l))) c f (c + c') (f + f')
@@ -179,13 +195,6 @@ placed-tail fs o o' l l' c f c' f' p = record {
   more = omega (arith, p .more);
   most = omega (arith, p .most);
 }
-  where
-    tail-written : (x x' : List ℕ) (a : ℕ) (vs : List ℕ) → x' ≡ sets (take (length x - a) (drop a x)) 0 vs → take a x ++ (x' ++ drop (length x - a) (drop a x)) ≡ sets x a vs
-    tail-written x x' a vs e =
-        let n : length (drop a x) ≤ length x - a = le-of-eq (length-drop a x) in
-        ap (λ (t : List ℕ). take a x ++ (x' ++ t)) (drop-of-length-le (drop a x) n)
-        ∙ ap (λ (t : List ℕ). take a x ++ t) (append-nil x' ∙ e ∙ ap (λ (t : List ℕ). sets t 0 vs) (part-to-end x a))
-        ∙ sets-tail x a vs
 
 -- the triangles' pieces, and the others behind them
 pub placed-parts : (cs s o o1 o2 l l1 l2 : List ℕ) (k c f c' f' : ℕ) → Fit cs s → Triangles s k

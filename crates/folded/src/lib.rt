@@ -130,7 +130,8 @@ fn keep_all(
 {
     lists::put(corners, newcorners, 0);
     lists::put(sizes, newsizes, 0);
-    grouping::count_tags(origins, sizes.len());
+    let n = sizes.len();
+    sorting::count_up(&mut origins[..n]);
     Filled {
         corners: corners.len() / WIDTH,
         faces: sizes.len(),
