@@ -18,8 +18,9 @@
 
    WHAT A CALL ANSWERS. A number of 'enum bh_number': 0 and the whole result, or the first number of the table that applies and
    nothing: then no lent list is touched, and each count is 0. On 0 the result stands at the front of each lent list, and the room
-   behind it is as it was. Calls check in ascending order of number. Any call on a mesh may answer 1 to 5; what else it may answer
-   stands with it.
+   behind it is as it was. Calls check in ascending order of number, but that 14 comes before 9, and that those on a file have an order of
+   their own. Any call on a mesh may answer 1 to 5; what else it may answer stands with it. Coordinates that are not finite are a mesh's own
+   affair until it is merged (7) or written (14).
 
    MEMORY. No call allocates, and none keeps anything: there are no statics, so calls may run side by side, each with lists of its own to
    write; lists that are only read may be shared. A lent list need not be initialised. What a call needs beside its lists is stack, in KB
@@ -34,9 +35,9 @@
 
 /* The version of this interface. */
 #define BH_VERSION_MAJOR 0
-#define BH_VERSION_MINOR 3
+#define BH_VERSION_MINOR 4
 #define BH_VERSION_PATCH 0
-#define BH_VERSION "0.3.0"
+#define BH_VERSION "0.4.0"
 
 #include <stdbool.h>
 #include <stddef.h>
@@ -75,7 +76,8 @@ enum bh_number {
     BH_NO_HOUSE_WIRES = 10, /* house wires where the verdict is neither Oriented nor Closed */
     BH_FILE_CUT = 11,       /* the file stops inside a record, or before its end record */
     BH_RECORD = 12,         /* a record's kind is unknown, or its length is wrong for its kind */
-    BH_AFTER_END = 13       /* bytes follow the end record */
+    BH_AFTER_END = 13,      /* bytes follow the end record */
+    BH_NOT_FINITE = 14      /* a coordinate in a file is not finite: not a number, or an infinity */
 };
 
 /* The verdicts, from the weakest to the strongest. */
@@ -103,6 +105,7 @@ static inline const char *bh_text(uint32_t number) {
     case BH_FILE_CUT: return "the file stops too early";
     case BH_RECORD: return "a record's kind is unknown, or its length is wrong";
     case BH_AFTER_END: return "bytes follow the end record";
+    case BH_NOT_FINITE: return "a coordinate in a file is not finite";
     default: return "no number of the table";
     }
 }
@@ -278,9 +281,10 @@ uint32_t bh_components(
 
 /* Reads a panel file into five lists. Lends them at the full limits: 3 * BH_MAX_ENTRIES numbers for positions, 2 * BH_MAX_ENTRIES for
    texture points, 3 * BH_MAX_ENTRIES for normals, 3 * BH_MAX_CORNERS for corners, BH_MAX_FACES for sizes.
-   On 0: the lists are a mesh, with so many positions, texture points, normals, corners and faces as the five counts say.
+   On 0: the lists are a mesh, with so many positions, texture points, normals, corners and faces as the five counts say, and every
+   coordinate is finite.
    Answers, in this order: 9; record by record 11 header cut, 12 kind, 12 length, 11 body cut, 12 a face's own count is not that of its
-   length, 3 a face of more than 32 corners, 1 limit; then 13; then 5. */
+   length, 3 a face of more than 32 corners, 14 a coordinate that is not finite, 1 limit; then 13; then 5. */
 uint32_t bh_read_panel(
     const uint8_t *file, size_t file_len,
     double *positions, size_t positions_len,
@@ -295,11 +299,12 @@ uint32_t bh_read_panel(
     size_t *facecount);
 
 /* Writes a mesh as a panel file: positions, texture points, normals, faces in their order, end. bh_read_panel of what was written gives the
-   same mesh, bit for bit, and a mesh that was read from a written file is written as the same bytes. A NaN comes back as a NaN.
+   same mesh, bit for bit, and a mesh that was read from a written file is written as the same bytes.
    Lends 'file', with room for the whole file: 28 bytes for a position or a normal, 20 for a texture point, 5 for a face and 12 for each
    of its corners, 4 for the end; BH_FILE_ROOM bytes are enough for every mesh.
    On 0: '*length' bytes in 'file'.
-   May also answer 9, where 'file' is shorter than the whole file. */
+   May also answer 14, where a coordinate is not finite, of an entry that no corner uses too; then 9, where 'file' is shorter than the
+   whole file. */
 uint32_t bh_write_panel(
     const double *positions, size_t positions_len,
     const double *textures, size_t textures_len,

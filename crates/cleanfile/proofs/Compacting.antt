@@ -15,10 +15,11 @@ use Rattle.compaction.specs.Compaction.{compacted, resultOf, Compaction}
 use Rattle.compaction.specs.Working as steps
 use Rattle.compaction.proofs.Answer.{ready, done}
 use Rattle.compaction.proofs.Laws.{corners-kept, accepted-compacted}
-use Rattle.saving.specs.Pieces.{fileOf}
+use Rattle.saving.specs.Pieces.{finiteMesh, fileOf}
 use Rattle.saving.specs.Working as writing
 use Rattle.saving.proofs.Parting.{file-is-long, file-fits}
 use Rattle.cleanfile.specs.Working.{CleanRoom, Filed}
+use Rattle.cleanfile.proofs.Kept.{compacted-finite}
 use Rattle.lists.specs.Putting.{Front}
 use Rattle.lists.proofs.Fronts.{front}
 use Rattle.mesh.proofs.MeshFronts.{front-positions, front-textures, front-normals}
@@ -75,7 +76,11 @@ module _ {m : Mesh} {c c′ out : List ℕ} {p p′ t t′ n n′ : List Float} 
   left-accepted = ap meshNumber smaller-are ∙ smaller-accepted
 
   pub smaller-ready : writing.Ready left out
-  smaller-ready = record { accepted = left-accepted; room = omega (arith, file-fits left left-accepted, room .ready .room) }
+  smaller-ready = record {
+    accepted = left-accepted;
+    are-finite = ap finiteMesh smaller-are ∙ compacted-finite m (room .ready .are-finite);
+    room = omega (arith, file-fits left left-accepted, room .ready .room);
+  }
 
   pub smaller-filed : (out′ : List ℕ) (l : ℕ) → writing.Stored (fileOf left) out out′ 0 l → Filed smaller out out′ l
   smaller-filed out′ l h =

@@ -64,7 +64,11 @@ module _ {m : Mesh} {c c′ s s′ o o′ out : List ℕ} {k f : ℕ} (room : Me
   unfolded-are = rw (unfolded-corners .is, unfolded-sizes .is)
 
   pub unfolded-ready : Ready left out
-  unfolded-ready = record { accepted = ap meshNumber unfolded-are ∙ unfolded-accepted; room = room .ready .room }
+  unfolded-ready = record {
+    accepted = ap meshNumber unfolded-are ∙ unfolded-accepted;
+    are-finite = room .ready .are-finite;
+    room = room .ready .room;
+  }
 
   pub unfolded-filed : (out′ : List ℕ) (n : ℕ) → Filed (compacted left) out out′ n → Filed (cleaned m) out out′ n
   unfolding cleaned

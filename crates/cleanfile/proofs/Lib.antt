@@ -1,4 +1,5 @@
 pub mod Reading
 pub mod Folded
+pub mod Kept
 pub mod Compacting
 pub mod Promised

@@ -1,25 +1,24 @@
--- What is left of a file is an accepted mesh with f64 coordinates: so its file fits the buffer, and is read again. Assumes nothing.
+-- What is left of a file is an accepted mesh with finite f64 coordinates: so its file fits the buffer, and is read again. Assumes nothing.
 use mathlib.Core.Path.{_≡_, refl, sym, _∙_}
 use mathlib.Core.Bool.{true, false, _||_}
 use mathlib.Core.List.{List, [], _∷_}
-use Prim.Native.Nat.{ℕ, zero, suc, _*_, _≤_}
+use Prim.Native.Nat.{ℕ, zero, suc, _≤_}
 use native.Mathlib.Omega.{arith}
-use lib.ListN.{length, drop}
+use lib.ListN.{length}
 use lib.Dec.{ltb}
 use lib.Ieee.{Float}
 use borrow.Author.Tests.{ltb-false}
-use Rattle.lists.specs.Lists.{every, each}
-use Rattle.lists.proofs.Bools.{and-both, or-false-left}
-use Rattle.lists.proofs.Parts.{every-append, every-take, every-drop}
+use Rattle.lists.proofs.Bools.{or-false-left}
 use Rattle.mesh.specs.Mesh.{Mesh}
 use Rattle.mesh.specs.Table.{meshNumber, when, short}
 use Rattle.mesh.proofs.Numbers.{first-head, first-tail, when-not}
 use Rattle.floating.specs.Promises.{Doubles}
 use Rattle.folded.specs.Folded.{unfoldedMesh}
-use Rattle.compaction.specs.Compaction.{entryAt, entries, usedPositions, usedTextures, usedNormals, compacted}
+use Rattle.compaction.specs.Compaction.{entries, usedPositions, usedTextures, usedNormals, compacted}
 use Rattle.panelfile.specs.Reading.{readAll, finish, readingNumber, panelMesh}
 use Rattle.panelfile.proofs.Ending.{read-accepted}
-use Rattle.saving.specs.Pieces.{fileLength, fileLimit}
+use Rattle.panelfile.proofs.Values.{read-finite}
+use Rattle.saving.specs.Pieces.{finiteMesh, fileLength, fileLimit}
 use Rattle.saving.proofs.Parting.{file-fits}
 use Rattle.reopened.specs.Promises.{DoubleMesh}
 use Rattle.reopened.specs.Said.{isDouble}
@@ -29,6 +28,7 @@ use Rattle.reopened.proofs.Reopened.{reopens}
 use Rattle.cleaning.specs.Cleaning.{cleaned}
 use Rattle.cleaning.proofs.Cleaned.{cleaned-accepted}
 use Rattle.cleanfile.specs.Cleaning.{meshLeft, cleaningNumber}
+use Rattle.cleanfile.proofs.Kept.{entries-pass, compacted-finite}
 use Rattle.cleanfile.specs.Promises.{LeftIsAccepted, CleanedFits, CleanedReopens}
 
 -- ---- accepted
@@ -62,18 +62,7 @@ cleaned-fits file before afterwards answer c = go (answer .number) refl
         omega (arith, r .0, l, file-fits (meshLeft file) (left-accepted file (r .1)))
     go (suc n) e = let l : answer .length ≡ 0 = rw e at (c .byte-count) in omega arith
 
--- ---- f64 coordinates
-
--- entries of a list of f64 are f64
-every-each : (f : ℕ → List Float) → ((i : ℕ) → every isDouble (f i) ≡ true) → (us : List ℕ) → every isDouble (each f us) ≡ true
-every-each f h [] = refl
-every-each f h (u ∷ us) = every-append isDouble (f u) (each f us) ∙ and-both (every isDouble (f u)) (every isDouble (each f us)) (h u) (every-each f h us)
-
-entries-double : (w : ℕ) (l : List Float) (us : List ℕ) → Doubles l → Doubles (entries w l us)
-unfolding entries
-entries-double w l us d =
-    doubles-are (each (entryAt w l) us)
-    (every-each (entryAt w l) (λ i. every-take isDouble w (drop (i * w) l) (every-drop isDouble (i * w) l (doubles l d))) us)
+-- ---- finite f64 coordinates
 
 left-double : (m : Mesh) → DoubleMesh m → DoubleMesh (cleaned m)
 unfolding cleaned compacted unfoldedMesh
@@ -82,6 +71,15 @@ left-double m d = record {
   textures = entries-double 2 (m .textures) (usedTextures (unfoldedMesh m)) (d .textures);
   normals = entries-double 3 (m .normals) (usedNormals (unfoldedMesh m)) (d .normals);
 }
+  where
+    entries-double : (w : ℕ) (l : List Float) (us : List ℕ) → Doubles l → Doubles (entries w l us)
+    entries-double w l us h = doubles-are (entries w l us) (entries-pass isDouble w l us (doubles l h))
+
+left-finite : (m : Mesh) → finiteMesh m ≡ true → finiteMesh (cleaned m) ≡ true
+unfolding cleaned unfoldedMesh
+left-finite m h = compacted-finite (unfoldedMesh m) h
 
 pub cleaned-reopens : CleanedReopens
-cleaned-reopens file h = reopens (meshLeft file) (left-accepted file h) (left-double (panelMesh file) (read-doubles file))
+cleaned-reopens file h =
+    let m = panelMesh file in
+    reopens (meshLeft file) (left-accepted file h) (left-double m (read-doubles file)) (left-finite m (read-finite file))

@@ -17,7 +17,8 @@ use Rattle.panelfile.specs.declared.MeshRead.{MeshRead}
 use Rattle.panelfile.specs.Reading.{readAll, finish, fullRoom, readingNumber, panelMesh}
 use Rattle.panelfile.specs.Answer.{PanelRead}
 use Rattle.panelfile.proofs.Ending.{read-accepted}
-use Rattle.saving.specs.Pieces.{fileLimit}
+use Rattle.panelfile.proofs.Values.{read-finite}
+use Rattle.saving.specs.Pieces.{finiteMesh, fileLimit}
 use Rattle.cleanfile.specs.declared.Cleaned.{Cleaned}
 use Rattle.cleaning.specs.Cleaning.{cleaned}
 use Rattle.cleanfile.specs.Cleaning.{meshLeft, cleanFile, cleaningNumber, PanelCleaned}
@@ -83,7 +84,11 @@ module _ {file : List ℕ} {r : MeshRead} {p p′ t t′ n n′ : List Float} {c
       }
 
   pub read-ready : r .number ≡ 0 → Ready given out
-  read-ready z = record { accepted = ap meshNumber (fronts-are (read-fronts z)) ∙ mesh-accepted z; room = room .room }
+  read-ready z = record {
+    accepted = ap meshNumber (fronts-are (read-fronts z)) ∙ mesh-accepted z;
+    are-finite = ap finiteMesh (fronts-are (read-fronts z)) ∙ read-finite file;
+    room = room .room;
+  }
 
   -- a refused file, and one whose mesh was cleaned and written
   pub read-refused : (r .number ≡ 0 → ⊥) → Answered (readingNumber [] file) (meshLeft file) out out (refusedBy (r .number))

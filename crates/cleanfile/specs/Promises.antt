@@ -17,6 +17,6 @@ LeftIsAccepted = (file : List ℕ) → readingNumber [] file ≡ 0 → meshNumbe
 abbrev pub CleanedFits : Type 0
 CleanedFits = (file before afterwards : List ℕ) (answer : Cleaned) → PanelCleaned file before afterwards answer → answer .length ≤ length before
 
--- it is read again, into the mesh that was left, and written again byte for byte: also where the given file holds what is no number
+-- it is read again, into the mesh that was left, and written again byte for byte
 abbrev pub CleanedReopens : Type 0
 CleanedReopens = (file : List ℕ) → readingNumber [] file ≡ 0 → Reopens (meshLeft file)

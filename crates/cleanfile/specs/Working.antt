@@ -1,6 +1,7 @@
 -- What the functions of the crate hand to one another; a caller needs none of it. Assumes nothing.
 use Prim.Native.Nat.{ℕ, _≤_}
 use mathlib.Core.Path.{_≡_}
+use mathlib.Core.Bool.{true}
 use mathlib.Core.List.{List}
 use lib.ListN.{length}
 use lib.Seq.{sets}
@@ -8,12 +9,13 @@ use lib.Ieee.{Float}
 use Rattle.mesh.specs.Limits.{faceLimit, pointNumbers, texelNumbers, cornerNumbers}
 use Rattle.mesh.specs.Mesh.{Mesh}
 use Rattle.mesh.specs.Table.{meshNumber, after}
-use Rattle.saving.specs.Pieces.{fileOf, fileLength, fileLimit}
+use Rattle.saving.specs.Pieces.{finiteMesh, fileOf, fileLength, fileLimit}
 use Rattle.cleanfile.specs.declared.Cleaned.{Cleaned}
 
--- an accepted mesh, and room for every file
+-- an accepted mesh with finite coordinates, and room for every file
 pub record Ready (m : Mesh) (out : List ℕ) : Type 0 where
   pub accepted : meshNumber m ≡ 0
+  pub are-finite : finiteMesh m ≡ true
   pub room : fileLimit ≤ length out
 
 -- lists at the full limits for a mesh, for what is left of its faces with their origins, and for what they use, and room for the file

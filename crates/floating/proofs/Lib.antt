@@ -1,5 +1,6 @@
 pub mod Literals
 pub mod Nans
+pub mod Finite
 pub mod Ranges
 pub mod Cut
 pub mod Places

@@ -1,10 +1,12 @@
--- What rows 6, 7 and 8 of document 01's table say of one number. `fin s m e` is the number m * 2 ^ e, negative where s is true;
--- m * 2 ^ e is the fraction m * up e / down e. Assumes nothing.
+-- What rows 6, 7 and 8 of document 01's table, and row 14 of document 02, say of one number. `fin s m e` is the number m * 2 ^ e, negative
+-- where s is true; m * 2 ^ e is the fraction m * up e / down e. Assumes nothing.
 use mathlib.Core.Bool.{Bool, true, false, not, _&&_}
+use mathlib.Core.List.{List}
 use Prim.Native.Nat.{ℕ, _*_, _^_}
 use lib.IntN.{ℤ, pos, negsuc}
 use lib.Dec.{leb, ltb}
 use lib.Ieee.{Float, nan, inf, fin, up, down, binary64, le, div}
+use Rattle.lists.specs.Lists.{every}
 
 -- 2 ^ e
 abbrev pub power : ℤ → Float
@@ -45,3 +47,13 @@ quotient t x = div binary64 x t
 
 abbrev pub distant : Float → Float → Bool
 distant t x = far (quotient t x)
+
+-- 14: what is finite is a number, and no infinity; it may be as large as an f64 can be
+unfoldable pub finite : Float → Bool
+finite nan = false
+finite (inf s) = false
+finite (fin s m e) = true
+
+-- every coordinate of three lists is: those of positions, texture points and normals, whether a corner uses them or not
+unfoldable pub allFinite : List Float → List Float → List Float → Bool
+allFinite p t n = every finite p && (every finite t && every finite n)

@@ -1,6 +1,6 @@
 // The f64 of document 01, and nothing else: what its table asks of one number, points and their box, scaling, the cell of a
 // quotient, and the distance of two points. Each operation is one f64 operation, in the order that the document writes.
-// Clients cite specs/: `unfit`, `boundless` and `distant` of the table, `scaledList`, `cell`, `compared` and `near`.
+// Clients cite specs/: `unfit`, `boundless`, `distant` and `finite` of the table, `scaledList`, `cell`, `compared` and `near`.
 ghost use mathlib.Core.Path.{_≡_};
 ghost use mathlib.Core.Bool.{Bool, true, false, not, _&&_};
 ghost use mathlib.Core.List.{List, [], _∷_, map};
@@ -9,7 +9,8 @@ ghost use lib.Dec.{T};
 ghost use lib.ListN.{length, getD};
 ghost use lib.Seq.{sets};
 ghost use lib.Ieee.{Float, binary64, ofBits, nanBits, add, div};
-ghost use Rattle.floating.specs.Limits.{unfit, boundless, far, distant};
+ghost use Rattle.lists.specs.Lists.{every};
+ghost use Rattle.floating.specs.Limits.{unfit, boundless, far, distant, finite};
 ghost use Rattle.floating.specs.Points.{coordinates, leading, pointAt, texelAt, pointsOf, row, Whole};
 ghost use Rattle.floating.specs.Scaling.{lesser, greater, scaledOf, axes1, axes2, axes3, boxWith, boxOf, centre, divisor, scaledList};
 ghost use Rattle.floating.specs.Cells.{cut, place, beside};
@@ -105,6 +106,30 @@ pub fn is_distant(t: f64, x: f64) -> bool
         if q < QUOTIENT_EDGE {
             return false;
         }
+    }
+    true
+}
+
+// 14: a coordinate is finite where it lies between the infinities; a NaN lies nowhere.
+pub fn is_finite(x: f64) -> bool
+    ensures { λ r. ⌜ r ≡ finite x ⌝ }
+{
+    if -1.0 / 0.0 < x {
+        return x < 1.0 / 0.0;
+    }
+    false
+}
+
+// Every coordinate of a list is.
+pub fn are_finite(s: &[f64]) -> bool
+    ensures { λ r. ⌜ r ≡ every finite (now (s .entry)) ⌝ }
+{
+    let mut k: usize = 0;
+    while k < s.len() {
+        if !is_finite(s[k]) {
+            return false;
+        }
+        k += 1;
     }
     true
 }

@@ -1,4 +1,5 @@
 pub mod Sane
+pub mod Values
 pub mod Looping
 pub mod Fronts
 pub mod Ending

@@ -7,14 +7,16 @@ use native.Mathlib.Omega.{arith}
 use lib.ListN.{length}
 use lib.Dec.{ltb, eqb}
 use borrow.Author.Tests.{ltb-false, not-false, eqb-true}
+use Rattle.lists.specs.Lists.{every}
+use Rattle.floating.specs.Limits.{finite}
 use Rattle.mesh.specs.Limits.{ringLimit}
 use Rattle.mesh.specs.Table.{when, firstOf}
 use Rattle.mesh.proofs.Numbers.{first-head, first-tail, when-not}
 use Rattle.records.specs.declared.Record.{Record}
-use Rattle.records.specs.declared.Record.the-variants.{Face, Refused}
+use Rattle.records.specs.declared.Record.the-variants.{Position, Texture, Normal, Face, Refused}
 use Rattle.little.specs.Little.{byte, half}
 use Rattle.records.specs.Lengths.{headerLength, pointLength, texelLength, faceLength, lastKind}
-use Rattle.records.specs.Records.{endOf, Placed, lengthFits, unless, faceFrom, bodyFrom, recordFrom}
+use Rattle.records.specs.Records.{valuesOf, endOf, Placed, lengthFits, unless, pointFrom, texelFrom, attribute, faceFrom, bodyFrom, recordFrom}
 
 -- an answer at a place of a file of that size
 pub record Fitted (size at : ℕ) (r : Record) : Type 0 where
@@ -28,6 +30,10 @@ refused-fits size at k h = record { fits = h; placed = λ e. let z : suc k ≡ 0
 unless-fits : (size at k : ℕ) (r : Record) → at ≤ size → (k ≡ 0 → Fitted size at r) → Fitted size at (unless k r)
 unless-fits size at zero r h f = f refl
 unless-fits size at (suc k) r h f = refused-fits size at k h
+
+attribute-fits : (size at : ℕ) (r : Record) → at ≤ size → endOf at r ≤ size → Placed at r → Fitted size at (attribute r)
+unfolding attribute
+attribute-fits size at r h l p = unless-fits size at (when (not (every finite (valuesOf r))) 14) r h (λ e. record { fits = l; placed = p })
 
 face-fits : (s : List ℕ) (at n : ℕ) → at ≤ length s → at + headerLength + n ≤ length s → Fitted (length s) at (faceFrom s (at + headerLength) n)
 unfolding faceFrom
@@ -49,9 +55,12 @@ body-fits :
     → Fitted (length s) at (bodyFrom s (at + headerLength) n k)
 unfolding bodyFrom lengthFits
 body-fits s at n zero h l e = record { fits = omega arith; placed = tt }
-body-fits s at n (suc zero) h l e = record { fits = let i : n ≡ pointLength = eqb-true n pointLength e in omega arith; placed = tt }
-body-fits s at n (suc (suc zero)) h l e = record { fits = let i : n ≡ texelLength = eqb-true n texelLength e in omega arith; placed = tt }
-body-fits s at n (suc (suc (suc zero))) h l e = record { fits = let i : n ≡ pointLength = eqb-true n pointLength e in omega arith; placed = tt }
+body-fits s at n (suc zero) h l e =
+    attribute-fits (length s) at (Position (pointFrom s (at + headerLength))) h (let i : n ≡ pointLength = eqb-true n pointLength e in omega arith) tt
+body-fits s at n (suc (suc zero)) h l e =
+    attribute-fits (length s) at (Texture (texelFrom s (at + headerLength))) h (let i : n ≡ texelLength = eqb-true n texelLength e in omega arith) tt
+body-fits s at n (suc (suc (suc zero))) h l e =
+    attribute-fits (length s) at (Normal (pointFrom s (at + headerLength))) h (let i : n ≡ pointLength = eqb-true n pointLength e in omega arith) tt
 body-fits s at n (suc (suc (suc (suc k)))) h l e = face-fits s at n h l
 
 pub record-fits : (s : List ℕ) (at : ℕ) → at ≤ length s → Fitted (length s) at (recordFrom s at)

@@ -1,3 +1,4 @@
 pub mod Recorded
 pub mod Fitting
+pub mod Values
 pub mod Ringing

@@ -1,6 +1,6 @@
 -- One record: the length of a body by its kind, a body by its kind, and answers that are of other variants. Assumes nothing.
 use mathlib.Core.Path.{_≡_, refl, sym, _∙_}
-use mathlib.Core.Bool.{true, false, not}
+use mathlib.Core.Bool.{Bool, true, false, not, and-true}
 use mathlib.Core.List.{List, [], _∷_}
 use Prim.Native.Nat.{ℕ, zero, suc, _+_, _*_, _-_, _%_, _≤_, _<_}
 use native.Mathlib.Omega.{arith}
@@ -8,14 +8,17 @@ use types.Run.{OneOf, miss}
 use denote.Enum.Declared.{tagOf}
 use lib.Dec.{eqb, leb}
 use lib.ListN.{length}
+use lib.Ieee.{Float}
 use borrow.Author.Tests.{eqb-true, eq-eqb, ne-eqb, lt-ltb, le-ltb}
+use Rattle.lists.specs.Lists.{every}
 use Rattle.lists.proofs.Bools.{and-right}
+use Rattle.floating.specs.Limits.{finite}
 use Rattle.mesh.specs.Limits.{ringLimit}
 use Rattle.records.specs.declared.Record.{Record}
 use Rattle.records.specs.declared.Record.the-variants.{Position, Texture, Normal, Face, End, Refused}
 use Rattle.little.specs.Little.{byte, half}
 use Rattle.records.specs.Lengths.{headerLength, cornerLength, pointLength, faceLength, countMost, lastKind}
-use Rattle.records.specs.Records.{lengthFits, faceFrom, bodyFrom, recordFrom, numberOf}
+use Rattle.records.specs.Records.{numberOf, valuesOf, lengthFits, attribute, faceFrom, bodyFrom, recordFrom}
 use Rattle.records.proofs.Record.{the-type}
 
 -- ---- the length of a body
@@ -58,6 +61,29 @@ pub body-face :
     → faceFrom s b n ≡ bodyFrom s b n k
 unfolding bodyFrom
 body-face s b n k h x y z w = rw (four k h x y z w)
+
+-- ---- coordinates one after the other, with b whether the first is finite
+
+module _ (x : Float) (l : List Float) (b : Bool) (e : b ≡ finite x) where
+  pub first-broken : b ≡ false → false ≡ every finite (x ∷ l)
+  first-broken h = rw (sym e ∙ h)
+
+  pub first-passes : b ≡ true → (q : Bool) → q ≡ every finite l → q ≡ every finite (x ∷ l)
+  first-passes h q f = rw (sym e ∙ h) f
+
+pub last-one : (x : Float) (b : Bool) → b ≡ finite x → b ≡ every finite (x ∷ [])
+last-one x b e = e ∙ sym (and-true (finite x))
+
+-- ---- an attribute, with b whether its coordinates are finite
+
+module _ (r : Record) (b : Bool) (e : b ≡ every finite (valuesOf r)) where
+  pub attribute-broken : b ≡ false → Refused 14 ≡ attribute r
+  unfolding attribute
+  attribute-broken h = rw (← e, h)
+
+  pub attribute-good : b ≡ true → r ≡ attribute r
+  unfolding attribute
+  attribute-good h = rw (← e, h)
 
 -- ---- a face, with c its count
 

@@ -6,18 +6,20 @@ use mathlib.Core.List.{List, [], _∷_}
 use lib.ListN.{length}
 use lib.Dec.{ltb, leb, eqb}
 use lib.Ieee.{Float, ofBits, binary64}
+use Rattle.lists.specs.Lists.{every}
 use Rattle.little.specs.Little.{byte, half, word, long}
 use Rattle.mesh.specs.Limits.{ringLimit}
 use Rattle.mesh.specs.Mesh.{Ring}
 use Rattle.mesh.specs.Table.{when, firstOf}
 use Rattle.floating.specs.declared.Point.{Point}
 use Rattle.floating.specs.declared.Texel.{Texel}
+use Rattle.floating.specs.Limits.{finite}
 use Rattle.floating.specs.Points.{point, texel, coordinates}
 use Rattle.records.specs.Lengths.{headerLength, coordinateLength, cornerLength, pointLength, texelLength, faceLength, pointRecord, texelRecord, countMost, lastKind}
 use Rattle.records.specs.declared.Record.{Record}
 use Rattle.records.specs.declared.Record.the-variants.{Position, Texture, Normal, Face, End, Refused}
 
--- numbers are little-endian; a coordinate is the f64 of eight bytes; every NaN pattern is the one NaN
+-- numbers are little-endian; a coordinate is the f64 of eight bytes
 unfoldable pub coordinate : List ℕ → ℕ → Float
 coordinate s i = ofBits binary64 (long s i)
 
@@ -26,47 +28,6 @@ pointFrom s i = point (coordinate s i) (coordinate s (i + coordinateLength)) (co
 
 unfoldable pub texelFrom : List ℕ → ℕ → Texel
 texelFrom s i = texel (coordinate s i) (coordinate s (i + coordinateLength))
-
--- the length of a body by its kind: end 0, position 24, texture 16, normal 24, and of a face 1 + 12m for some m up to 255
-unfoldable pub lengthFits : ℕ → ℕ → Bool
-lengthFits zero n = eqb n 0
-lengthFits (suc zero) n = eqb n pointLength
-lengthFits (suc (suc zero)) n = eqb n texelLength
-lengthFits (suc (suc (suc zero))) n = eqb n pointLength
-lengthFits (suc (suc (suc (suc k)))) n = leb n (faceLength countMost) && eqb (n % cornerLength) 1
-
--- a refusal where a number is given, else the record
-abbrev pub unless : ℕ → Record → Record
-unless zero r = r
-unless (suc n) r = Refused (suc n)
-
--- a face: n unlike m gives 12, n over 32 gives 3; its first corner stands behind the byte n
-unfoldable pub faceFrom : List ℕ → ℕ → ℕ → Record
-faceFrom s b n =
-    unless (firstOf (when (not (eqb (faceLength (byte s b)) n)) 12 ∷ when (ltb ringLimit (byte s b)) 3 ∷ [])) (Face (b + 1) (byte s b))
-
--- the body of n bytes at b, by its kind
-unfoldable pub bodyFrom : List ℕ → ℕ → ℕ → ℕ → Record
-bodyFrom s b n zero = End
-bodyFrom s b n (suc zero) = Position (pointFrom s b)
-bodyFrom s b n (suc (suc zero)) = Texture (texelFrom s b)
-bodyFrom s b n (suc (suc (suc zero))) = Normal (pointFrom s b)
-bodyFrom s b n (suc (suc (suc (suc k)))) = faceFrom s b n
-
--- the record at a place: two-byte length of its body, two-byte kind, body; header cut 11, kind 12, length 12, body cut 11
-unfoldable pub recordFrom : List ℕ → ℕ → Record
-recordFrom s at =
-    let n = half s at in
-    let kind = half s (at + 2) in
-    let b = at + headerLength in
-    unless
-    (firstOf
-    (when (ltb (length s - at) headerLength) 11
-    ∷ when (ltb lastKind kind) 12
-    ∷ when (not (lengthFits kind n)) 12
-    ∷ when (ltb (length s - b) n) 11
-    ∷ []))
-    (bodyFrom s b n kind)
 
 -- this paper's number for each answer: that of a refusal, 0 for every other
 abbrev pub numberOf : Record → ℕ
@@ -85,6 +46,51 @@ valuesOf (Normal p) = coordinates p
 valuesOf (Face a n) = []
 valuesOf End = []
 valuesOf (Refused n) = []
+
+-- the length of a body by its kind: end 0, position 24, texture 16, normal 24, and of a face 1 + 12m for some m up to 255
+unfoldable pub lengthFits : ℕ → ℕ → Bool
+lengthFits zero n = eqb n 0
+lengthFits (suc zero) n = eqb n pointLength
+lengthFits (suc (suc zero)) n = eqb n texelLength
+lengthFits (suc (suc (suc zero))) n = eqb n pointLength
+lengthFits (suc (suc (suc (suc k)))) n = leb n (faceLength countMost) && eqb (n % cornerLength) 1
+
+-- a refusal where a number is given, else the record
+abbrev pub unless : ℕ → Record → Record
+unless zero r = r
+unless (suc n) r = Refused (suc n)
+
+-- a position, a texture point or a normal: a coordinate that is not finite gives 14
+unfoldable pub attribute : Record → Record
+attribute r = unless (when (not (every finite (valuesOf r))) 14) r
+
+-- a face: n unlike m gives 12, n over 32 gives 3; its first corner stands behind the byte n
+unfoldable pub faceFrom : List ℕ → ℕ → ℕ → Record
+faceFrom s b n =
+    unless (firstOf (when (not (eqb (faceLength (byte s b)) n)) 12 ∷ when (ltb ringLimit (byte s b)) 3 ∷ [])) (Face (b + 1) (byte s b))
+
+-- the body of n bytes at b, by its kind
+unfoldable pub bodyFrom : List ℕ → ℕ → ℕ → ℕ → Record
+bodyFrom s b n zero = End
+bodyFrom s b n (suc zero) = attribute (Position (pointFrom s b))
+bodyFrom s b n (suc (suc zero)) = attribute (Texture (texelFrom s b))
+bodyFrom s b n (suc (suc (suc zero))) = attribute (Normal (pointFrom s b))
+bodyFrom s b n (suc (suc (suc (suc k)))) = faceFrom s b n
+
+-- the record at a place: two-byte length of its body, two-byte kind, body; header cut 11, kind 12, length 12, body cut 11
+unfoldable pub recordFrom : List ℕ → ℕ → Record
+recordFrom s at =
+    let n = half s at in
+    let kind = half s (at + 2) in
+    let b = at + headerLength in
+    unless
+    (firstOf
+    (when (ltb (length s - at) headerLength) 11
+    ∷ when (ltb lastKind kind) 12
+    ∷ when (not (lengthFits kind n)) 12
+    ∷ when (ltb (length s - b) n) 11
+    ∷ []))
+    (bodyFrom s b n kind)
 
 -- n corners from a place on, three four-byte numbers each
 abbrev pub ringFrom : List ℕ → ℕ → ℕ → Ring

@@ -1,7 +1,11 @@
 // Coordinates and points in bytes.
 ghost use mathlib.Core.Path.{_≡_};
+ghost use mathlib.Core.List.{[], _∷_};
 ghost use Prim.Native.Nat.{_+_, _≤_};
 ghost use lib.ListN.{length};
+ghost use Rattle.lists.specs.Lists.{every};
+ghost use Rattle.floating.specs.Limits.{finite};
+ghost use Rattle.floating.specs.Points.{coordinates};
 ghost use Rattle.records.specs.Lengths.{coordinateLength, pointLength, texelLength};
 ghost use Rattle.records.specs.Records as records;
 use crate::COORDINATE_LENGTH;
@@ -38,4 +42,25 @@ pub fn texel_from(s: &[u8], i: usize) -> Texel
         u: coordinate(s, i),
         v: coordinate(s, i + COORDINATE_LENGTH),
     }
+}
+
+// Every coordinate is finite.
+pub fn point_is_finite(p: Point) -> bool
+    ensures { λ r. ⌜ r ≡ every finite (coordinates p) ⌝ }
+{
+    if floating::is_finite(p.x) {
+        if floating::is_finite(p.y) {
+            return floating::is_finite(p.z);
+        }
+    }
+    false
+}
+
+pub fn texel_is_finite(t: Texel) -> bool
+    ensures { λ r. ⌜ r ≡ every finite (t .u ∷ t .v ∷ []) ⌝ }
+{
+    if floating::is_finite(t.u) {
+        return floating::is_finite(t.v);
+    }
+    false
 }

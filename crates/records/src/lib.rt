@@ -14,6 +14,7 @@ ghost use Rattle.lists.specs.Lists.{joined};
 ghost use Rattle.mesh.specs.Limits.{width};
 ghost use Rattle.records.specs.Lengths.{cornerLength, lastKind};
 ghost use Rattle.records.specs.Records as records;
+ghost use Rattle.records.specs.declared.Record.the-variants.{Position, Texture, Normal};
 use floating::Point;
 use floating::Texel;
 
@@ -102,15 +103,43 @@ fn body(s: &[u8], b: usize, n: usize, kind: u32) -> Record
         return Record::End;
     }
     if kind == 1 {
-        return Record::Position(coordinates::point_from(s, b));
+        return position(coordinates::point_from(s, b));
     }
     if kind == 2 {
-        return Record::Texture(coordinates::texel_from(s, b));
+        return texture(coordinates::texel_from(s, b));
     }
     if kind == 3 {
-        return Record::Normal(coordinates::point_from(s, b));
+        return normal(coordinates::point_from(s, b));
     }
     face(s, b, n)
+}
+
+// A position, a texture point or a normal: a coordinate that is not finite gives 14.
+fn position(p: Point) -> Record
+    ensures { λ r. ⌜ r ≡ records.attribute (Position p) ⌝ }
+{
+    if coordinates::point_is_finite(p) {
+        return Record::Position(p);
+    }
+    Record::Refused(14)
+}
+
+fn texture(t: Texel) -> Record
+    ensures { λ r. ⌜ r ≡ records.attribute (Texture t) ⌝ }
+{
+    if coordinates::texel_is_finite(t) {
+        return Record::Texture(t);
+    }
+    Record::Refused(14)
+}
+
+fn normal(p: Point) -> Record
+    ensures { λ r. ⌜ r ≡ records.attribute (Normal p) ⌝ }
+{
+    if coordinates::point_is_finite(p) {
+        return Record::Normal(p);
+    }
+    Record::Refused(14)
 }
 
 // A face: n unlike m gives 12, n over 32 gives 3.

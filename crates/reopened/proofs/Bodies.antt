@@ -2,29 +2,32 @@
 use mathlib.Core.Path.{_≡_, refl, sym, ap, ap₂, _∙_}
 use mathlib.Core.Bool.{true}
 use mathlib.Core.List.{List, [], _∷_, _++_, append-assoc}
-use Prim.Native.Nat.{ℕ, suc, _+_, _*_, _<_}
+use Prim.Native.Nat.{ℕ, suc, _+_, _*_, _≤_, _<_}
 use native.Mathlib.Nat.{mod-eq-of-lt}
 use native.Mathlib.Omega.{arith}
 use lib.ListN.{length, drop}
 use lib.Dec.{T}
 use lib.Ieee.{Float, binary64, fits, toBits, ofBits}
-use lib.Ieee.Bits.{ofBits-toBits, toBits-lt}
+use lib.Ieee.Bits.{ofBits-toBits, toBits-ofBits, toBits-lt}
 use borrow.Author.Tests.{ltb-true, eqb-true}
 use Rattle.lists.specs.Lists.{every, each}
 use Rattle.lists.proofs.Bools.{and-left, and-right}
-use Rattle.little.specs.Little.{word, wordBytes}
-use Rattle.little.proofs.Written.{behind, length-word, word-written, long-written}
+use Rattle.little.specs.Little.{Bytes, half, word, long, longValues, wordBytes, longBytes}
+use Rattle.little.proofs.Written.{behind, length-word, word-written, long-written, long-again}
 use Rattle.mesh.specs.Limits.{width}
 use Rattle.mesh.specs.Mesh.{Corner, Ring}
 use Rattle.mesh.proofs.Corners.{isCorner}
 use Rattle.floating.specs.declared.Point.{Point}
 use Rattle.floating.specs.declared.Texel.{Texel}
+use Rattle.floating.specs.Limits.{finite}
+use Rattle.floating.proofs.Finite.{no-nan}
 use Rattle.floating.specs.Points.{point, texel, coordinates}
 use Rattle.records.specs.Records.{coordinate, pointFrom, texelFrom, ringFrom}
 use Rattle.saving.specs.Pieces.{coordinateBytes, cornerBytes, pair}
 use Rattle.saving.proofs.Storing.{length-coordinate}
 use Rattle.saving.proofs.Faces.{length-words}
-use Rattle.reopened.specs.Said.{isDouble, isWord}
+use Rattle.reopened.specs.Promises.{CoordinateReopens}
+use Rattle.reopened.specs.Said.{isDouble, isCoordinate, isWord}
 
 -- ---- one after the other
 
@@ -38,31 +41,49 @@ module _ {A : Type 0} (f : A → List ℕ) (s : List ℕ) (i : ℕ) (x : A) (xs 
 
 -- ---- coordinates
 
-pub coordinate-back : (s : List ℕ) (i : ℕ) (x : Float) (r : List ℕ) → isDouble x ≡ true → drop i s ≡ coordinateBytes x ++ r → coordinate s i ≡ x
+pub coordinate-back : (s : List ℕ) (i : ℕ) (x : Float) (r : List ℕ) → isCoordinate x ≡ true → drop i s ≡ coordinateBytes x ++ r → coordinate s i ≡ x
 unfolding coordinate coordinateBytes
 coordinate-back s i x r f h =
-    let t : T (fits binary64 x) = rw f tt in
+    let d : isDouble x ≡ true = and-left (isDouble x) (finite x) f in
+    let t : T (fits binary64 x) = rw d tt in
     let l : toBits binary64 x < 18446744073709551616 = toBits-lt binary64 x t in
     ap (ofBits binary64) (long-written s i (toBits binary64 x) r h ∙ mod-eq-of-lt l) ∙ ofBits-toBits binary64 x t
 
-module _ (s : List ℕ) (i : ℕ) (a b : Float) (cs : List Float) (r : List ℕ) (d : every isDouble (a ∷ b ∷ cs) ≡ true) (h : drop i s ≡ each coordinateBytes (a ∷ b ∷ cs) ++ r) where
+-- eight bytes say a number of 64 bits; so what is read as a finite number has just these bytes
+long-small : (s : List ℕ) (i : ℕ) → Bytes s → long s i < longValues
+unfolding half word long
+long-small s i h =
+    omega (arith, h i, h (i + 1), h (i + 2), h (i + 2 + 1), h (i + 4), h (i + 4 + 1), h (i + 4 + 2), h (i + 4 + 2 + 1))
+
+coordinate-kept :
+    (s : List ℕ) (i : ℕ) → Bytes s → i + 8 ≤ length s → finite (coordinate s i) ≡ true → drop i s ≡ coordinateBytes (coordinate s i) ++ drop (i + 8) s
+unfolding coordinate coordinateBytes
+coordinate-kept s i h l f =
+    let n = long s i in
+    let e : toBits binary64 (ofBits binary64 n) ≡ n = toBits-ofBits binary64 n (long-small s i h) (no-nan (ofBits binary64 n) f) in
+    long-again s i h l ∙ ap (λ (b : ℕ). longBytes b ++ drop (i + 8) s) (sym e)
+
+pub coordinate-reopens : CoordinateReopens
+coordinate-reopens = record { written = coordinate-back; read = coordinate-kept }
+
+module _ (s : List ℕ) (i : ℕ) (a b : Float) (cs : List Float) (r : List ℕ) (d : every isCoordinate (a ∷ b ∷ cs) ≡ true) (h : drop i s ≡ each coordinateBytes (a ∷ b ∷ cs) ++ r) where
   first-back : coordinate s i ≡ a
-  first-back = coordinate-back s i a (each coordinateBytes (b ∷ cs) ++ r) (and-left (isDouble a) (every isDouble (b ∷ cs)) d) (first-stands coordinateBytes s i a (b ∷ cs) r h)
+  first-back = coordinate-back s i a (each coordinateBytes (b ∷ cs) ++ r) (and-left (isCoordinate a) (every isCoordinate (b ∷ cs)) d) (first-stands coordinateBytes s i a (b ∷ cs) r h)
 
   behind-first : drop (i + 8) s ≡ each coordinateBytes (b ∷ cs) ++ r
   behind-first = rest-stands coordinateBytes s i a (b ∷ cs) r h 8 (i + 8) (length-coordinate a) refl
 
-  others : every isDouble (b ∷ cs) ≡ true
-  others = and-right (isDouble a) (every isDouble (b ∷ cs)) d
+  others : every isCoordinate (b ∷ cs) ≡ true
+  others = and-right (isCoordinate a) (every isCoordinate (b ∷ cs)) d
 
   second-back : coordinate s (i + 8) ≡ b
-  second-back = coordinate-back s (i + 8) b (each coordinateBytes cs ++ r) (and-left (isDouble b) (every isDouble cs) others) (first-stands coordinateBytes s (i + 8) b cs r behind-first)
+  second-back = coordinate-back s (i + 8) b (each coordinateBytes cs ++ r) (and-left (isCoordinate b) (every isCoordinate cs) others) (first-stands coordinateBytes s (i + 8) b cs r behind-first)
 
-pub texel-back : (s : List ℕ) (i : ℕ) (t : Texel) (r : List ℕ) → every isDouble (pair t) ≡ true → drop i s ≡ each coordinateBytes (pair t) ++ r → texelFrom s i ≡ t
+pub texel-back : (s : List ℕ) (i : ℕ) (t : Texel) (r : List ℕ) → every isCoordinate (pair t) ≡ true → drop i s ≡ each coordinateBytes (pair t) ++ r → texelFrom s i ≡ t
 unfolding texelFrom
 texel-back s i t r d h = ap₂ texel (first-back s i (t .u) (t .v) [] r d h) (second-back s i (t .u) (t .v) [] r d h)
 
-pub point-back : (s : List ℕ) (i : ℕ) (p : Point) (r : List ℕ) → every isDouble (coordinates p) ≡ true → drop i s ≡ each coordinateBytes (coordinates p) ++ r → pointFrom s i ≡ p
+pub point-back : (s : List ℕ) (i : ℕ) (p : Point) (r : List ℕ) → every isCoordinate (coordinates p) ≡ true → drop i s ≡ each coordinateBytes (coordinates p) ++ r → pointFrom s i ≡ p
 unfolding pointFrom
 point-back s i p r d h =
     let x = p .x in

@@ -83,7 +83,7 @@ module _ (file : List ℕ) (lists lists' : Mesh) (answer : MeshRead) (ok : meshN
 
 -- the answers that the two contracts determine
 pub can-reopen : CanReopen
-can-reopen m out lists ok doubles room full =
+can-reopen m out lists ok doubles finite room full =
     let n : ℕ = savingNumber m (length out) in
     let saved : Saved = record { number = n; length = after n (fileLength m) 0 } in
     let out' : List ℕ = after n (sets out 0 (fileOf m)) out in
@@ -118,13 +118,13 @@ can-reopen m out lists ok doubles room full =
       sizes = refl;
     } in
     let written : PanelWritten m out out' saved = record { number = refl; byte-count = refl; bytes = refl } in
-    (out', saved, lists', answer, record { doubles = doubles; written = written; done = sym (number-well m (length out) ok room); read = read; room = full })
+    (out', saved, lists', answer, record { doubles = doubles; written = written; done = sym (number-well m (length out) ok finite room); read = read; room = full })
 
 pub calls-reopen : CallsReopen
 calls-reopen m out out' saved lists lists' answer h =
     let w = h .written in
     let ok : meshNumber m ≡ 0 = could-write w (h .done) .accepted in
-    let back : Reopens m = reopens m ok (h .doubles) in
+    let back : Reopens m = reopens m ok (h .doubles) (could-write w (h .done) .are-finite) in
     let r : PanelRead (fileOf m) lists lists' answer = rw (bytes-saved w (h .done)) at (h .read) in
     let z : answer .number ≡ 0 = r .number ∙ back .number (roomOf lists) (h .room) in
     record { number = z; mesh = hands-over (fileOf m) lists lists' answer (ap meshNumber (back .mesh) ∙ ok) (h .room) r z ∙ back .mesh }
@@ -135,7 +135,7 @@ calls-write-again m out out' saved lists lists' answer again again' resaved h v 
     let same : handed answer lists' ≡ m = calls-reopen m out out' saved lists lists' answer h .mesh in
     let v' : PanelWritten m again again' resaved = rw same at v in
     let ok : meshNumber m ≡ 0 = could-write w (h .done) .accepted in
-    let z : resaved .number ≡ 0 = v' .number ∙ sym (number-well m (length again) ok (omega (arith, long, length-saved w (h .done)))) in
+    let z : resaved .number ≡ 0 = v' .number ∙ sym (number-well m (length again) ok (could-write w (h .done) .are-finite) (omega (arith, long, length-saved w (h .done)))) in
     record {
       number = z;
       long = length-saved v' z ∙ sym (length-saved w (h .done));

@@ -7,6 +7,7 @@ use native.Mathlib.Nat.{mod-eq-of-lt}
 use native.Mathlib.Omega.{arith}
 use lib.ListN.{length, drop, length-append, length-drop}
 use lib.Dec.{leb, eqb}
+use lib.Ieee.{Float}
 use borrow.Author.Tests.{leb-true, eq-eqb, le-leb}
 use Rattle.lists.specs.Lists.{every, each}
 use Rattle.lists.proofs.Bools.{and-left, and-right, and-both}
@@ -16,13 +17,14 @@ use Rattle.mesh.specs.Limits.{ringLimit}
 use Rattle.mesh.specs.Mesh.{Ring}
 use Rattle.mesh.proofs.Corners.{isCorner}
 use Rattle.grouping.proofs.Accepting.{sized}
+use Rattle.floating.specs.Limits.{finite}
 use Rattle.floating.specs.Points.{coordinates}
 use Rattle.records.specs.declared.Record.the-variants.{Position, Texture, Normal, Face}
-use Rattle.records.specs.Records.{lengthFits, bodyFrom, recordFrom}
-use Rattle.records.proofs.Recorded.{body-whole, face-good}
+use Rattle.records.specs.Records.{lengthFits, attribute, bodyFrom, recordFrom}
+use Rattle.records.proofs.Recorded.{body-whole, attribute-good, face-good}
 use Rattle.saving.specs.Pieces.{Piece, aPosition, aTexture, aNormal, aFace, theEnd, cornerBytes, kindOf, headerOf, bodyOf, recordOf, pair}
 use Rattle.saving.proofs.Entries.{length-coordinates}
-use Rattle.reopened.specs.Said.{isWord, sayable, answerAt}
+use Rattle.reopened.specs.Said.{isDouble, isCoordinate, isWord, sayable, answerAt}
 use Rattle.reopened.specs.Promises.{RecordReopens}
 use Rattle.reopened.proofs.Bodies.{length-corner, point-back, texel-back}
 
@@ -130,11 +132,20 @@ corners-stand s at f r h =
     let e : at + 5 ≡ at + 4 + 1 = omega arith in
     ap (λ (i : ℕ). drop i s) e ∙ behind s (at + 4) 1 (length f ∷ []) (each cornerBytes f ++ r) refl h
 
+are-finite : (l : List Float) → every isCoordinate l ≡ true → every finite l ≡ true
+are-finite [] h = refl
+are-finite (x ∷ l) h =
+    and-both (finite x) (every finite l) (and-right (isDouble x) (finite x) (and-left (isCoordinate x) (every isCoordinate l) h))
+    (are-finite l (and-right (isCoordinate x) (every isCoordinate l) h))
+
 body-back : (s : List ℕ) (at : ℕ) (p : Piece) (r : List ℕ) → sayable p ≡ true → drop (at + 4) s ≡ bodyOf p ++ r → bodyFrom s (at + 4) (lengthOf p) (kindOf p) ≡ answerAt at p
 unfolding bodyFrom bodyOf
-body-back s at (aPosition p) r w h = ap Position (point-back s (at + 4) p r w h)
-body-back s at (aTexture t) r w h = ap Texture (texel-back s (at + 4) t r w h)
-body-back s at (aNormal p) r w h = ap Normal (point-back s (at + 4) p r w h)
+body-back s at (aPosition p) r w h =
+    ap (λ q. attribute (Position q)) (point-back s (at + 4) p r w h) ∙ sym (attribute-good (Position p) _ refl (are-finite (coordinates p) w))
+body-back s at (aTexture t) r w h =
+    ap (λ q. attribute (Texture q)) (texel-back s (at + 4) t r w h) ∙ sym (attribute-good (Texture t) _ refl (are-finite (pair t) w))
+body-back s at (aNormal p) r w h =
+    ap (λ q. attribute (Normal q)) (point-back s (at + 4) p r w h) ∙ sym (attribute-good (Normal p) _ refl (are-finite (coordinates p) w))
 body-back s at (aFace f) r w h =
     let e : at + 4 + 1 ≡ at + 5 = omega arith in
     sym (face-good s (at + 4) (1 + 12 * length f) (length f) (sym (byte-here s (at + 4) (length f) (each cornerBytes f ++ r) h)) refl (small-face f w .1))

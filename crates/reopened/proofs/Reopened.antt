@@ -19,7 +19,7 @@ use Rattle.grouping.specs.Push.{pushed}
 use Rattle.grouping.proofs.Pushed.{pushed-same}
 use Rattle.grouping.proofs.Accepting.{sized, cornersIn-flat}
 use Rattle.panelfile.specs.Reading.{Drawn, reader, nothing, readAll, meshDrawn, finish, readingNumber, panelMesh}
-use Rattle.saving.specs.Pieces.{Piece, theEnd, piecesOf, kindOf, headerOf, bodyOf, recordOf, fileOf}
+use Rattle.saving.specs.Pieces.{Piece, theEnd, piecesOf, finiteMesh, kindOf, headerOf, bodyOf, recordOf, fileOf}
 use Rattle.saving.proofs.Storing.{length-header}
 use Rattle.reopened.specs.Promises.{DoubleMesh, MeshReopens}
 use Rattle.reopened.proofs.Taking.{length-record, read-back}
@@ -55,14 +55,14 @@ module _ (m : Mesh) (a : Accepted m) where
   same-mesh = rw (same-faces, flat-corners, face-sizes m a)
 
   -- ---- the whole file
-  module _ (d : DoubleMesh m) where
+  module _ (d : DoubleMesh m) (f : finiteMesh m ≡ true) where
     file-read : readAll (fileOf m) ≡ reader (length (fileOf m)) 0 true (drawing m)
     unfolding readAll fileOf
     file-read =
         let ps = piecesOf m in
         let e = all-drawn m a in
         let z : length (recordOf theEnd) ≡ 4 = length-record theEnd refl in
-        read-back ps (suc (length (fileOf m))) (fileOf m) 0 nothing [] (pieces-sayable m a d) (pieces-draw m) (rw e (all-roomy m a))
+        read-back ps (suc (length (fileOf m))) (fileOf m) 0 nothing [] (pieces-sayable m a d f) (pieces-draw m) (rw e (all-roomy m a))
         (omega (arith, enough ps, length-append (each recordOf ps) (recordOf theEnd)))
         (ap (λ (l : List ℕ). each recordOf ps ++ l) (sym (append-nil (recordOf theEnd))))
         ∙ ap₂ (λ (i : ℕ) (x : Drawn). reader i 0 true x) (omega (arith, length-append (each recordOf ps) (recordOf theEnd))) e
@@ -86,9 +86,9 @@ module _ (m : Mesh) (a : Accepted m) where
     unfolding readingNumber
     number-read h rooms e = rw (e, none-refused h)
 
--- an accepted mesh is read back from its file, bit for bit, and its file is written again byte for byte
+-- an accepted mesh with finite coordinates is read back from its file, bit for bit, and its file is written again byte for byte
 pub reopens : MeshReopens
-reopens m h d =
+reopens m h d f =
     let a : Accepted m = accepted m h in
-    let e : panelMesh (fileOf m) ≡ m = mesh-read m a d in
-    record { number = number-read m a d (clear m h .found); mesh = e; bytes = ap fileOf e }
+    let e : panelMesh (fileOf m) ≡ m = mesh-read m a d f in
+    record { number = number-read m a d f (clear m h .found); mesh = e; bytes = ap fileOf e }

@@ -22,10 +22,12 @@ use Rattle.grouping.proofs.Accepting.{sized}
 use Rattle.floating.specs.declared.Point.{Point}
 use Rattle.floating.specs.declared.Texel.{Texel}
 use Rattle.floating.specs.Points.{coordinates, pointsOf}
+use Rattle.floating.specs.Limits.{finite}
 use Rattle.floating.specs.Promises.{Doubles}
+use Rattle.floating.proofs.Finite.{finite-lists}
 use Rattle.panelfile.specs.Reading.{Drawn, nothing}
-use Rattle.saving.specs.Pieces.{Piece, aPosition, aTexture, aNormal, aFace, texelsOf, pair, piecesOf}
-use Rattle.reopened.specs.Said.{isDouble, isWord, sayable, positionsIn, texturesIn, normalsIn, facesIn, drawnWith, Roomy}
+use Rattle.saving.specs.Pieces.{Piece, aPosition, aTexture, aNormal, aFace, texelsOf, pair, piecesOf, finiteMesh}
+use Rattle.reopened.specs.Said.{isDouble, isCoordinate, isWord, sayable, positionsIn, texturesIn, normalsIn, facesIn, drawnWith, Roomy}
 use Rattle.reopened.specs.Promises.{DoubleMesh}
 use Rattle.reopened.proofs.Taking.{draws}
 
@@ -129,26 +131,31 @@ every-both p q [] f g = refl
 every-both p q (x ∷ l) f g =
     rw (and-left (p x) (every p l) f, and-left (q x) (every q l) g) (every-both p q l (and-right (p x) (every p l) f) (and-right (q x) (every q l) g))
 
--- f64 coordinates, as a test over the list
+-- f64 coordinates, as a test over the list; and finite ones
 pub doubles : (s : List Float) → Doubles s → every isDouble s ≡ true
 doubles s d = every-all isDouble nan s (λ k l. is-true (isDouble (getD s k nan)) (d k l))
 
-double-points : (s : List Float) → every isDouble s ≡ true → every (λ (p : Point). every isDouble (coordinates p)) (pointsOf s) ≡ true
-double-points [] h = refl
-double-points (a ∷ []) h = refl
-double-points (a ∷ b ∷ []) h = refl
-double-points (a ∷ b ∷ c ∷ s) h =
-    let h1 = and-right (isDouble a) (every isDouble (b ∷ c ∷ s)) h in
-    let h2 = and-right (isDouble b) (every isDouble (c ∷ s)) h1 in
-    rw (and-left (isDouble a) (every isDouble (b ∷ c ∷ s)) h, and-left (isDouble b) (every isDouble (c ∷ s)) h1, and-left (isDouble c) (every isDouble s) h2)
-    (double-points s (and-right (isDouble c) (every isDouble s) h2))
+are-coordinates : (s : List Float) → Doubles s → every finite s ≡ true → every isCoordinate s ≡ true
+are-coordinates s d f = every-both isDouble finite s (doubles s d) f
 
-double-texels : (s : List Float) → every isDouble s ≡ true → every (λ (t : Texel). every isDouble (pair t)) (texelsOf s) ≡ true
-double-texels [] h = refl
-double-texels (a ∷ []) h = refl
-double-texels (a ∷ b ∷ s) h =
-    let h1 = and-right (isDouble a) (every isDouble (b ∷ s)) h in
-    rw (and-left (isDouble a) (every isDouble (b ∷ s)) h, and-left (isDouble b) (every isDouble s) h1) (double-texels s (and-right (isDouble b) (every isDouble s) h1))
+-- what every coordinate passes, the coordinates of every point pass
+module _ (q : Float → Bool) where
+  points-pass : (s : List Float) → every q s ≡ true → every (λ (p : Point). every q (coordinates p)) (pointsOf s) ≡ true
+  points-pass [] h = refl
+  points-pass (a ∷ []) h = refl
+  points-pass (a ∷ b ∷ []) h = refl
+  points-pass (a ∷ b ∷ c ∷ s) h =
+      let h1 = and-right (q a) (every q (b ∷ c ∷ s)) h in
+      let h2 = and-right (q b) (every q (c ∷ s)) h1 in
+      rw (and-left (q a) (every q (b ∷ c ∷ s)) h, and-left (q b) (every q (c ∷ s)) h1, and-left (q c) (every q s) h2)
+      (points-pass s (and-right (q c) (every q s) h2))
+
+  texels-pass : (s : List Float) → every q s ≡ true → every (λ (t : Texel). every q (pair t)) (texelsOf s) ≡ true
+  texels-pass [] h = refl
+  texels-pass (a ∷ []) h = refl
+  texels-pass (a ∷ b ∷ s) h =
+      let h1 = and-right (q a) (every q (b ∷ s)) h in
+      rw (and-left (q a) (every q (b ∷ s)) h, and-left (q b) (every q s) h1) (texels-pass s (and-right (q b) (every q s) h1))
 
 -- every index of an accepted mesh fits four bytes
 small-index : (i count : ℕ) → count ≤ 4294967296 → ((i ≡ missing → ⊥) → i < count) → i < 4294967296
@@ -207,10 +214,13 @@ faces-words : (m : Mesh) → Accepted m → every (every (every isWord)) (faces 
 unfolding faces
 faces-words m a = word-faces (m .sizes) (m .corners) (words m a)
 
-pub pieces-sayable : (m : Mesh) → Accepted m → DoubleMesh m → every sayable (piecesOf m) ≡ true
-pieces-sayable m a d =
-    every-piece sayable m (double-points (m .positions) (doubles (m .positions) (d .positions))) (double-texels (m .textures) (doubles (m .textures) (d .textures)))
-    (double-points (m .normals) (doubles (m .normals) (d .normals)))
+pub pieces-sayable : (m : Mesh) → Accepted m → DoubleMesh m → finiteMesh m ≡ true → every sayable (piecesOf m) ≡ true
+pieces-sayable m a d f =
+    let lists = finite-lists (m .positions) (m .textures) (m .normals) f in
+    every-piece sayable m
+    (points-pass isCoordinate (m .positions) (are-coordinates (m .positions) (d .positions) (lists .positions)))
+    (texels-pass isCoordinate (m .textures) (are-coordinates (m .textures) (d .textures) (lists .textures)))
+    (points-pass isCoordinate (m .normals) (are-coordinates (m .normals) (d .normals) (lists .normals)))
     (every-both sized (λ (f : Ring). every isCorner f && every (every isWord) f) (faces m) (sized-faces m a)
     (every-both (every isCorner) (every (every isWord)) (faces m) (faces-are m) (faces-words m a)))
 

@@ -1,22 +1,37 @@
 -- What is promised of a mesh that is written and read again (document 02, CR 1): 'Reading what was written gives the same mesh, bit for bit,
--- and writing what was read from a written file gives the same bytes.' Proved in proofs/. Assumes nothing.
-use Prim.Native.Nat.{ℕ, _*_, _≤_}
+-- and writing what was read from a written file gives the same bytes.' No coordinate is excepted: the writer turns down what is not finite
+-- (CR 2). Proved in proofs/. Assumes nothing.
+use Prim.Native.Nat.{ℕ, _+_, _*_, _≤_}
 use mathlib.Core.Path.{_≡_}
 use mathlib.Core.Bool.{true, false}
 use mathlib.Core.List.{List, [], _++_}
 use lib.ListN.{length, take, drop}
+use lib.Ieee.{Float}
 use Rattle.mesh.specs.Limits.{width}
 use Rattle.mesh.specs.Mesh.{Mesh, meshOf}
 use Rattle.mesh.specs.Table.{meshNumber, Lent, short}
+use Rattle.floating.specs.Limits.{finite}
 use Rattle.floating.specs.Promises.{Doubles}
-use Rattle.records.specs.Records.{recordFrom}
+use Rattle.little.specs.Little.{Bytes}
+use Rattle.records.specs.Lengths.{coordinateLength}
+use Rattle.records.specs.Records.{coordinate, recordFrom}
 use Rattle.panelfile.specs.declared.MeshRead.{MeshRead}
 use Rattle.panelfile.specs.Reading.{readingNumber, panelMesh, roomOf}
 use Rattle.panelfile.specs.Answer.{PanelRead}
 use Rattle.saving.specs.declared.Saved.{Saved}
-use Rattle.saving.specs.Pieces.{Piece, recordOf, fileOf, fileLength}
+use Rattle.saving.specs.Pieces.{Piece, finiteMesh, coordinateBytes, recordOf, fileOf, fileLength}
 use Rattle.saving.specs.Answer.{PanelWritten}
-use Rattle.reopened.specs.Said.{sayable, answerAt}
+use Rattle.reopened.specs.Said.{isCoordinate, sayable, answerAt}
+
+-- ---- one coordinate, anywhere in a file: the bytes of a finite f64 are read as that f64, and what is read as a finite one has just the bytes
+-- ---- that stand there. So finite coordinates and their patterns of bits go one to one, and none is lost either way
+
+pub record CoordinateReopens : Type 0 where
+  pub written :
+      (s : List ℕ) (i : ℕ) (x : Float) (r : List ℕ) → isCoordinate x ≡ true → drop i s ≡ coordinateBytes x ++ r → coordinate s i ≡ x
+  pub read :
+      (s : List ℕ) (i : ℕ) → Bytes s → i + coordinateLength ≤ length s → finite (coordinate s i) ≡ true
+      → drop i s ≡ coordinateBytes (coordinate s i) ++ drop (i + coordinateLength) s
 
 -- ---- one record, over all kinds: written anywhere in a file, it is read back there; of a face its place and its count, and its corners
 -- ---- come back with the mesh
@@ -26,8 +41,7 @@ RecordReopens = (s : List ℕ) (at : ℕ) (p : Piece) (r : List ℕ) → sayable
 
 -- ---- a mesh, of the rules
 
--- the coordinates of a mesh are f64, as those of every lent list are. All NaNs are one: they have a sign and digits in memory, which no
--- rule reads and the file does not keep. So a NaN comes back as a NaN, and any other coordinate with the bits that it had
+-- the coordinates of a mesh are f64, as those of every lent list are
 pub record DoubleMesh (m : Mesh) : Type 0 where
   pub positions : Doubles (m .positions)
   pub textures : Doubles (m .textures)
@@ -39,9 +53,9 @@ pub record Reopens (m : Mesh) : Type 0 where
   pub mesh : panelMesh (fileOf m) ≡ m
   pub bytes : fileOf (panelMesh (fileOf m)) ≡ fileOf m
 
--- this holds of every accepted mesh
+-- this holds of every accepted mesh whose coordinates are finite: of every mesh, that is, that the writer takes
 abbrev pub MeshReopens : Type 0
-MeshReopens = (m : Mesh) → meshNumber m ≡ 0 → DoubleMesh m → Reopens m
+MeshReopens = (m : Mesh) → meshNumber m ≡ 0 → DoubleMesh m → finiteMesh m ≡ true → Reopens m
 
 -- and of the mesh of every file that is read, wherever the file is from
 abbrev pub FileReopens : Type 0
@@ -72,10 +86,11 @@ pub record HandedBack (m : Mesh) (lists' : Mesh) (answer : MeshRead) : Type 0 wh
   pub number : answer .number ≡ 0
   pub mesh : handed answer lists' ≡ m
 
--- what is asked of the two calls can be had, of every accepted mesh, a buffer that is long enough and lists with room
+-- what is asked of the two calls can be had, of every accepted mesh with finite coordinates, a buffer that is long enough and lists with room
 abbrev pub CanReopen : Type 0
 CanReopen =
-    (m : Mesh) (out : List ℕ) (lists : Mesh) → meshNumber m ≡ 0 → DoubleMesh m → fileLength m ≤ length out → short (roomOf lists) ≡ false
+    (m : Mesh) (out : List ℕ) (lists : Mesh) → meshNumber m ≡ 0 → DoubleMesh m → finiteMesh m ≡ true
+    → fileLength m ≤ length out → short (roomOf lists) ≡ false
     → (out' : List ℕ) × (saved : Saved) × (lists' : Mesh) × (answer : MeshRead) × Reopening m out out' saved lists lists' answer
 
 abbrev pub CallsReopen : Type 0

@@ -11,25 +11,29 @@ use Rattle.mesh.specs.Mesh.{Ring}
 use Rattle.mesh.proofs.Corners.{isCorner}
 use Rattle.grouping.specs.Push.{cornerCount}
 use Rattle.grouping.proofs.Accepting.{sized}
+use Rattle.floating.specs.Limits.{finite}
 use Rattle.floating.specs.Points.{coordinates}
 use Rattle.records.specs.declared.Record.{Record}
 use Rattle.records.specs.declared.Record.the-variants.{Position, Texture, Normal, Face, End}
 use Rattle.panelfile.specs.Reading.{Drawn, withPosition, withTexture, withNormal, withFace}
 use Rattle.saving.specs.Pieces.{Piece, aPosition, aTexture, aNormal, aFace, theEnd, pair}
 
--- a number that an f64 holds: a NaN and the infinities are among them
+-- a number that an f64 holds, and a coordinate of a file: one that is finite besides
 abbrev pub isDouble : Float → Bool
 isDouble x = fits binary64 x
+
+abbrev pub isCoordinate : Float → Bool
+isCoordinate x = isDouble x && finite x
 
 -- one that four bytes hold
 abbrev pub isWord : ℕ → Bool
 isWord n = ltb n 4294967296
 
--- coordinates are f64, corners have their numbers, of four bytes each, and a face has 3 to 32 corners
+-- coordinates are finite f64, corners have their numbers, of four bytes each, and a face has 3 to 32 corners
 abbrev pub sayable : Piece → Bool
-sayable (aPosition p) = every isDouble (coordinates p)
-sayable (aTexture t) = every isDouble (pair t)
-sayable (aNormal p) = every isDouble (coordinates p)
+sayable (aPosition p) = every isCoordinate (coordinates p)
+sayable (aTexture t) = every isCoordinate (pair t)
+sayable (aNormal p) = every isCoordinate (coordinates p)
 sayable (aFace f) = sized f && (every isCorner f && every (every isWord) f)
 sayable theEnd = true
 

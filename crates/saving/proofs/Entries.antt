@@ -9,9 +9,11 @@ use lib.ListN.{length, getD, take, drop, length-append, length-take}
 use lib.Seq.{drop-drop}
 use lib.Ieee.{Float}
 use Rattle.lists.specs.Lists.{each}
+use Rattle.lists.proofs.Parts.{every-take, every-drop}
+use Rattle.floating.specs.Limits.{finite}
 use Rattle.floating.proofs.Rows.{row-fits}
 use Rattle.saving.specs.Pieces.{coordinateBytes, headerOf}
-use Rattle.saving.specs.Working.{Stored, Fits, entryRecord, firstRows, AnEntry, Entries}
+use Rattle.saving.specs.Working.{Stored, entryRecord, firstRows, Coordinates, AnEntry, Entries}
 use Rattle.saving.proofs.Storing.{length-coordinate, length-header, stored-both}
 use Rattle.saving.proofs.Listing.{Putting, putting-begins, putting-turns, putting-room, putting-ends, length-each}
 
@@ -26,9 +28,11 @@ length-entry kind l =
     omega (arith, length-append (headerOf (8 * length l) kind) (each coordinateBytes l), length-header (8 * length l) kind, length-coordinates l)
 
 module _ (kind : ℕ) (l : List Float) (o o1 : List ℕ) (at a : ℕ) (h : Stored (headerOf (8 * length l) kind) o o1 at a) where
-  pub coordinates-fit : AnEntry kind l o at → length o1 ≡ length o → Fits (each coordinateBytes l) o1 a
-  coordinates-fit e g =
-      omega (arith, h .place, length-header (8 * length l) kind, e .fits, length-entry kind l, length-coordinates l)
+  pub coordinates-fit : AnEntry kind l o at → length o1 ≡ length o → Coordinates l o1 a
+  coordinates-fit e g = record {
+    are-finite = e .are-finite;
+    fits = omega (arith, h .place, length-header (8 * length l) kind, e .fits, length-entry kind l, length-coordinates l);
+  }
 
   pub entry-stored : (o2 : List ℕ) (r : ℕ) → Stored (each coordinateBytes l) o1 o2 a r → Stored (entryRecord kind l) o o2 at r
   unfolding entryRecord
@@ -78,6 +82,7 @@ module _ (w n kind : ℕ) (s : List Float) (o o' : List ℕ) (at to from k : ℕ
 
   pub an-entry : AnEntry kind part o' to
   an-entry = record {
+    are-finite = every-take finite (from + w - from) (drop from s) (every-drop finite from s (e .are-finite));
     small = omega (arith, length-take (from + w - from) (drop from s), e .small);
     fits = putting-room (entryRecord kind) [] (firstRows w n s) o o' at to k part in-rows is-row (h .puts) (e .fits);
   }

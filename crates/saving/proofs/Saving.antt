@@ -1,19 +1,23 @@
 -- A mesh that can be written: there is room for each part behind the others; and the number of the call. Assumes nothing.
 use mathlib.Core.Path.{_≡_, refl, sym, _∙_}
-use mathlib.Core.Bool.{false, _||_}
+use mathlib.Core.Bool.{Bool, true, false, not, _||_}
 use mathlib.Core.List.{List, [], _∷_, _++_}
 use Prim.Native.Nat.{ℕ, zero, suc, _+_, _/_, _≤_, _<_}
 use native.Mathlib.Omega.{arith}
 use lib.ListN.{length}
 use lib.Dec.{ltb}
-use borrow.Author.Tests.{lt-ltb, le-ltb, ltb-false}
+use lib.Ieee.{Float}
+use borrow.Author.Tests.{lt-ltb, le-ltb, ltb-false, not-false}
+use Rattle.lists.specs.Lists.{every}
 use Rattle.lists.proofs.Bools.{or-false-left}
 use Rattle.mesh.specs.Mesh.{Mesh}
 use Rattle.mesh.specs.Table.{meshNumber, when, lent, short}
-use Rattle.mesh.proofs.Numbers.{first-is, first-head, first-tail, when-not}
+use Rattle.mesh.proofs.Numbers.{first-head, first-tail, when-not}
 use Rattle.mesh.proofs.Accepted.{Accepted, accepted}
+use Rattle.floating.specs.Limits.{finite, allFinite}
+use Rattle.floating.proofs.Finite.{Finite, finite-lists}
 use Rattle.saving.specs.declared.Saved.{Saved}
-use Rattle.saving.specs.Pieces.{fileOf, fileLength}
+use Rattle.saving.specs.Pieces.{finiteMesh, fileOf, fileLength}
 use Rattle.saving.specs.Answer.{savingNumber, PanelWritten}
 use Rattle.saving.specs.Working.{Stored, Entries, Faces, Ready}
 use Rattle.saving.proofs.Storing.{stored-both, stored-as, still-long}
@@ -25,12 +29,20 @@ module _ (m : Mesh) (o : List ℕ) (r : Ready m o) where
   is-accepted : Accepted m
   is-accepted = accepted m (r .accepted)
 
+  is-finite : Finite (m .positions) (m .textures) (m .normals)
+  is-finite = finite-lists (m .positions) (m .textures) (m .normals) (r .are-finite)
+
   -- there is room for all five
   roomy : length (P m) + (length (T m) + (length (N m) + (length (F m) + 4))) ≤ length o
   roomy = omega (arith, r .room, file-length m is-accepted, parts-length m is-accepted)
 
   pub ready-positions : Entries 3 (length (m .positions) / 3) 1 (m .positions) o 0
-  ready-positions = record { small = omega arith; whole = omega (arith, is-accepted .whole .positions); fits = omega (arith, roomy) }
+  ready-positions = record {
+    are-finite = is-finite .positions;
+    small = omega arith;
+    whole = omega (arith, is-accepted .whole .positions);
+    fits = omega (arith, roomy);
+  }
 
   module _ (o1 : List ℕ) (a : ℕ) (s1 : Stored (P m) o o1 0 a) where
     behind-1 : (a ≡ length (P m)) × (length o1 ≡ length o)
@@ -38,6 +50,7 @@ module _ (m : Mesh) (o : List ℕ) (r : Ready m o) where
 
     pub ready-textures : Entries 2 (length (m .textures) / 2) 2 (m .textures) o1 a
     ready-textures = record {
+      are-finite = is-finite .textures;
       small = omega arith;
       whole = omega (arith, is-accepted .whole .textures);
       fits = omega (arith, roomy, behind-1 .0, behind-1 .1);
@@ -49,6 +62,7 @@ module _ (m : Mesh) (o : List ℕ) (r : Ready m o) where
 
       pub ready-normals : Entries 3 (length (m .normals) / 3) 3 (m .normals) o2 b
       ready-normals = record {
+        are-finite = is-finite .normals;
         small = omega arith;
         whole = omega (arith, is-accepted .whole .normals);
         fits = omega (arith, roomy, behind-2 .0, behind-2 .1);
@@ -79,27 +93,53 @@ module _ (m : Mesh) (o : List ℕ) (r : Ready m o) where
 
 -- ---- the number
 
+-- one list after the other, with b and c whether the first and the second are finite
+module _ (p t n : List Float) (b : Bool) (eb : b ≡ every finite p) where
+  pub first-broken : b ≡ false → false ≡ allFinite p t n
+  unfolding allFinite
+  first-broken h = rw (sym eb ∙ h)
+
+  module _ (hb : b ≡ true) (c : Bool) (ec : c ≡ every finite t) where
+    pub second-broken : c ≡ false → false ≡ allFinite p t n
+    unfolding allFinite
+    second-broken h = rw (sym eb ∙ hb, sym ec ∙ h)
+
+    pub third-decides : c ≡ true → (d : Bool) → d ≡ every finite n → d ≡ allFinite p t n
+    unfolding allFinite
+    third-decides h d e = rw (sym eb ∙ hb, sym ec ∙ h) e
+
 module _ (m : Mesh) (room : ℕ) where
   pub number-first : (n : ℕ) → n ≡ meshNumber m → (n ≡ 0 → ⊥) → n ≡ savingNumber m room
   unfolding savingNumber
-  number-first n e h = e ∙ sym (first-is (meshNumber m) (when (short (lent room (fileLength m) ∷ [])) 9 ∷ []) (λ z. h (e ∙ z)))
+  number-first zero e h = absurd (h refl)
+  number-first (suc n) e h = rw (sym e)
 
-  pub number-short : meshNumber m ≡ 0 → room < fileLength m → 9 ≡ savingNumber m room
-  unfolding savingNumber short
-  number-short e l = rw (e, lt-ltb room (fileLength m) l)
+  pub number-broken : meshNumber m ≡ 0 → finiteMesh m ≡ false → 14 ≡ savingNumber m room
+  unfolding savingNumber
+  number-broken e f = rw (e, f)
 
-  pub number-well : meshNumber m ≡ 0 → fileLength m ≤ room → 0 ≡ savingNumber m room
+  pub number-short : meshNumber m ≡ 0 → finiteMesh m ≡ true → room < fileLength m → 9 ≡ savingNumber m room
   unfolding savingNumber short
-  number-well e l = rw (e, le-ltb room (fileLength m) l)
+  number-short e f l = rw (e, f, lt-ltb room (fileLength m) l)
+
+  pub number-well : meshNumber m ≡ 0 → finiteMesh m ≡ true → fileLength m ≤ room → 0 ≡ savingNumber m room
+  unfolding savingNumber short
+  number-well e f l = rw (e, f, le-ltb room (fileLength m) l)
 
 -- a mesh whose number is 0 can be written
 pub ready : (m : Mesh) (o : List ℕ) → savingNumber m (length o) ≡ 0 → Ready m o
 unfolding savingNumber short
 ready m o h =
+    let f = finiteMesh m in
     let e = ltb (length o) (fileLength m) in
     let rest = when (e || false) 9 ∷ [] in
-    let n : (e || false) ≡ false = when-not (e || false) 8 (first-head (when (e || false) 9) [] (first-tail (meshNumber m) rest h)) in
-    record { accepted = first-head (meshNumber m) rest h; room = ltb-false (length o) (fileLength m) (or-false-left e false n) }
+    let h1 = first-tail (meshNumber m) (when (not f) 14 ∷ rest) h in
+    let n : (e || false) ≡ false = when-not (e || false) 8 (first-head (when (e || false) 9) [] (first-tail (when (not f) 14) rest h1)) in
+    record {
+      accepted = first-head (meshNumber m) (when (not f) 14 ∷ rest) h;
+      are-finite = not-false f (when-not (not f) 13 (first-head (when (not f) 14) rest h1));
+      room = ltb-false (length o) (fileLength m) (or-false-left e false n);
+    }
 
 -- ---- the whole call
 

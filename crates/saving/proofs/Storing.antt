@@ -1,15 +1,11 @@
 -- Bytes that are stored one behind the other: two parts, a header, a number. Assumes nothing.
 use mathlib.Core.Path.{_≡_, refl, sym, ap, ap₂, _∙_}
-use mathlib.Core.Bool.{true, false, not}
 use mathlib.Core.List.{List, _++_}
 use Prim.Native.Nat.{ℕ, _+_}
 use native.Mathlib.Omega.{arith}
 use lib.ListN.{length, length-append}
 use lib.Seq.{sets, length-sets}
-use lib.Dec.{T}
-use lib.Ieee.{Float, nan, inf, fin, binary64, toBits, ne, isNan}
-use lib.Ieee.Compare.{differs-from-itself}
-use Rattle.lists.proofs.Bools.{true-false}
+use lib.Ieee.{Float, binary64, toBits}
 use Rattle.lists.proofs.Writing.{sets-append}
 use Rattle.little.specs.Little.{halfBytes, wordBytes, longBytes}
 use Rattle.little.proofs.Written.{length-half, length-word, length-long}
@@ -47,20 +43,6 @@ header-stored n kind o o1 o2 at e f =
     (record { file = f; place = omega (arith, length-half kind) })
 
 -- ---- a coordinate, and a number of four bytes
-
-nan-pattern : 0x7ff8_0000_0000_0000 ≡ toBits binary64 nan
-unfolding toBits
-nan-pattern = refl
-
--- what is unlike itself is a NaN, and one pattern is written for it; any other number has bits of its own
-pub nan-bits : (x : Float) → ne x x ≡ true → 0x7ff8_0000_0000_0000 ≡ toBits binary64 x
-nan-bits x h = nan-pattern ∙ ap (toBits binary64) (sym (differs-from-itself x (rw h tt)))
-
-pub no-nan : (x : Float) → ne x x ≡ false → T (not (isNan x))
-unfolding ne isNan
-no-nan nan h = true-false h
-no-nan (inf s) h = tt
-no-nan (fin s m e) h = tt
 
 pub length-coordinate : (x : Float) → length (coordinateBytes x) ≡ 8
 unfolding coordinateBytes

@@ -1,6 +1,7 @@
 -- A mesh as a panel file: positions, texture points, normals, faces in their order, end (document 02, CR 1). Its records are those of
 -- document 01, 'The panel file and the sheet'. Assumes nothing.
 use Prim.Native.Nat.{ℕ, _+_, _*_}
+use mathlib.Core.Bool.{Bool}
 use mathlib.Core.List.{List, [], _∷_, _++_, map}
 use lib.ListN.{length}
 use lib.Ieee.{Float, toBits, binary64}
@@ -10,6 +11,7 @@ use Rattle.mesh.specs.Limits.{entryLimit, faceLimit, cornerNumbers}
 use Rattle.mesh.specs.Mesh.{Mesh, Corner, Ring, faces, positionCount, textureCount, normalCount}
 use Rattle.floating.specs.declared.Point.{Point}
 use Rattle.floating.specs.declared.Texel.{Texel}
+use Rattle.floating.specs.Limits.{allFinite}
 use Rattle.floating.specs.Points.{texel, coordinates, pointsOf}
 
 -- what one record says
@@ -34,6 +36,10 @@ unfoldable pub piecesOf : Mesh → List Piece
 piecesOf m =
     map aPosition (pointsOf (m .positions)) ++ (map aTexture (texelsOf (m .textures)) ++ (map aNormal (pointsOf (m .normals)) ++ map aFace (faces m)))
 
+-- every coordinate of a mesh is finite, in an entry that no corner uses too
+abbrev pub finiteMesh : Mesh → Bool
+finiteMesh m = allFinite (m .positions) (m .textures) (m .normals)
+
 -- ---- one record
 
 -- kind 0: end; 1: position; 2: texture; 3: normal; 4: face
@@ -44,8 +50,7 @@ kindOf (aNormal p) = 3
 kindOf (aFace f) = 4
 kindOf theEnd = 0
 
--- a coordinate is the eight bytes of its bits, minus zero and the infinities with theirs; a NaN has no bits of its own, and each is written
--- as the one pattern 7ff8000000000000
+-- a coordinate is the eight bytes of its bits, minus zero with its own
 unfoldable pub coordinateBytes : Float → List ℕ
 coordinateBytes x = longBytes (toBits binary64 x)
 

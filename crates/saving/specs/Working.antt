@@ -1,16 +1,18 @@
 -- What the writer's inner functions store, for their contracts. Assumes nothing.
 use Prim.Native.Nat.{ℕ, zero, suc, _+_, _*_, _%_, _≤_, _<_}
 use mathlib.Core.Path.{_≡_}
+use mathlib.Core.Bool.{true}
 use mathlib.Core.List.{List, [], _∷_, _++_}
 use lib.ListN.{length, getD, take, drop}
 use lib.Seq.{sets}
 use lib.Ieee.{Float}
-use Rattle.lists.specs.Lists.{each}
+use Rattle.lists.specs.Lists.{each, every}
 use Rattle.mesh.specs.Limits.{width, ringLimit}
 use Rattle.mesh.specs.Mesh.{Mesh, Ring, cornersIn, rings}
 use Rattle.mesh.specs.Table.{meshNumber}
 use Rattle.mesh.specs.Face.{Sound}
-use Rattle.saving.specs.Pieces.{coordinateBytes, aFace, headerOf, recordOf, fileLength}
+use Rattle.floating.specs.Limits.{finite}
+use Rattle.saving.specs.Pieces.{finiteMesh, coordinateBytes, aFace, headerOf, recordOf, fileLength}
 
 -- the bytes are stored from a place on, and r is the place behind them
 pub record Stored (bytes o o' : List ℕ) (at r : ℕ) : Type 0 where
@@ -32,12 +34,18 @@ abbrev pub firstRows : ℕ → ℕ → List Float → List (List Float)
 firstRows w zero s = []
 firstRows w (suc n) s = take w s ∷ firstRows w n (drop w s)
 
--- an entry, and n entries, with room for their records
+-- finite coordinates, an entry, and n entries, with room for their bytes
+pub record Coordinates (l : List Float) (o : List ℕ) (at : ℕ) : Type 0 where
+  pub are-finite : every finite l ≡ true
+  pub fits : Fits (each coordinateBytes l) o at
+
 pub record AnEntry (kind : ℕ) (l : List Float) (o : List ℕ) (at : ℕ) : Type 0 where
+  pub are-finite : every finite l ≡ true
   pub small : length l ≤ 3
   pub fits : Fits (entryRecord kind l) o at
 
 pub record Entries (w n kind : ℕ) (s : List Float) (o : List ℕ) (at : ℕ) : Type 0 where
+  pub are-finite : every finite s ≡ true
   pub small : w ≤ 3
   pub whole : length s ≡ w * n
   pub fits : Fits (each (entryRecord kind) (firstRows w n s)) o at
@@ -62,4 +70,5 @@ pub record Faces (cs s o : List ℕ) (at : ℕ) : Type 0 where
 
 pub record Ready (m : Mesh) (o : List ℕ) : Type 0 where
   pub accepted : meshNumber m ≡ 0
+  pub are-finite : finiteMesh m ≡ true
   pub room : fileLength m ≤ length o

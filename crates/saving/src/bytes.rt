@@ -1,26 +1,25 @@
 // One record after the other. Each function stores bytes from a place on and answers the place behind them.
 ghost use mathlib.Core.Path.{_≡_};
+ghost use mathlib.Core.Bool.{true};
 ghost use mathlib.Core.List.{[], _∷_};
 ghost use Prim.Native.Nat.{_+_, _≤_};
 ghost use lib.ListN.{length};
 ghost use lib.Ieee.{binary64, toBits};
 ghost use Rattle.lists.specs.Lists.{each};
+ghost use Rattle.floating.specs.Limits.{finite};
 ghost use Rattle.little.specs.Little.{wordBytes};
 ghost use Rattle.mesh.specs.Mesh.{cornersIn, rings};
 ghost use Rattle.saving.specs.Pieces.{coordinateBytes, headerOf};
-ghost use Rattle.saving.specs.Working.{Stored, Fits, entryRecord, firstRows, faceRecord, AnEntry, Entries, AFace, Faces};
+ghost use Rattle.saving.specs.Working.{Stored, Fits, entryRecord, firstRows, faceRecord, Coordinates, AnEntry, Entries, AFace, Faces};
 
 // ---- parts of a record
 
-// The bits of a number. A NaN, which alone is unlike itself, gets one pattern of a NaN.
+// The bits of a finite number.
 fn bits_of(x: f64) -> u64
+    requires { ⌜ finite x ≡ true ⌝ }
     ensures { λ r. ⌜ r ≡ toBits binary64 x ⌝ }
 {
-    if x != x {
-        0x7ff8_0000_0000_0000
-    } else {
-        f64::to_bits(x)
-    }
+    f64::to_bits(x)
 }
 
 // A header: the length of a body, and its kind.
@@ -35,7 +34,7 @@ pub fn put_header(n: u32, kind: u32, out: &mut [u8], at: usize) -> usize
 
 // Coordinates: the eight bytes of the bits of each.
 fn put_coordinates(s: &[f64], out: &mut [u8], at: usize) -> usize
-    requires { ⌜ Fits (each coordinateBytes (now s)) (now out) at ⌝ }
+    requires { ⌜ Coordinates (now s) (now out) at ⌝ }
     ensures { λ r. ⌜ Stored (each coordinateBytes (now (s .entry))) (now (out .entry)) (now (out .exit)) at r ⌝ }
 {
     let mut to = at;

@@ -7,6 +7,7 @@ mod bytes;
 ghost use mathlib.Core.Path.{_≡_};
 ghost use Rattle.mesh.specs.Mesh.{meshOf};
 ghost use Rattle.mesh.specs.Table.{meshNumber};
+ghost use Rattle.floating.specs.Limits.{allFinite};
 ghost use Rattle.saving.specs.Pieces.{fileOf, fileLength};
 ghost use Rattle.saving.specs.Answer.{savingNumber, PanelWritten};
 ghost use Rattle.saving.specs.Working.{Stored, Ready};
@@ -23,8 +24,8 @@ pub struct Saved {
 // Writes a mesh as a panel file into a lent buffer.
 //
 // Lends: room for the whole file, which never has more than FILE bytes.
-// Numbers: 1 to 5 as the mesh earns; then 9 where the buffer is shorter than the whole file. A refusal comes with length 0, and
-// nothing is written.
+// Numbers: 1 to 5 as the mesh earns; then 14 where a coordinate is not finite, in an entry that no corner uses too; then 9 where the buffer
+// is shorter than the whole file. A refusal comes with length 0, and nothing is written.
 pub fn write_panel(
     positions: &[f64],
     textures: &[f64],
@@ -62,10 +63,25 @@ fn number(
     if number != 0 {
         return number;
     }
+    if !are_finite(positions, textures, normals) {
+        return 14;
+    }
     if room < file_length(positions, textures, normals, corners, sizes) {
         return 9;
     }
     0
+}
+
+// Every coordinate is finite.
+fn are_finite(positions: &[f64], textures: &[f64], normals: &[f64]) -> bool
+    ensures { λ r. ⌜ r ≡ allFinite (now (positions .entry)) (now (textures .entry)) (now (normals .entry)) ⌝ }
+{
+    if floating::are_finite(positions) {
+        if floating::are_finite(textures) {
+            return floating::are_finite(normals);
+        }
+    }
+    false
 }
 
 // How long the whole file of an accepted mesh is.
@@ -88,7 +104,7 @@ fn file_length(
     p + t + n + f + c + 4
 }
 
-// The file of an accepted mesh, where there is room for it. Answers how long it is.
+// The file of an accepted mesh with finite coordinates, where there is room for it. Answers how long it is.
 pub fn put_mesh(
     positions: &[f64],
     textures: &[f64],

@@ -1,18 +1,22 @@
-// What came of the cases. For each call, by the kind of its records, and in row 0 for all of them: how many answered each of the numbers 0 to
-// 13, how many cases there were, and how many differed from the list.
+// What came of the cases. For each call, by the kind of its records, and in row 0 for all of them: how many answered each number of the table,
+// how many cases there were, and how many differed from the list.
 use crate::cases::Outcome;
+
+// How many numbers the table has, from 0 on.
+const NUMBERS: u32 = 15;
 
 // A row for each kind of record; those of a mesh and of a panel file are no calls, so row 0 is for all of them, and row 12 stays empty.
 const ROWS: u32 = 16;
 
+// In a row stand the numbers, then the cases, then those that differed; and there it ends.
+const CASES: u32 = NUMBERS;
+
+const DIFFERED: u32 = NUMBERS + 1;
+
+const NOWHERE: u32 = NUMBERS + 2;
+
 // How many counts all rows have.
-pub const COUNTS: usize = 256;
-
-const CASES: u32 = 14;
-
-const DIFFERED: u32 = 15;
-
-const NOWHERE: u32 = 16;
+pub const COUNTS: usize = (ROWS * NOWHERE) as usize;
 
 // One more case of a call.
 pub(crate) fn add(tally: &mut [u32], call: u32, outcome: Outcome) {
@@ -28,7 +32,7 @@ fn add_in(tally: &mut [u32], row: u32, outcome: Outcome) {
 
 // In which place of its row a number counts, and a case that differs.
 fn answered(number: u32) -> u32 {
-    if number < CASES {
+    if number < NUMBERS {
         return number;
     }
     NOWHERE
@@ -45,7 +49,7 @@ fn difference(differs: bool) -> u32 {
 fn place(row: u32, number: u32) -> usize {
     if row < ROWS {
         if number < NOWHERE {
-            return (16 * row + number) as usize;
+            return (NOWHERE * row + number) as usize;
         }
     }
     COUNTS
@@ -105,7 +109,7 @@ fn line(tally: &[u32], row: u32, name: &[u8]) {
 
 fn numbers(tally: &[u32], row: u32) {
     let mut i = 0;
-    while i < CASES {
+    while i < NUMBERS {
         number(i, counted(tally, row, i));
         i += 1;
     }

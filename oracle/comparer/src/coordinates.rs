@@ -100,6 +100,12 @@ fn edge(random: &Random, step: f64) -> f64 {
     random.pick(&[1.0, -1.0]) * random.pick(&edges)
 }
 
+/// Not a number, quiet or signalling, of either sign, most of them with digits of their own; or an infinity.
+pub fn broken(random: &Random) -> f64 {
+    let digits = random.pick(&[0, 0, 1, 1 << 50, 1 << 51, (1 << 52) - 1, random.bits() >> 12]);
+    f64::from_bits(random.pick(&[0, 1 << 63]) | 0x7ff << 52 | digits)
+}
+
 /// Ordinary numbers with one now and then that is not finite, not a number, or at an edge.
 fn sprinkled(random: &Random, count: usize, step: f64) -> Vec<f64> {
     let rare = random.pick(&[3, 20, 200]);

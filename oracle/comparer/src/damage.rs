@@ -1,5 +1,6 @@
 //! Damage to a mesh and to the rooms of its results, for the numbers of the table.
 
+use crate::coordinates;
 use crate::random::Random;
 use judge::{Mesh, MISSING};
 
@@ -88,6 +89,18 @@ fn index_off(random: &Random, mesh: &mut Mesh) {
     let place = random.below(mesh.corners.len());
     let count = [mesh.positions.len() / 3, mesh.textures.len() / 2, mesh.normals.len() / 3][place % 3] as u32;
     mesh.corners[place] = random.pick(&[count, count, count + 1, count.wrapping_sub(1), MISSING, MISSING - 1, 0x8000_0000, 0]);
+}
+
+/// A coordinate or two of any list are not finite.
+pub fn coordinates(random: &Random, mesh: &mut Mesh) {
+    for _ in 0..random.within(1, 2) {
+        let list = random.below(3);
+        let list = [&mut mesh.positions, &mut mesh.textures, &mut mesh.normals].into_iter().nth(list).unwrap();
+        let place = random.below(list.len());
+        if let Some(coordinate) = list.get_mut(place) {
+            *coordinate = coordinates::broken(random);
+        }
+    }
 }
 
 /// The rooms that are lent for stated ones: exact, longer, or one of them too short.

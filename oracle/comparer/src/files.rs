@@ -1,19 +1,24 @@
 //! Panel files: made from random meshes, with records in any order, and then cut, lengthened and changed.
 
-use crate::meshes;
 use crate::random::Random;
+use crate::{coordinates, faults, meshes};
 use judge::reading::{sheet, writing};
 use judge::{Mesh, MISSING};
 
 /// A random file.
 pub fn random(random: &Random) -> Vec<u8> {
-    if random.once_in(40) {
-        return (0..random.below(80)).map(|_| random.bits() as u8).collect();
+    match random.below(40) {
+        0 => return (0..random.below(80)).map(|_| random.bits() as u8).collect(),
+        1..=8 => return faults::random(random),
+        _ => {}
     }
     let mesh = meshes::random(random).mesh;
     let mut records = records(random, &mesh);
     if random.once_in(12) {
         over_a_limit(random, &mut records);
+    }
+    if random.once_in(8) {
+        break_some(random, &mut records);
     }
     if random.once_in(2) {
         random.shuffle(&mut records);
@@ -29,7 +34,7 @@ pub fn random(random: &Random) -> Vec<u8> {
     file
 }
 
-fn record(kind: u16, body: &[u8]) -> Vec<u8> {
+pub fn record(kind: u16, body: &[u8]) -> Vec<u8> {
     [&(body.len() as u16).to_le_bytes(), &kind.to_le_bytes(), body].concat()
 }
 
@@ -57,9 +62,26 @@ fn records(random: &Random, mesh: &Mesh) -> Vec<Vec<u8>> {
     records
 }
 
-fn face(corners: &[u32]) -> Vec<u8> {
+pub fn face(corners: &[u32]) -> Vec<u8> {
     let numbers = corners.iter().flat_map(|number| number.to_le_bytes());
     record(4, &std::iter::once((corners.len() / 3) as u8).chain(numbers).collect::<Vec<u8>>())
+}
+
+/// A coordinate or two of the entries are not finite.
+fn break_some(random: &Random, records: &mut [Vec<u8>]) {
+    let mut entries: Vec<&mut Vec<u8>> = records.iter_mut().filter(|record| record[2] < 4).collect();
+    for _ in 0..random.within(1, 2) {
+        let place = random.below(entries.len());
+        if let Some(entry) = entries.get_mut(place) {
+            break_one(random, entry);
+        }
+    }
+}
+
+/// A coordinate of an entry is not finite.
+pub fn break_one(random: &Random, entry: &mut [u8]) {
+    let at = 4 + 8 * random.below((entry.len() - 4) / 8);
+    entry[at..at + 8].copy_from_slice(&coordinates::broken(random).to_le_bytes());
 }
 
 /// One list comes to its limit or one entry over it.

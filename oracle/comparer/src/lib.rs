@@ -1,13 +1,14 @@
 //! The comparer: the product's C interface against the judge, mesh by mesh.
 //!
 //! `library` asks the product, with lent lists that are filled with a pattern (`lent`); `check` holds what came back to the judge's
-//! answer. `meshes`, `shapes`, `coordinates`, `damage` and `files` make what is asked. A difference is made small by `shrink` and
-//! printed by `show`. What was written is read back by `round_trip`. `slips`, `wrong`, `wrong_files`, `wrong_merging` and `wrong_removal`
-//! show that the comparer can fail. What is public serves the lister too.
+//! answer. `meshes`, `shapes`, `coordinates`, `damage`, `files` and `faults` make what is asked. A difference is made small by `shrink` and
+//! printed by `show`. What was written is read back by `round_trip`. `slips`, `wrong`, `wrong_broken`, `wrong_files`, `wrong_merging` and
+//! `wrong_removal` show that the comparer can fail. What is public serves the lister too.
 
 pub mod check;
 mod coordinates;
 mod damage;
+mod faults;
 pub mod files;
 mod lent;
 mod library;
@@ -24,6 +25,7 @@ mod tally;
 #[cfg(test)]
 mod tests;
 mod wrong;
+mod wrong_broken;
 mod wrong_files;
 mod wrong_merging;
 mod wrong_removal;

@@ -115,7 +115,10 @@ impl Subject {
             return Subject { question, any_order: Question::default(), is_small: false };
         }
         let is_small = index < meshes::exhaustive_count();
-        let Case { mesh, tolerance } = if is_small { meshes::exhaustive(index, random) } else { meshes::random(random) };
+        let Case { mut mesh, tolerance } = if is_small { meshes::exhaustive(index, random) } else { meshes::random(random) };
+        if !is_small && random.once_in(8) {
+            damage::coordinates(random, &mut mesh);
+        }
         let any_order = Question { mesh: meshes::any_order(random, &mesh), ..Question::default() };
         Subject { question: Question { mesh, tolerance, ..Question::default() }, any_order, is_small }
     }

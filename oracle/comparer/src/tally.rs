@@ -1,10 +1,8 @@
 //! What was compared, in numbers.
 
 use crate::check::Compared;
+use judge::reading::numbers::NUMBERS;
 use judge::{Call, Count, Numbers, Question};
-
-/// The numbers of the table.
-const NUMBERS: usize = 14;
 
 /// What one call was asked.
 #[derive(Clone, Default)]

@@ -47,7 +47,7 @@ impl Product for Misreading {
 
     fn ask(&self, call: Call, question: &Question) -> Asked {
         let right = reading::answer(call, question);
-        let (_, wrong) = answers(call).iter().find(|(name, _)| *name == self.1).unwrap();
+        let (_, wrong) = answers(call).find(|(name, _)| *name == self.1).unwrap();
         Asked::answering(call, question, &wrong(question, &right).unwrap_or(right))
     }
 }

@@ -1,8 +1,7 @@
 //! Wrong answers that look right: what a product with one misreading of document 01 would say.
 
-use crate::wrong_files;
 use crate::wrong_merging::{merging, Misread};
-use crate::wrong_removal;
+use crate::{wrong_broken, wrong_files, wrong_removal};
 use judge::mesh::{Corner, Merged, Pushed, Verdict};
 use judge::reading::merging::put_together_same_attrs;
 use judge::reading::{cleaning, edges, numbers, panel_file, panels};
@@ -13,7 +12,12 @@ use std::collections::{BTreeMap, BTreeSet};
 pub type Wrong = fn(&Question, &Answer) -> Option<Answer>;
 
 /// The misreadings of a call, each by its name.
-pub fn answers(call: Call) -> &'static [(&'static str, Wrong)] {
+pub fn answers(call: Call) -> impl Iterator<Item = &'static (&'static str, Wrong)> {
+    of_its_own(call).iter().chain(wrong_broken::answers(call))
+}
+
+/// Those that no other call has.
+fn of_its_own(call: Call) -> &'static [(&'static str, Wrong)] {
     match call {
         Call::MeshNumber => &[
             ("the order of sizes asked before their range", order_before_range),

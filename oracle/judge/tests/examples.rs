@@ -194,12 +194,12 @@ fn the_sheet_of_document_01() {
     assert_eq!(reading::sheet::sheet(&file), "mesh 4 0 0 2\nverdict Oriented\npanels 1\nhem 0 1 2 3\n");
 }
 
-/// A mesh with something in each list, faces of three sizes, and coordinates of every kind.
+/// A mesh with something in each list, faces of three sizes, and coordinates of every kind that a file may have.
 fn furnished() -> Mesh {
     let faces: Vec<Vec<[u32; 3]>> =
         [3, 4, 32].iter().map(|n| (0..*n).map(|i| [i % 2, [0, MISSING][i as usize % 2], 0]).collect()).collect();
-    let positions = vec![0.0, -0.0, f64::INFINITY, 5e-324, -1.5, f64::MAX];
-    let (textures, normals) = (vec![0.1, f64::NEG_INFINITY], vec![1.0, 2.0, -3.0]);
+    let positions = vec![0.0, -0.0, f64::MIN_POSITIVE, 5e-324, -1.5, f64::MAX];
+    let (textures, normals) = (vec![0.1, f64::MIN], vec![1.0, 2.0, -3.0]);
     Mesh { positions, textures, normals, ..Mesh::default() }.with_faces(&faces)
 }
 
@@ -224,13 +224,13 @@ fn what_is_written_is_read_back_bit_for_bit() {
 #[test]
 fn a_written_file_byte_by_byte() {
     let faces = [vec![[0, 0, MISSING], [258, MISSING, 0], [1, 0, 0]]];
-    let (positions, textures, normals) = (vec![1.0, -0.0, -2.0], vec![0.5, 0.0], vec![0.0, 0.0, f64::NAN]);
+    let (positions, textures, normals) = (vec![1.0, -0.0, -2.0], vec![0.5, 0.0], vec![0.0, 0.0, f64::MAX]);
     let mesh = Mesh { positions, textures, normals, ..Mesh::default() }.with_faces(&faces);
     #[rustfmt::skip]
     let file = [
         24, 0, 1, 0, 0, 0, 0, 0, 0, 0, 0xf0, 0x3f, 0, 0, 0, 0, 0, 0, 0, 0x80, 0, 0, 0, 0, 0, 0, 0, 0xc0,
         16, 0, 2, 0, 0, 0, 0, 0, 0, 0, 0xe0, 0x3f, 0, 0, 0, 0, 0, 0, 0, 0,
-        24, 0, 3, 0, 0, 0, 0, 0, 0, 0, 0, 0, 0, 0, 0, 0, 0, 0, 0, 0, 0, 0, 0, 0, 0, 0, 0xf8, 0x7f,
+        24, 0, 3, 0, 0, 0, 0, 0, 0, 0, 0, 0, 0, 0, 0, 0, 0, 0, 0, 0, 255, 255, 255, 255, 255, 255, 0xef, 0x7f,
         37, 0, 4, 0, 3, 0, 0, 0, 0, 0, 0, 0, 0, 255, 255, 255, 255, 2, 1, 0, 0, 255, 255, 255, 255, 0, 0, 0, 0, 1, 0, 0, 0, 0, 0, 0, 0, 0, 0, 0, 0,
         0, 0, 0, 0,
     ];

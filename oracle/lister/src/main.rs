@@ -3,6 +3,7 @@
 //!
 //!     lister FILE     writes the list there, and prints how many cases each call has, and how many the Rust answered
 
+mod broken;
 mod faces;
 mod merging;
 mod panel_files;
@@ -11,7 +12,7 @@ mod subjects;
 
 use comparer::check::{rust_differs, rust_knows};
 use comparer::meshes::Case;
-use judge::reading::numbers::{mesh_number, stated_rooms};
+use judge::reading::numbers::{mesh_number, stated_rooms, NUMBERS};
 use judge::{reading, Call, Mesh, Question};
 use record::{File, List};
 
@@ -35,7 +36,8 @@ fn numbers(call: Call) -> &'static [u32] {
         Call::MeshNumber | Call::ShellCondition => &[0, 1, 2, 3, 4, 5],
         Call::PutTogetherSameAttrs => &[0, 1, 2, 3, 4, 5, 6, 7, 8, 9],
         Call::HouseWires => &[0, 1, 2, 3, 4, 5, 9, 10],
-        Call::ReadPanel | Call::CleanPanel => &[0, 1, 3, 5, 9, 11, 12, 13],
+        Call::ReadPanel | Call::CleanPanel => &[0, 1, 3, 5, 9, 11, 12, 13, 14],
+        Call::WritePanel => &[0, 1, 2, 3, 4, 5, 9, 14],
         Call::Push => &[0, 1, 2, 3, 9],
         _ => &[0, 1, 2, 3, 4, 5, 9],
     }
@@ -46,7 +48,7 @@ fn numbers(call: Call) -> &'static [u32] {
 struct Lister {
     list: List,
     cases: usize,
-    by_number: [[usize; 14]; Call::ALL.len()],
+    by_number: [[usize; NUMBERS]; Call::ALL.len()],
     by_rust: [usize; Call::ALL.len()],
 }
 
@@ -146,6 +148,13 @@ impl Lister {
         question
     }
 
+    /// A mesh, put to the writer, with so much room less than its file takes.
+    fn write(&mut self, mesh: &Mesh, less: usize) {
+        self.list.mesh(mesh);
+        let rooms = stated_rooms(Call::WritePanel, mesh).iter().map(|room| room - less).collect();
+        self.case(Call::WritePanel, &Question { mesh: mesh.clone(), rooms, ..Question::default() });
+    }
+
     /// A panel file, put to the cleaner alone.
     fn clean(&mut self, file: &File) {
         self.list.file(file);
@@ -176,6 +185,10 @@ fn list() -> Lister {
     lister.short_rooms_of(Call::ReadPanel, &mut question);
     lister.short_rooms_of(Call::CleanPanel, &mut question);
     panel_files::longest().iter().for_each(|file| lister.clean(file));
+    broken::files().iter().for_each(|file| {
+        lister.file(file);
+    });
+    broken::meshes().iter().for_each(|(mesh, less)| lister.write(mesh, *less));
     faces::orders().iter().chain(&faces::at_random()).enumerate().for_each(|(i, mesh)| {
         lister.faces(mesh, i % 3);
     });

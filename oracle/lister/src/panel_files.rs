@@ -10,24 +10,24 @@ use judge::{reading, MISSING};
 
 const SEED: u64 = 8;
 
-fn record(kind: u16, body: &[u8]) -> Vec<u8> {
+pub fn record(kind: u16, body: &[u8]) -> Vec<u8> {
     [&(body.len() as u16).to_le_bytes(), &kind.to_le_bytes(), body].concat()
 }
 
-fn attribute(kind: u16, numbers: &[f64]) -> Vec<u8> {
+pub fn attribute(kind: u16, numbers: &[f64]) -> Vec<u8> {
     record(kind, &numbers.iter().flat_map(|x| x.to_le_bytes()).collect::<Vec<u8>>())
 }
 
-fn face(corners: &[[u32; 3]]) -> Vec<u8> {
+pub fn face(corners: &[[u32; 3]]) -> Vec<u8> {
     let numbers = corners.iter().flatten().flat_map(|number| number.to_le_bytes());
     record(4, &std::iter::once(corners.len() as u8).chain(numbers).collect::<Vec<u8>>())
 }
 
-fn triangle(a: u32, b: u32, c: u32) -> Vec<u8> {
+pub fn triangle(a: u32, b: u32, c: u32) -> Vec<u8> {
     face(&[a, b, c].map(|p| [p, MISSING, MISSING]))
 }
 
-const END: [u8; 4] = [0; 4];
+pub const END: [u8; 4] = [0; 4];
 
 /// The document's own file: five positions, three faces, 267 bytes.
 fn example() -> Vec<u8> {
@@ -42,12 +42,12 @@ fn mixed() -> Vec<u8> {
     let sized = |n: u32| face(&(0..n).map(corner).collect::<Vec<_>>());
     [
         sized(5),
-        attribute(1, &[0.5, f64::NAN, f64::INFINITY]),
+        attribute(1, &[0.5, f64::MAX, f64::MIN_POSITIVE]),
         sized(4),
         attribute(2, &[-0.0, 5e-324]),
         sized(3),
         sized(0),
-        attribute(3, &[1.0, 2.0, f64::NEG_INFINITY]),
+        attribute(3, &[1.0, 2.0, f64::MIN]),
         face(&[[7, 7, 7]]),
         attribute(1, &[0.0, 0.0, 0.0]),
         sized(2),

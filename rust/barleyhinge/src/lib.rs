@@ -313,7 +313,7 @@ impl<'a> Mesh<'a> {
     }
 
     /// The mesh as a panel file: positions, texture points, normals, faces in their order, end. [`read_panel`] gives the same mesh back,
-    /// bit for bit, but that a NaN is some NaN.
+    /// bit for bit. Refuses 14 where a coordinate is not finite.
     pub fn to_panel(self) -> Result<Vec<u8>, Refusal> {
         let mut file = vec![
             0;
@@ -331,7 +331,7 @@ impl<'a> Mesh<'a> {
     }
 }
 
-/// Reads a panel file.
+/// Reads a panel file. Every coordinate of the mesh is finite.
 pub fn read_panel(file: &[u8]) -> Result<OwnedMesh, Refusal> {
     let mut read = OwnedMesh {
         positions: vec![0.0; 3 * MAX_ENTRIES],

@@ -31,10 +31,13 @@ pub enum Refusal {
     Record = 12,
     /// Bytes follow the end record.
     AfterEnd = 13,
+    /// A coordinate in a file is not finite: not a number, or an infinity.
+    NotFinite = 14,
 }
 
 impl Refusal {
-    const ALL: [Refusal; 13] = [
+    /// In the order of their numbers, from 1 on.
+    const ALL: &'static [Refusal] = &[
         Refusal::OverLimit,
         Refusal::Misfit,
         Refusal::FaceSize,
@@ -48,6 +51,7 @@ impl Refusal {
         Refusal::FileCut,
         Refusal::Record,
         Refusal::AfterEnd,
+        Refusal::NotFinite,
     ];
 
     /// Its number in the table.
@@ -55,7 +59,7 @@ impl Refusal {
         self as u32
     }
 
-    /// What a number that a call returned says. The contracts allow no number above 13.
+    /// What a number that a call returned says. The contracts allow none beyond the table.
     pub(crate) fn unless_done(number: u32) -> Result<(), Refusal> {
         match number {
             0 => Ok(()),
@@ -81,6 +85,7 @@ impl Refusal {
             Refusal::FileCut => "the file stops too early",
             Refusal::Record => "a record's kind is unknown, or its length is wrong",
             Refusal::AfterEnd => "bytes follow the end record",
+            Refusal::NotFinite => "a coordinate in a file is not finite",
         }
     }
 }

@@ -1,9 +1,10 @@
 -- `records::body` meets its contract: kind by kind; the length says that the body's bytes are there. Assumes nothing.
 use mathlib.Core.Path.{ap, _∙_, refl}
 use Rattle.records.specs.declared.Record.the-variants.{Position, Texture, Normal}
-use Rattle.records.specs.Records.{bodyFrom, lengthFits}
+use Rattle.records.specs.Records.{attribute, bodyFrom, lengthFits}
 use Rattle.records.proofs.Recorded.{body-is, a-face, body-face}
 use native.Mathlib.Omega.{arith}
+use borrow.Author.Needs.{needs}
 use Rattle.records.proofs.body.Statement.{statement}
 use Rattle.records.proofs.body.Tie as tie
 
@@ -15,25 +16,34 @@ point-from-requires : tie.Need-point-from-requires
 unfolding lengthFits
 point-from-requires c κs = omega (arith, c .before .before .before .pre .1 .0, body-is _ 1 _ 24 (c .if2 .taken) refl (c .before .before .before .pre .1 .1))
 
+position-requires : tie.Need-position-requires
+position-requires c κs = search needs
+
 returns-2 : tie.Need-returns-2
 unfolding bodyFrom
-returns-2 c = rw (c .before .if2 .taken) (ap Position (c .point-from .ensures))
+returns-2 c = rw (c .before .before .if2 .taken) (c .position .ensures ∙ ap (λ p. attribute (Position p)) (c .before .point-from .ensures))
 
 texel-from-requires : tie.Need-texel-from-requires
 unfolding lengthFits
 texel-from-requires c κs = omega (arith, c .before .before .before .before .pre .1 .0, body-is _ 2 _ 16 (c .if3 .taken) refl (c .before .before .before .before .pre .1 .1))
 
+texture-requires : tie.Need-texture-requires
+texture-requires c κs = search needs
+
 returns-3 : tie.Need-returns-3
 unfolding bodyFrom
-returns-3 c = rw (c .before .if3 .taken) (ap Texture (c .texel-from .ensures))
+returns-3 c = rw (c .before .before .if3 .taken) (c .texture .ensures ∙ ap (λ t. attribute (Texture t)) (c .before .texel-from .ensures))
 
 point-from-requires-2 : tie.Need-point-from-requires-2
 unfolding lengthFits
 point-from-requires-2 c κs = omega (arith, c .before .before .before .before .before .pre .1 .0, body-is _ 3 _ 24 (c .if4 .taken) refl (c .before .before .before .before .before .pre .1 .1))
 
+normal-requires : tie.Need-normal-requires
+normal-requires c κs = search needs
+
 returns-4 : tie.Need-returns-4
 unfolding bodyFrom
-returns-4 c = rw (c .before .if4 .taken) (ap Normal (c .point-from2 .ensures))
+returns-4 c = rw (c .before .before .if4 .taken) (c .normal .ensures ∙ ap (λ p. attribute (Normal p)) (c .before .point-from2 .ensures))
 
 face-requires : tie.Need-face-requires
 face-requires c κs =
@@ -55,10 +65,13 @@ body-spec =
     (tie.spec
     returns
     point-from-requires
+    position-requires
     returns-2
     texel-from-requires
+    texture-requires
     returns-3
     point-from-requires-2
+    normal-requires
     returns-4
     face-requires
     returns-5)

@@ -2,6 +2,7 @@
 //! document 02.
 
 pub mod cleaning;
+pub mod door;
 pub mod edges;
 pub mod merging;
 pub mod numbers;

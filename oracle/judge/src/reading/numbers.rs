@@ -1,10 +1,12 @@
 //! 'The mesh' and 'Numbers returned'.
 
-use super::{edges, panel_file, writing};
+use super::{door, edges, panel_file, writing};
 use crate::calls::{Call, Question};
 use crate::mesh::{Mesh, Verdict, MISSING};
 use std::ops::Range;
 
+/// How many numbers the table has with the rows of document 02, from 0 on.
+pub const NUMBERS: usize = 15;
 /// The most positions, texture points and normals, each.
 pub const ATTRIBUTES: usize = 2_048;
 /// The most corners.
@@ -25,8 +27,9 @@ pub fn number(call: Call, question: &Question) -> u32 {
             0 if [Verdict::Irregular, Verdict::Regular].contains(&edges::verdict(mesh)) => 10,
             number => number,
         },
+        Call::WritePanel => first(&[mesh_number(mesh), door::number(mesh), rooms]),
         Call::ReadPanel => first(&[rooms, panel_file::read(&question.file).err().unwrap_or(0)]),
-        // What is left is a mesh, and its file fits: nothing is refused after the reading.
+        // What is left is a mesh, its coordinates are finite, and its file fits: nothing is refused after the reading.
         Call::CleanPanel => first(&[rooms, writing::clean(&question.file).err().unwrap_or(0)]),
         // A refused file has a sheet of its own, which says so: only its room can be refused.
         Call::Sheet => rooms,

@@ -1,6 +1,7 @@
 //! 'The panel file': its reader, with the order in which it refuses.
 
 use super::cleaning::grouped;
+use super::door::is_broken;
 use super::numbers::{indices_are_off, ATTRIBUTES, CORNERS};
 use crate::mesh::{Corner, Mesh};
 
@@ -54,12 +55,16 @@ fn record<'a>(rest: &mut &'a [u8]) -> Result<(usize, &'a [u8]), u32> {
     Ok((kind as usize, body))
 }
 
-/// One more position, texture point or normal: limit 1.
+/// One more position, texture point or normal: not finite 14, limit 1.
 fn entry(list: &mut Vec<f64>, width: usize, body: &[u8]) -> Result<(), u32> {
+    let coordinates: Vec<f64> = body.chunks(8).map(|bytes| f64::from_le_bytes(bytes.try_into().unwrap())).collect();
+    if is_broken(&coordinates) {
+        return Err(14);
+    }
     if list.len() == ATTRIBUTES * width {
         return Err(1);
     }
-    list.extend(body.chunks(8).map(|bytes| f64::from_le_bytes(bytes.try_into().unwrap())));
+    list.extend(coordinates);
     Ok(())
 }
 

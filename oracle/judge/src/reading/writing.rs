@@ -4,9 +4,6 @@ use super::numbers::{ATTRIBUTES, CORNERS, FACES};
 use super::{cleaning, panel_file};
 use crate::mesh::{Corner, Mesh};
 
-/// The bytes of a NaN in a file, as a number. Document 02 says 'bit for bit'; the product has one NaN, and one pattern for it.
-pub const NAN: u64 = 0x7ff8_0000_0000_0000;
-
 /// The length of the longest file that a mesh can make: every list at its limit.
 pub const LONGEST: usize = length_of([ATTRIBUTES; 3], FACES, CORNERS);
 
@@ -49,8 +46,7 @@ fn record(file: &mut Vec<u8>, kind: u16, body: &[u8]) {
 }
 
 fn coordinates(point: &[f64]) -> Vec<u8> {
-    let bits = |x: &f64| if x.is_nan() { NAN } else { x.to_bits() };
-    point.iter().flat_map(|x| bits(x).to_le_bytes()).collect()
+    point.iter().flat_map(|x| x.to_le_bytes()).collect()
 }
 
 /// A byte n, then n corners.

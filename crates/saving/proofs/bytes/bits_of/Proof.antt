@@ -1,21 +1,14 @@
--- `saving::bytes::bits_of` meets its contract: only a NaN is unlike itself. Assumes nothing.
-use Rattle.saving.proofs.Storing.{nan-bits, no-nan}
+-- `saving::bytes::bits_of` meets its contract: what is finite is no NaN. Assumes nothing.
+use Rattle.floating.proofs.Finite.{no-nan}
 use borrow.Author.Needs.{needs}
 use Rattle.saving.proofs.bytes.bits_of.Statement.{statement}
 use Rattle.saving.proofs.bytes.bits_of.Tie as tie
 
 float-to-bits-result : tie.Need-float-to-bits-result
-float-to-bits-result c =
-    let start = c .before in
-    no-nan (start .args .x) (c .if1 .left)
+float-to-bits-result c = no-nan (c .args .x) (c .pre)
 
 returns : tie.Need-returns
-returns c =
-    let start = c .before in
-    nan-bits (start .args .x) (c .if1 .taken)
-
-returns-2 : tie.Need-returns-2
-returns-2 c = search needs
+returns c = search needs
 
 pub bits-of-spec : {M : Type 1} → statement M
-bits-of-spec = tie.close (tie.spec float-to-bits-result returns returns-2)
+bits-of-spec = tie.close (tie.spec float-to-bits-result returns)

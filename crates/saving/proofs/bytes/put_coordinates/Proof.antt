@@ -3,6 +3,9 @@ use Prim.Native.Nat.{_-_}
 use mathlib.Core.Path.{refl}
 use lib.ListN.{length}
 use lib.Ieee.{nan}
+use denote.Ref.{now}
+use Rattle.lists.proofs.Parts.{every-at}
+use Rattle.floating.specs.Limits.{finite}
 use Rattle.saving.specs.Pieces.{coordinateBytes}
 use Rattle.saving.proofs.Storing.{coordinate-stored}
 use Rattle.saving.proofs.Listing.{Putting, putting-begins, putting-turns, putting-ends, coordinate-room}
@@ -27,21 +30,24 @@ shared-slice-read-bits-of : tie.Need-shared-slice-read-bits-of Inv-loop μ-loop
 shared-slice-read-bits-of c = search needs
 
 bits-of-requires : tie.Need-bits-of-requires Inv-loop μ-loop
-bits-of-requires c κs = search needs
+bits-of-requires c κs =
+    let at-loop-test = c .before .before in
+    let start = at-loop-test .before .before .before .before in
+    every-at finite nan (now (start .args .s)) _ (start .pre .are-finite) (at-loop-test .loop-test .taken)
 
 put-long-requires : tie.Need-put-long-requires Inv-loop μ-loop
 put-long-requires c κs =
     let at-loop-test = c .before .before .before in
     let at-loop = at-loop-test .before in
     let start = at-loop .before .before .before in
-    coordinate-room _ _ _ _ _ _ (at-loop-test .loop-test .taken) (at-loop .loop .inv) (start .pre)
+    coordinate-room _ _ _ _ _ _ (at-loop-test .loop-test .taken) (at-loop .loop .inv) (start .pre .fits)
 
 add-to : tie.Need-add-to Inv-loop μ-loop
 add-to c =
     let at-loop-test = c .before .before .before .before .before .before in
     let at-loop = at-loop-test .before in
     let start = at-loop .before .before .before in
-    omega (arith, coordinate-room _ _ _ _ _ _ (at-loop-test .loop-test .taken) (at-loop .loop .inv) (start .pre))
+    omega (arith, coordinate-room _ _ _ _ _ _ (at-loop-test .loop-test .taken) (at-loop .loop .inv) (start .pre .fits))
 
 add-k : tie.Need-add-k Inv-loop μ-loop
 add-k c = search needs

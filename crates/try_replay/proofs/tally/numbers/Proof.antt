@@ -1,4 +1,4 @@
--- `try_tally::numbers` is safe and ends: the measure is how many of the 14 numbers are left. Assumes nothing.
+-- `tally::numbers` is safe and ends: the measure is how far i is from what a u32 cannot hold. Assumes nothing.
 use Prim.Native.Nat.{_-_}
 use borrow.Author.Needs.{needs}
 use Rattle.try_replay.proofs.tally.numbers.Statement.{statement}
@@ -8,7 +8,7 @@ abbrev Inv-loop : tie.InvT-loop
 Inv-loop tally row i₀ i = Unit {0}
 
 abbrev μ-loop : tie.MeasureT-loop
-μ-loop tally row i₀ i = 14 - i
+μ-loop tally row i₀ i = 4294967296 - i
 
 loop-holds : tie.Need-loop-holds Inv-loop μ-loop
 loop-holds c = search needs
