@@ -12,7 +12,8 @@ ghost use Rattle.folded.specs.Folded as want;
 ghost use Rattle.folded.specs.Origins.{numbered, originsOf};
 ghost use Rattle.folded.specs.Working.{Fit, Triangles, Ready, Numbered, Given, Behind, Left, originsFrom, refusedBy};
 use grouping::Filled;
-use mesh::{LEAST_RING, WIDTH};
+use mesh::LEAST_RING;
+use mesh::WIDTH;
 
 // How many numbers a triangle has.
 const TRIANGLE: usize = 3 * WIDTH;
@@ -158,7 +159,15 @@ fn remove_folded(
     if k == sizes.len() {
         return at;
     }
-    remove_behind(&corners[a..], &sizes[k..], k, newcorners, newsizes, origins, at)
+    remove_behind(
+        &corners[a..],
+        &sizes[k..],
+        k,
+        newcorners,
+        newsizes,
+        origins,
+        at,
+    )
 }
 
 // What is left of faces goes behind what is written; the first of them has number `first`.
@@ -180,7 +189,14 @@ fn remove_behind(
     let c = at.corners;
     let f = at.faces;
     let b = WIDTH * c;
-    let left = remove_larger(corners, sizes, first, &mut newcorners[b..], &mut newsizes[f..], &mut origins[f..]);
+    let left = remove_larger(
+        corners,
+        sizes,
+        first,
+        &mut newcorners[b..],
+        &mut newsizes[f..],
+        &mut origins[f..],
+    );
     Filled {
         corners: c + left.corners,
         faces: f + left.faces,

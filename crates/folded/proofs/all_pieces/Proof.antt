@@ -34,9 +34,10 @@ cast-n c = omega (arith, c .shared-slice-known3 .given (c .before .before .befor
 
 face-pieces-requires : tie.Need-face-pieces-requires Inv-loop μ-loop
 face-pieces-requires c κs =
+    let back = c .before .before .before .before .before .before .before .before .before .before .before in
     let loop = c .before .before .before .before .before .loop in
     let more = c .before .before .before .before .loop-test .taken in
-    removing-room _ _ _ _ _ _ _ _ _ _ _ _ more (c .before .before .before .face-at .ensures) (c .before .before .before .before .before .before .before .before .before .before .before .pre .ready) (loop .inv .pieces)
+    removing-room _ _ _ _ _ _ _ _ _ _ _ _ more (c .before .before .before .face-at .ensures) (back .pre .ready) (loop .inv .pieces)
 
 add-fill-tags : tie.Need-add-fill-tags Inv-loop μ-loop
 add-fill-tags c =
@@ -50,18 +51,21 @@ cast-fill-tags c =
 
 fill-tags-requires : tie.Need-fill-tags-requires Inv-loop μ-loop
 fill-tags-requires c κs =
-    let loop = c .before .before .before .before .before .before .before .before .before .before .before .loop in
-    let more = c .before .before .before .before .before .before .before .before .before .before .loop-test .taken in
-    let face = c .before .before .before .before .before .before .before .before .before .face-at .ensures in
+    let back = c .before .before .before .before .before .before .before .before .before in
+    let loop = back .before .before .loop in
+    let more = back .before .loop-test .taken in
+    let face = back .face-at .ensures in
     let put = c .before .before .before .before .before .face-pieces in
     let long = loop .inv .numbers .long in
-    going-room _ _ _ _ _ _ _ _ _ _ (loop .tags) _ _ _ _ _ _ more face (c .before .before .before .before .before .before .before .before .before .before .before .before .before .before .before .before .before .pre .ready) (loop .inv .pieces) (put .ensures) (put .kept .1 .1 .0) (put .kept .1 .1 .1 .0) long
+    let ready = back .before .before .before .before .before .before .before .before .pre .ready in
+    going-room _ _ _ _ _ _ _ _ _ _ (loop .tags) _ _ _ _ _ _ more face ready (loop .inv .pieces) (put .ensures) (put .kept .1 .1 .0) (put .kept .1 .1 .1 .0) long
 
 add-from : tie.Need-add-from Inv-loop μ-loop
 add-from c =
-    let sound = c .before .before .before .before .before .before .before .before .before .before .before .before .before .before .before .before .before .before .before .before .pre .ready .fit .sound in
-    let loop = c .before .before .before .before .before .before .before .before .before .before .before .before .before .before .loop in
-    let more = c .before .before .before .before .before .before .before .before .before .before .before .before .before .loop-test .taken in
+    let back = c .before .before .before .before .before .before .before .before .before .before .before .before .before in
+    let sound = back .before .before .before .before .before .before .before .pre .ready .fit .sound in
+    let loop = back .before .loop in
+    let more = back .loop-test .taken in
     omega (arith, walk-fits _ _ _ _ sound more (loop .inv .pieces .walk), sound .fits)
 
 add-k : tie.Need-add-k Inv-loop μ-loop

@@ -27,8 +27,9 @@ slice-aggregate-count-up c =
 
 count-up-requires : tie.Need-count-up-requires
 count-up-requires c κs =
-    let pre = c .before .before .before .before .before .before .before .before .before .before .before .before .before .before .pre in
-    few-numbers _ _ (c .before .before .before .before .before .before .before .before .before .before .before .before .before .before .args .origins .now) (pre .fit .sound) (omega (arith, faces-few _ _ (pre .fit), pre .origins))
+    let back = c .before .before .before .before .before .before .before .before .before .before .before .before .before .before in
+    let pre = back .pre in
+    few-numbers _ _ (back .args .origins .now) (pre .fit .sound) (omega (arith, faces-few _ _ (pre .fit), pre .origins))
 
 same-length : tie.Need-same-length
 same-length c = search needs
@@ -41,9 +42,10 @@ same-length-3 c = search needs
 
 returns : tie.Need-returns
 returns c =
-    let pre = c .before .before .before .before .before .before .before .before .before .before .before .before .before .before .before .before .before .pre in
+    let back = c .before .before .before .before .before .before in
+    let pre = back .before .before .before .before .before .before .before .before .before .before .before .pre in
     let room = faces-few _ _ (pre .fit) in
-    left-all _ _ _ _ _ _ _ _ (pre .fit .sound) (omega (arith, room, pre .origins)) (c .before .before .before .before .before .before .before .before .before .before .put .ensures) (c .before .before .before .before .before .before .put2 .ensures) (c .before .before .count-up .ensures)
+    left-all _ _ _ _ _ _ _ _ (pre .fit .sound) (omega (arith, room, pre .origins)) (back .before .before .before .before .put .ensures) (back .put2 .ensures) (c .before .before .count-up .ensures)
 
 pub keep-all-spec : {M : Type 1} → statement M
 keep-all-spec =

@@ -38,9 +38,10 @@ same-length-6 c = search needs
 
 returns-2 : tie.Need-returns-2
 returns-2 c =
-    let pre = c .before .before .before .before .before .before .before .before .before .before .before .before .before .before .before .before .before .pre in
-    let none = sym (c .before .before .before .before .before .before .before .before .before .before .before .any-folded .ensures) ∙ c .before .before .before .before .before .before .before .before .before .before .if1 .left in
-    left-same _ _ _ _ _ _ _ _ _ _ (pre .ready .fit) (pre .grouped) none (c .before .before .before .before .before .before .keep-all .ensures)
+    let back = c .before .before .before .before .before .before in
+    let pre = back .before .before .before .before .before .before .before .before .before .before .before .pre in
+    let none = sym (back .before .before .before .before .before .any-folded .ensures) ∙ back .before .before .before .before .if1 .left in
+    left-same _ _ _ _ _ _ _ _ _ _ (pre .ready .fit) (pre .grouped) none (back .keep-all .ensures)
 
 pub remove-spec : {M : Type 1} → statement M
 remove-spec =

@@ -49,10 +49,14 @@ remove-larger-requires : tie.Need-remove-larger-requires
 remove-larger-requires c κs = ready-tail _ _ _ _ _ _ _ _ (c .before .before .before .before .before .before .before .before .pre)
 
 add-t12 : tie.Need-add-t12
-add-t12 c = omega (arith, left-corners _ _ _ _ _ _ _ _ (c .before .before .before .before .before .before .before .before .before .before .before .before .before .before .before .before .pre .fit) (c .before .before .before .before .before .before .before .remove-larger .ensures .placed))
+add-t12 c =
+    let pre = c .before .before .before .before .before .before .before .before .before .before .before .before .before .before .before .before .pre in
+    omega (arith, left-corners _ _ _ _ _ _ _ _ (pre .fit) (c .before .before .before .before .before .before .before .remove-larger .ensures .placed))
 
 add-t24 : tie.Need-add-t24
-add-t24 c = omega (arith, left-faces _ _ _ _ _ _ _ _ (c .before .before .before .before .before .before .before .before .before .before .before .before .before .before .before .before .before .pre .fit) (c .before .before .before .before .before .before .before .before .remove-larger .ensures .placed))
+add-t24 c =
+    let pre = c .before .before .before .before .before .before .before .before .before .before .before .before .before .before .before .before .before .pre in
+    omega (arith, left-faces _ _ _ _ _ _ _ _ (pre .fit) (c .before .before .before .before .before .before .before .before .remove-larger .ensures .placed))
 
 same-length : tie.Need-same-length
 same-length c = search needs

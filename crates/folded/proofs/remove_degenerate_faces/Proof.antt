@@ -55,8 +55,10 @@ same-length-3 c = search needs
 
 returns-5 : tie.Need-returns-5
 returns-5 c =
-    let accepted = sym (c .before .before .before .before .before .before .before .before .before .before .before .before .before .before .number .ensures) ∙ c .before .before .before .before .before .before .before .before .before .before .before .before .before .if1 .left in
-    done _ _ _ _ accepted (c .before .before .before .before .before .before .before .before .before .before .before .before .if2 .left) (c .before .before .before .before .before .before .before .before .before .before .before .if3 .left) (c .before .before .before .before .before .before .before .before .before .before .if4 .left) _ _ _ _ _ (c .before .before .before .before .before .before .remove .ensures)
+    let back = c .before .before .before .before .before .before in
+    let accepted = sym (back .before .before .before .before .before .before .before .before .number .ensures) ∙ back .before .before .before .before .before .before .before .if1 .left in
+    let room = back .before .before .before .before in
+    done _ _ _ _ accepted (room .before .before .if2 .left) (room .before .if3 .left) (room .if4 .left) _ _ _ _ _ (back .remove .ensures)
 
 pub remove-degenerate-faces-spec : {M : Type 1} → statement M
 remove-degenerate-faces-spec =

@@ -24,7 +24,9 @@ slice-aggregate-all-pieces-2 : tie.Need-slice-aggregate-all-pieces-2
 slice-aggregate-all-pieces-2 c = sym (length-take-le _ _ (c .before .before .triangles .ensures .within))
 
 all-pieces-requires : tie.Need-all-pieces-requires
-all-pieces-requires c κs = ready-front _ _ _ _ _ _ (c .before .before .before .before .before .before .before .before .before .before .before .pre) (c .before .before .before .before .before .triangles .ensures)
+all-pieces-requires c κs =
+    let back = c .before .before .before .before .before .before .before .before .before .before .before in
+    ready-front _ _ _ _ _ _ (back .pre) (c .before .before .before .before .before .triangles .ensures)
 
 same-length : tie.Need-same-length
 same-length c = search needs
@@ -73,11 +75,12 @@ part-remove-behind-end-2 c = search needs
 
 remove-behind-requires : tie.Need-remove-behind-requires
 remove-behind-requires c κs =
-    let args = c .before .before .before .before .before .before .before .before .before .before .before .before .before .before .before .before .before .before .before .before .before .before .before .before .args in
-    let pre = c .before .before .before .before .before .before .before .before .before .before .before .before .before .before .before .before .before .before .before .before .before .before .before .before .pre in
-    let triangles = c .before .before .before .before .before .before .before .before .before .before .before .before .before .before .before .before .before .before .triangles in
+    let back = c .before .before .before .before .before .before .before .before .before .before .before .before in
+    let args = back .before .before .before .before .before .before .before .before .before .before .before .before .args in
+    let pre = back .before .before .before .before .before .before .before .before .before .before .before .before .pre in
+    let triangles = back .before .before .before .before .before .before .triangles in
     let k = triangles .result in
-    let first = c .before .before .before .before .before .before .before .before .before .before .before .before .all-pieces in
+    let first = back .all-pieces in
     rw (part-to-end (args .corners .now) (width * 3 * k), part-to-end (args .sizes .now) k)
     (ready-behind _ _ _ _ _ _ _ _ _ _ _ pre (triangles .ensures) (first .ensures .placed) (first .kept .1 .1 .1 .0) (first .kept .1 .1 .1 .1 .0) (first .kept .1 .1 .1 .1 .1 .0))
 
@@ -92,13 +95,15 @@ same-length-6 c = search needs
 
 returns-2 : tie.Need-returns-2
 returns-2 c =
-    let args = c .before .before .before .before .before .before .before .before .before .before .before .before .before .before .before .before .before .before .before .before .before .before .before .before .before .before .before .before .before .before .before .args in
-    let pre = c .before .before .before .before .before .before .before .before .before .before .before .before .before .before .before .before .before .before .before .before .before .before .before .before .before .before .before .before .before .before .before .pre in
-    let triangles = c .before .before .before .before .before .before .before .before .before .before .before .before .before .before .before .before .before .before .before .before .before .before .before .before .before .triangles in
+    let back = c .before .before .before .before .before .before in
+    let first = back .before .before .before .before .before .before .before .before .before .before .before .before .before .all-pieces .ensures in
+    let triangles = back .before .before .before .before .before .before .before .before .before .before .before .before .before .before .before .before .before .before .before .triangles in
     let k = triangles .result in
-    let first = c .before .before .before .before .before .before .before .before .before .before .before .before .before .before .before .before .before .before .before .all-pieces .ensures in
+    let start = back .before .before .before .before .before .before .before .before .before .before .before .before .before .before .before .before in
+    let args = start .before .before .before .before .before .before .before .before .before .args in
+    let pre = start .before .before .before .before .before .before .before .before .before .pre in
     left-parts _ _ _ _ _ _ _ _ _ _ _ _ _ _ _ _ (pre .fit) (triangles .ensures) first
-    (rw (part-to-end (args .corners .now) (width * 3 * k), part-to-end (args .sizes .now) k) at (c .before .before .before .before .before .before .remove-behind .ensures))
+    (rw (part-to-end (args .corners .now) (width * 3 * k), part-to-end (args .sizes .now) k) at (back .remove-behind .ensures))
 
 pub remove-folded-spec : {M : Type 1} → statement M
 remove-folded-spec =

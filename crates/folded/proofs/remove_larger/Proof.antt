@@ -22,7 +22,9 @@ all-pieces-requires : tie.Need-all-pieces-requires
 all-pieces-requires c κs = scratch-ready _ _ _ _ _ _ _ _ _ blank blank (c .before .before .before .before .before .before .before .before .pre)
 
 mul-c : tie.Need-mul-c
-mul-c c = omega (arith, few-corners _ _ _ _ _ _ _ _ _ _ _ (c .before .before .before .before .before .before .before .before .before .before .before .before .before .pre .ready) blank (c .before .before .before .before .all-pieces .ensures .placed))
+mul-c c =
+    let back = c .before .before .before .before .before .before .before .before .before .before .before .before .before in
+    omega (arith, few-corners _ _ _ _ _ _ _ _ _ _ _ (back .pre .ready) blank (c .before .before .before .before .all-pieces .ensures .placed))
 
 array-share-prefix-lens : tie.Need-array-share-prefix-lens
 array-share-prefix-lens c =
@@ -57,23 +59,27 @@ array-share-prefix-pieces c =
 
 slice-aggregate-push-all : tie.Need-slice-aggregate-push-all
 slice-aggregate-push-all c =
-    let pre = c .before .before .before .before .before .before .before .before .before .before .before .before .before .before .before .before .before .before .before .before .pre .ready in
-    sym (length-take-le _ _ (omega (arith, few-corners _ _ _ _ _ _ _ _ _ _ _ pre blank (c .before .before .before .before .before .before .before .before .before .before .before .all-pieces .ensures .placed), pre .fit .sound .fits)))
+    let back = c .before .before .before .before .before .before .before .before .before .before .before in
+    let pre = back .before .before .before .before .before .before .before .before .before .pre .ready in
+    sym (length-take-le _ _ (omega (arith, few-corners _ _ _ _ _ _ _ _ _ _ _ pre blank (back .all-pieces .ensures .placed), pre .fit .sound .fits)))
 
 array-share-prefix-lens-2 : tie.Need-array-share-prefix-lens-2
 array-share-prefix-lens-2 c =
-    let pre = c .before .before .before .before .before .before .before .before .before .before .before .before .before .before .before .before .before .before .before .before .pre .ready in
-    omega (arith, few-faces _ _ _ _ _ _ _ _ _ _ _ pre blank (c .before .before .before .before .before .before .before .before .before .before .before .all-pieces .ensures .placed), pre .fit .sound .fits)
+    let back = c .before .before .before .before .before .before .before .before .before .before .before in
+    let pre = back .before .before .before .before .before .before .before .before .before .pre .ready in
+    omega (arith, few-faces _ _ _ _ _ _ _ _ _ _ _ pre blank (back .all-pieces .ensures .placed), pre .fit .sound .fits)
 
 slice-aggregate-push-all-2 : tie.Need-slice-aggregate-push-all-2
 slice-aggregate-push-all-2 c =
-    let pre = c .before .before .before .before .before .before .before .before .before .before .before .before .before .before .before .before .before .before .before .before .before .pre .ready in
-    sym (length-take-le _ _ (omega (arith, few-faces _ _ _ _ _ _ _ _ _ _ _ pre blank (c .before .before .before .before .before .before .before .before .before .before .before .before .all-pieces .ensures .placed), pre .fit .sound .fits)))
+    let back = c .before .before .before .before .before .before .before .before .before .before .before .before in
+    let pre = back .before .before .before .before .before .before .before .before .before .pre .ready in
+    sym (length-take-le _ _ (omega (arith, few-faces _ _ _ _ _ _ _ _ _ _ _ pre blank (back .all-pieces .ensures .placed), pre .fit .sound .fits)))
 
 push-all-requires : tie.Need-push-all-requires
 push-all-requires c κs =
-    let pre = c .before .before .before .before .before .before .before .before .before .before .before .before .before .before .before .before .before .before .before .before .before .before .before .pre .ready in
-    let put = c .before .before .before .before .before .before .before .before .before .before .before .before .before .before .all-pieces .ensures .placed in (
+    let back = c .before .before .before .before .before .before .before .before .before .before .before .before .before .before in
+    let pre = back .before .before .before .before .before .before .before .before .before .pre .ready in
+    let put = back .all-pieces .ensures .placed in (
       pieces-sound _ _ _ _ _ _ _ _ _ _ _ pre blank put,
       (pieces-corners _ _ _ _ _ _ _ _ _ _ _ pre blank put, pieces-sizes _ _ _ _ _ _ _ _ _ _ _ pre blank put),
     )
@@ -89,9 +95,10 @@ same-length-3 c = search needs
 
 returns : tie.Need-returns
 returns c =
-    let pre = c .before .before .before .before .before .before .before .before .before .before .before .before .before .before .before .before .before .before .before .before .before .before .before .before .before .before .before .before .pre .ready in
-    let put = c .before .before .before .before .before .before .before .before .before .before .before .before .before .before .before .before .before .before .before .all-pieces .ensures in
-    left-grouped _ _ _ _ _ _ _ _ _ _ _ _ _ _ pre blank blank put _ _ _ _ _ _ (c .before .before .before .before .before .before .before .before .before .before .before .push-tags .ensures) (c .before .before .before .before .push-all .ensures)
+    let back = c .before .before .before .before .before .before .before .before .before .before .before in
+    let pre = back .before .before .before .before .before .before .before .before .before .before .before .before .before .before .before .before .before .pre .ready in
+    let put = back .before .before .before .before .before .before .before .before .all-pieces .ensures in
+    left-grouped _ _ _ _ _ _ _ _ _ _ _ _ _ _ pre blank blank put _ _ _ _ _ _ (back .push-tags .ensures) (c .before .before .before .before .push-all .ensures)
 
 pub remove-larger-spec : {M : Type 1} → statement M
 remove-larger-spec =
