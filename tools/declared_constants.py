@@ -2,7 +2,7 @@
 
 Read by check_declarations. A limit is read from the constants of mesh and sheet and from the rules beside them, a number of the table from
 the row of the rules that gives it, a verdict's number from the rules of what a call answers in C, and a stated room from the rule of number
-9 of its call.
+9 of its call. What counts by number has room for each of them, by a constant NUMBERS, which is held to the table.
 """
 import re
 
@@ -28,10 +28,13 @@ FACES = "crates/faces/specs/Faces.antt"
 FOLDED = "crates/folded/specs/Folded.antt"
 EDGES = "crates/edges/specs/Answers.antt"
 PANELS = "crates/panels/specs/Contract.antt"
+REPLAY = "crates/try_replay/src/tally.rt"
+DAMAGED = "crates/try_damaged/src/main.rt"
+ORACLE = "oracle/judge/src/reading/numbers.rs"
 SOURCES = (
     LIMITS, CONSTS, MESH, TABLE, COMPACTION, MERGING, PORTED, HOUSE, RECORDS, READING, PIECES, SAVING, WRITER, CLEANING, LINES, SHEET, SHEET_CONSTS, ANSWERS,
     FACES, FOLDED,
-    EDGES, PANELS,
+    EDGES, PANELS, REPLAY, DAMAGED, ORACLE,
 )
 
 
@@ -67,7 +70,12 @@ NUMBER_ROWS = {
     ("FILE_CUT", "FileCut"): (RECORDS, r"when \(ltb \(length s - at\) headerLength\) (\d+)"),
     ("RECORD", "Record"): (RECORDS, r"when \(ltb lastKind kind\) (\d+)"),
     ("AFTER_END", "AfterEnd"): (READING, r"when \(ltb \(x \.at\) \(length s\)\) (\d+)"),
+    ("NOT_FINITE", "NotFinite"): (RECORDS, r"when \(not \(every finite \(valuesOf r\)\)\) (\d+)"),
 }
+# The writer's own row of a number that the reader gives too.
+WRITER_ROWS = {"NOT_FINITE": (SAVING, r"when \(not \(finiteMesh m\)\) (\d+)")}
+# Where it is said how many numbers there are, 0 among them.
+COUNTS = {path: r"^(?:pub )?const NUMBERS: \w+ = (\d+);$" for path in (REPLAY, DAMAGED, ORACLE)}
 VERDICTS = ("Irregular", "Regular", "Oriented", "Closed")
 
 # The rule that has the stated room of each list that a call is lent, in the order of its parameters.
@@ -123,7 +131,16 @@ def longest_file(texts, limits):
 
 def numbers_of(texts):
     """The table: C name and wrapper's name, and the number."""
-    return {names: only_one(texts, *row) for names, row in NUMBER_ROWS.items()}
+    numbers = {names: only_one(texts, *row) for names, row in NUMBER_ROWS.items()}
+    for (name, _), number in numbers.items():
+        if name in WRITER_ROWS and only_one(texts, *WRITER_ROWS[name]) != number:
+            raise Unreadable(f"{name}: the reader and the writer differ")
+    return numbers
+
+
+def counts_in(texts):
+    """How many numbers there are: by the table, and by each place that says so."""
+    return 1 + max(numbers_of(texts).values()), {path: only_one(texts, path, pattern) for path, pattern in COUNTS.items()}
 
 
 def verdicts_of(texts):

@@ -13,6 +13,9 @@ import time
 
 ROOT = os.path.dirname(os.path.dirname(os.path.abspath(__file__)))
 EXAMPLES = os.path.join(ROOT, "examples")
+with open(os.path.join(ROOT, "tools", "refusals.txt"), encoding="utf-8") as words:
+    # The numbers that a file can earn.
+    REFUSALS = [int(line.split(" ", 1)[0]) for line in words]
 # In the place of the kit: it takes its time, fails where another is at work, and puts the program there.
 KIT = """#!/bin/sh
 mkdir target/working || { echo 'rt: two at once'; exit 1; }

@@ -3,6 +3,7 @@
 Outside the proofs. The numbers of a refusal have their words in refusals.txt, which ./meshsheet and ./meshclean read too; LONGEST in
 them is how many bytes a file may have, for these tools as many as have a sheet.
 """
+import math
 import os
 import struct
 import sys
@@ -116,6 +117,8 @@ def read(data):
     for kind, body in records_of(data):
         if kind != FACE:
             entries[kind].append(struct.unpack(f"<{WIDTHS[kind]}d", body))
+            if not all(map(math.isfinite, entries[kind][-1])):
+                refuse(14)
             if len(entries[kind]) > ENTRIES:
                 refuse(1)
             continue

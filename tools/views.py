@@ -10,14 +10,14 @@ CELLS = 48
 
 
 def scaled(points):
-    """The points moved and scaled into a cube round the origin; what is not finite is drawn in its middle."""
+    """The points moved and scaled into a cube round the origin."""
     bounds = []
     for axis in range(3):
-        values = [p[axis] for p in points if math.isfinite(p[axis])] or [0.0]
+        values = [p[axis] for p in points] or [0.0]
         bounds.append((min(values), max(values)))
     half = max(high / 2 - low / 2 for low, high in bounds) or 1.0
     middle = [low / 2 + high / 2 for low, high in bounds]
-    return [tuple((p[a] - middle[a]) / half * SIZE if math.isfinite(p[a]) else 0.0 for a in range(3)) for p in points]
+    return [tuple((p[a] - middle[a]) / half * SIZE for a in range(3)) for p in points]
 
 
 def between(a, b, t):

@@ -2,11 +2,15 @@
 
 Outside the proofs. What is taken and what is refused stands in obj2panel's help.
 """
+import math
 import re
 
 from panel_format import BYTES, CORNERS, CORNERS_OF_A_FACE, ENTRIES, HEADER, Refused, quoted, size_of_entry, size_of_face
 
 NUMBER = re.compile(r"[+-]?([0-9]+(\.[0-9]*)?|\.[0-9]+)([eE][+-]?[0-9]+)?")
+# How programs write what is not finite; the last form, 1.#QNAN or 1.#INF, is that of older ones, and its '#' begins no comment.
+NOT_FINITE = re.compile(r"[+-]?(nan(\(.*\))?|inf|infinity|[0-9]\.#[a-z]+[0-9]*)", re.IGNORECASE)
+COMMENT = re.compile(r"(?<![0-9]\.)#.*")
 INDEX = "[+-]?[0-9]{1,18}"
 CORNER = re.compile(rf"{INDEX}(/({INDEX})?){{0,2}}")
 BLANKS = re.compile("[ \t\v\f]+")
@@ -23,10 +27,12 @@ class Slip(Refused):
 
 
 def number(line, word):
+    if NOT_FINITE.fullmatch(word):
+        raise Slip(line, f"{quoted(word)} is not finite")
     if not NUMBER.fullmatch(word):
         raise Slip(line, f"{quoted(word)} is no number")
     value = float(word)
-    if value in (float("inf"), float("-inf")):
+    if math.isinf(value):
         raise Slip(line, f"{quoted(word)} is too large")
     return value
 
@@ -165,7 +171,7 @@ def lines(text):
     """
     joined, first = "", 1
     for count, line in enumerate(text.replace("\r\n", "\n").replace("\r", "\n").split("\n"), 1):
-        joined += line.split("#", 1)[0].rstrip(" \t\v\f")
+        joined += COMMENT.sub("", line).rstrip(" \t\v\f")
         words = words_of(joined.removesuffix("\\"))
         if joined.endswith("\\") and words[:1] in ([], *([k] for k in KEYWORDS)):
             joined = joined[:-1] + " "

@@ -42,8 +42,10 @@ fn sheets_prints_each_sheet() {
 
 #[test]
 fn damaged_counts_each_number() {
-    let counted: String =
-        files("try_damaged").iter().map(|(name, file)| format!("== {name}\n{}{}", cuts(file), headers(file))).collect();
+    let counted: String = files("try_damaged")
+        .iter()
+        .map(|(name, file)| format!("== {name}\n{}{}{}", cuts(file), headers(file), broken(file)))
+        .collect();
     assert_eq!(counted, stored("try_damaged"));
 }
 
@@ -92,14 +94,34 @@ fn cuts(file: &[u8]) -> String {
     lines("cut", (0..=file.len()).map(|n| number(&file[..n])))
 }
 
+/// Where each record begins, and how long its body is.
+fn records(file: &[u8]) -> Vec<(usize, usize)> {
+    let (mut records, mut at) = (vec![], 0);
+    while at < file.len() {
+        let length = u16::from_le_bytes([file[at], file[at + 1]]) as usize;
+        records.push((at, length));
+        at += 4 + length;
+    }
+    records
+}
+
+/// Every coordinate changed: to NaNs and infinities, which are refused, and to the largest numbers of either sign, which are not.
+fn broken(file: &[u8]) -> String {
+    let entries = records(file).into_iter().filter(|(at, _)| (1..=3).contains(&file[at + 2]));
+    let places: Vec<usize> = entries.flat_map(|(at, length)| (at + 4..at + 4 + length).step_by(8)).collect();
+    let with = |values: &[u64]| -> Vec<u32> {
+        let changes = places.iter().flat_map(|at| values.iter().map(move |value| (*at, *value)));
+        changes.map(|(at, value)| number(&[&file[..at], &value.to_le_bytes(), &file[at + 8..]].concat())).collect()
+    };
+    let infinity = f64::INFINITY.to_bits();
+    let broken = with(&[0x7ff8_0000_0000_0000, 0xfff0_0000_0000_0001, infinity, infinity | 1 << 63]);
+    let large = with(&[f64::MAX.to_bits(), f64::MIN.to_bits()]);
+    lines("broken coordinate", broken.into_iter()) + &lines("large coordinate", large.into_iter())
+}
+
 /// Every byte of every header changed to each other value.
 fn headers(file: &[u8]) -> String {
-    let mut bytes = vec![];
-    let mut at = 0;
-    while at < file.len() {
-        bytes.extend(at..at + 4);
-        at += 4 + u16::from_le_bytes([file[at], file[at + 1]]) as usize;
-    }
+    let bytes: Vec<usize> = records(file).into_iter().flat_map(|(at, _)| at..at + 4).collect();
     lines(
         "changed header",
         bytes.iter().flat_map(|at| {
