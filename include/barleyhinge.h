@@ -35,9 +35,9 @@
 
 /* The version of this interface. */
 #define BH_VERSION_MAJOR 0
-#define BH_VERSION_MINOR 4
+#define BH_VERSION_MINOR 5
 #define BH_VERSION_PATCH 0
-#define BH_VERSION "0.4.0"
+#define BH_VERSION "0.5.0"
 
 #include <stdbool.h>
 #include <stddef.h>
