@@ -3,6 +3,7 @@
    comes the sheet again, from the one call that makes all of it. One byte more than a file may have is read, so that a longer one is refused and not cut.
    rust/barleyhinge/examples/cover.rs is the same from Rust; tools/try_library builds and runs both. */
 #include "barleyhinge.h"
+#include <math.h>
 #include <stdio.h>
 #include <string.h>
 
@@ -122,6 +123,19 @@ static void print_written(const uint8_t *file, size_t file_len) {
     printf("cleaned %u bytes %zu%s\n", number, bytes, same && refused ? ", the same" : "");
 }
 
+/* The cleaned cover with one more position that is not finite, and that no corner uses: it is a mesh, and no file is made of it. */
+static void print_broken(void) {
+    static uint8_t written[BH_FILE_ROOM];
+    size_t length;
+    if (clean.positioncount < BH_MAX_ENTRIES) {
+        double broken[3] = {0.0, HUGE_VAL, 0.0};
+        memcpy(clean.positions + 3 * clean.positioncount, broken, sizeof broken);
+        clean.positioncount++;
+        uint32_t number = bh_mesh_number(LISTS(&clean)), refusal = bh_write_panel(LISTS(&clean), ROOM(written), &length);
+        printf("broken %u written %u: %s\n", number, refusal, bh_text(refusal));
+    }
+}
+
 int main(void) {
     static uint8_t file[BH_MAX_FILE + 1], text[BH_SHEET_ROOM];
     size_t length = fread(file, 1, sizeof file, stdin), bytes;
@@ -131,6 +145,7 @@ int main(void) {
         print_row("drawn as", origins, clean.facecount);
         print_more();
         print_written(file, length);
+        print_broken();
     } else {
         printf("refused %u\n", number);
     }

@@ -1,10 +1,10 @@
 //! Misreadings of 'no broken coordinates past the door': of the reader, of the writer, and of the cleaner and the sheet, which read.
 
+use crate::one_by_one::{coordinates, header, is_entry, mend_mesh, mended_file, records, used, used_in_file, Coordinate, WIDTHS};
 use crate::wrong::{number, Wrong};
 use judge::reading::door::is_broken;
 use judge::reading::{self, panel_file, writing};
-use judge::{Answer, Call, Mesh, Question};
-use std::collections::BTreeSet;
+use judge::{Answer, Call, Question};
 
 /// The misreadings of a call, each by its name.
 pub fn answers(call: Call) -> &'static [(&'static str, Wrong)] {
@@ -86,35 +86,6 @@ const SHEET: &[(&str, Wrong)] = &[
     ("texture points and normals not looked at", |q, _| passing(Call::Sheet, q, &|c| c.list > 0)),
 ];
 
-/// How many coordinates an entry of each list has.
-const WIDTHS: [usize; 3] = [3, 2, 3];
-
-/// A coordinate: in which list, of which entry of it, at which place there.
-struct Coordinate {
-    list: usize,
-    number: usize,
-    place: usize,
-    bits: u64,
-}
-
-impl Coordinate {
-    fn is_broken(&self) -> bool {
-        is_broken(&[f64::from_bits(self.bits)])
-    }
-
-    fn is_infinite(&self) -> bool {
-        self.bits << 1 == 0x7ff << 53
-    }
-
-    fn is_signalling(&self) -> bool {
-        !self.is_infinite() && self.bits >> 51 & 1 == 0
-    }
-
-    fn entry(&self) -> (usize, u32) {
-        (self.list, self.number as u32)
-    }
-}
-
 /// What merging refuses, and a file may hold.
 fn is_large(x: f64) -> bool {
     x.is_finite() && x.abs() > 2f64.powi(60)
@@ -129,79 +100,6 @@ fn passing(call: Call, question: &Question, passes: &dyn Fn(&Coordinate) -> bool
         mend_mesh(&mut mended.mesh, passes);
     }
     Some(reading::answer(call, &mended))
-}
-
-fn mended_file(file: &[u8], passes: &dyn Fn(&Coordinate) -> bool) -> Vec<u8> {
-    let mut mended = file.to_vec();
-    for (at, _) in coordinates(file).iter().filter(|(_, c)| c.is_broken() && passes(c)) {
-        mended[*at..*at + 8].copy_from_slice(&1f64.to_le_bytes());
-    }
-    mended
-}
-
-fn mend_mesh(mesh: &mut Mesh, passes: &dyn Fn(&Coordinate) -> bool) {
-    for (list, numbers) in [&mut mesh.positions, &mut mesh.textures, &mut mesh.normals].into_iter().enumerate() {
-        for (i, x) in numbers.iter_mut().enumerate() {
-            let coordinate = Coordinate { list, number: i / WIDTHS[list], place: i % WIDTHS[list], bits: x.to_bits() };
-            if coordinate.is_broken() && passes(&coordinate) {
-                *x = 1.0;
-            }
-        }
-    }
-}
-
-/// The whole records of a file in front of its end, whatever is wrong with them: where each body begins, its kind, and the body.
-fn records(file: &[u8]) -> Vec<(usize, usize, &[u8])> {
-    let (mut at, mut found) = (0, vec![]);
-    while let Some((length, kind)) = header(file, at) {
-        if kind == 0 || file.len() < at + 4 + length {
-            break;
-        }
-        found.push((at + 4, kind, &file[at + 4..at + 4 + length]));
-        at += 4 + length;
-    }
-    found
-}
-
-/// The length and the kind of the record at a place.
-fn header(file: &[u8], at: usize) -> Option<(usize, usize)> {
-    let bytes = file.get(at..at + 4)?;
-    Some((u16::from_le_bytes([bytes[0], bytes[1]]) as usize, u16::from_le_bytes([bytes[2], bytes[3]]) as usize))
-}
-
-/// The coordinates of a file's entries, each with where it stands.
-fn coordinates(file: &[u8]) -> Vec<(usize, Coordinate)> {
-    let (mut numbers, mut found) = ([0; 3], vec![]);
-    for (at, kind, body) in records(file) {
-        if !is_entry(kind, body.len()) {
-            continue;
-        }
-        let (list, number) = (kind - 1, numbers[kind - 1]);
-        numbers[list] += 1;
-        for (place, bytes) in body.chunks_exact(8).enumerate() {
-            let bits = u64::from_le_bytes(bytes.try_into().unwrap());
-            found.push((at + 8 * place, Coordinate { list, number, place, bits }));
-        }
-    }
-    found
-}
-
-fn is_entry(kind: usize, length: usize) -> bool {
-    (1..=3).contains(&kind) && length == 8 * WIDTHS[kind - 1]
-}
-
-/// The entries that corners use, by list and number.
-fn used(corners: &[u32]) -> BTreeSet<(usize, u32)> {
-    corners.iter().enumerate().map(|(i, index)| (i % 3, *index)).collect()
-}
-
-fn used_in_file(file: &[u8]) -> BTreeSet<(usize, u32)> {
-    let faces = records(file).into_iter().filter(|(_, kind, body)| *kind == 4 && body.len() > 36);
-    let corners: Vec<u32> = faces
-        .flat_map(|(_, _, body)| body[1..].chunks_exact(4))
-        .map(|index| u32::from_le_bytes(index.try_into().unwrap()))
-        .collect();
-    used(&corners)
 }
 
 /// The limit of a list is asked before the coordinates of an entry.

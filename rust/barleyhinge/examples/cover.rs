@@ -6,7 +6,7 @@
 //! It has C's `main`, since the start-up code of a Rust `main` does not get through the emulator that runs x86-64 programs on Arm.
 #![no_main]
 
-use barleyhinge::{clean_panel, read_panel, sheet, Faces, Mesh, OwnedMesh, Refusal, Rows, MAX_FACES, MAX_FILE};
+use barleyhinge::{clean_panel, read_panel, sheet, Faces, Mesh, OwnedMesh, Refusal, Rows, MAX_ENTRIES, MAX_FACES, MAX_FILE};
 use std::io::Read;
 
 /// Reads, removes folded faces, compacts: the clean cover, and for each of its faces the number of the drawn face it came from.
@@ -81,6 +81,17 @@ fn print_written(clean: &OwnedMesh, file: &[u8]) -> Result<(), Refusal> {
     Ok(())
 }
 
+/// The cleaned cover with one more position that is not finite, and that no corner uses: it is a mesh, and no file is made of it.
+fn print_broken(mut clean: OwnedMesh) {
+    if clean.positions.len() < 3 * MAX_ENTRIES {
+        clean.positions.extend([0.0, f64::INFINITY, 0.0]);
+        let number = clean.mesh().check().map_or_else(Refusal::number, |()| 0);
+        if let Err(refusal) = clean.mesh().to_panel() {
+            println!("broken {number} written {}: {}", refusal.number(), refusal.text());
+        }
+    }
+}
+
 #[no_mangle]
 pub extern "C" fn main() -> i32 {
     let mut file = vec![];
@@ -89,7 +100,9 @@ pub extern "C" fn main() -> i32 {
         print_sheet(clean.mesh())?;
         print_row("drawn as", &origins);
         print_more(clean.mesh())?;
-        print_written(&clean, &file)
+        print_written(&clean, &file)?;
+        print_broken(clean);
+        Ok(())
     });
     if let Err(refusal) = done {
         println!("refused {}", refusal.number());
