@@ -65,7 +65,7 @@ fn put(file: &mut [u8], at: usize, value: u8) {
 }
 
 // Where the record behind the one at a place begins, or the file's end.
-fn behind(file: &[u8], at: usize) -> usize
+pub(crate) fn behind(file: &[u8], at: usize) -> usize
     requires { ⌜ at < length (now file) ⌝ }
     ensures { λ r. ⌜ at < r ⌝ }
     ensures { λ r. ⌜ r ≤ length (now (file .entry)) ⌝ }
@@ -79,7 +79,7 @@ fn behind(file: &[u8], at: usize) -> usize
 }
 
 // One copy is read, and its number counted.
-fn tally(file: &[u8], counts: &mut [u32]) {
+pub(crate) fn tally(file: &[u8], counts: &mut [u32]) {
     let mut positions = [0.0f64; mesh::POINT_NUMBERS];
     let mut textures = [0.0f64; mesh::TEXEL_NUMBERS];
     let mut normals = [0.0f64; mesh::POINT_NUMBERS];

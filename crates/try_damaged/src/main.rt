@@ -1,8 +1,26 @@
 // Feeds damaged copies of good panel files to the reader, and prints only how often each number came back.
 //
 // The arguments name the files, which stand in data/. Of each file come every cut (its first 0, 1, 2, .. bytes, the whole file last),
-// and every change of one byte of a record's header to each of the 255 other values. Every copy ends in a number.
+// every change of one byte of a record's header to each of the 255 other values, and every change of one coordinate to a NaN, of two
+// patterns, to an infinity, of either sign, and to the greatest finite number, of either sign. Every copy ends in a number.
+mod coordinates;
 mod copies;
+
+// How many numbers the table has, 0 among them.
+const NUMBERS: usize = 15;
+
+// The bits of what is not finite, and of the greatest that is.
+const NAN: u64 = 0x7ff8_0000_0000_0000;
+
+const OTHER_NAN: u64 = 0xfff0_0000_0000_0001;
+
+const INFINITY: u64 = 0x7ff0_0000_0000_0000;
+
+const MINUS_INFINITY: u64 = 0xfff0_0000_0000_0000;
+
+const GREATEST: u64 = 0x7fef_ffff_ffff_ffff;
+
+const LEAST: u64 = 0xffef_ffff_ffff_ffff;
 
 fn main() {
     let count = os::arg_count();
@@ -33,10 +51,30 @@ fn one_file(i: usize) {
 fn damage(fd: i32) {
     let mut file = [0u8; 4096];
     let n = io::read_full(fd, &mut file[..]);
-    let mut cut = [0u32; 14];
-    copies::cuts(&file[..n], &mut cut[..]);
+    count_bytes(&mut file[..n]);
+    count_coordinates(&mut file[..n]);
+}
+
+// Cuts and changes of a header.
+fn count_bytes(file: &mut [u8]) {
+    let mut cut = [0u32; NUMBERS];
+    copies::cuts(file, &mut cut[..]);
     copies::print_counts(b"cut", &cut[..]);
-    let mut changed = [0u32; 14];
-    copies::headers(&mut file[..n], &mut changed[..]);
+    let mut changed = [0u32; NUMBERS];
+    copies::headers(file, &mut changed[..]);
     copies::print_counts(b"changed header", &changed[..]);
+}
+
+// Changes of a coordinate: those that are not finite, and the greatest that are.
+fn count_coordinates(file: &mut [u8]) {
+    let mut broken = [0u32; NUMBERS];
+    coordinates::changes(file, NAN, &mut broken[..]);
+    coordinates::changes(file, OTHER_NAN, &mut broken[..]);
+    coordinates::changes(file, INFINITY, &mut broken[..]);
+    coordinates::changes(file, MINUS_INFINITY, &mut broken[..]);
+    copies::print_counts(b"broken coordinate", &broken[..]);
+    let mut large = [0u32; NUMBERS];
+    coordinates::changes(file, GREATEST, &mut large[..]);
+    coordinates::changes(file, LEAST, &mut large[..]);
+    copies::print_counts(b"large coordinate", &large[..]);
 }

@@ -1,22 +1,33 @@
-// Tries the writer on the longest file that a mesh can make, every list at its limit, with exactly its room and with one byte less, and
-// the reader on what was written; and prints what each answers.
+// Tries the writer on the longest file that a mesh can make, every list at its limit, with exactly its room and with one byte less, also
+// with a last coordinate that no corner uses and that is not finite, and the reader on what was written; and prints what each answers.
 const LESS: usize = saving::FILE - 1;
+
+const LAST_COORDINATE: usize = mesh::POINT_NUMBERS - 1;
 
 const LAST: usize = mesh::FACES - 1;
 
 fn main() {
     let mut less = [b'.'; LESS];
-    let refused = write(&mut less);
+    let refused = write(0.5, &mut less);
     show(b"one byte short", refused, untouched(&less) as u64);
+    let broken = write(0.0 / 0.0, &mut less);
+    show(b"one byte short, a NaN", broken, untouched(&less) as u64);
     let mut file = [b'.'; saving::FILE];
-    let written = write(&mut file);
+    let endless = write(-1.0 / 0.0, &mut file);
+    show(
+        b"with its room, an infinity",
+        endless,
+        untouched(&file) as u64,
+    );
+    let written = write(0.5, &mut file);
     show(b"with its room", written, untouched(&file) as u64);
     read(&file);
 }
 
-// 1,364 triangles and a quadrangle are 4,096 corners.
-fn write(out: &mut [u8]) -> saving::Saved {
-    let points = [0.5; mesh::POINT_NUMBERS];
+// 1,364 triangles and a quadrangle are 4,096 corners. The last coordinate of positions and normals is x.
+fn write(x: f64, out: &mut [u8]) -> saving::Saved {
+    let mut points = [0.5; mesh::POINT_NUMBERS];
+    points[LAST_COORDINATE] = x;
     let textures = [0.5; mesh::TEXEL_NUMBERS];
     let corners = [0u32; mesh::CORNER_NUMBERS];
     let mut sizes = [3u32; mesh::FACES];
