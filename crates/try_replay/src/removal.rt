@@ -83,16 +83,7 @@ fn lend_origins(
 ) -> Outcome {
     let mut all = [0u32; cases::ROOM];
     let o = lent::lend(&mut all, list::count(list, place));
-    let r = folded::remove_degenerate_faces(
-        positions,
-        textures,
-        normals,
-        corners,
-        sizes,
-        c,
-        s,
-        o,
-    );
+    let r = folded::remove_degenerate_faces(positions, textures, normals, corners, sizes, c, s, o);
     let said = cases::saying(r.number, r.corners, r.faces);
     let found = cases::held(list, at, COUNTS, said, cases::after_words(list, place));
     cases::also(found, lent::words_differ(o, list, place))
