@@ -8,3 +8,4 @@ pub mod Answer
 pub mod Examples
 pub mod Origins
 pub mod Telling
+pub mod Behind
