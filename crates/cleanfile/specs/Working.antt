@@ -16,7 +16,7 @@ pub record Ready (m : Mesh) (out : List ℕ) : Type 0 where
   pub accepted : meshNumber m ≡ 0
   pub room : fileLimit ≤ length out
 
--- lists at the full limits for a mesh, for what is left of its faces, and for what they use, and room for the file
+-- lists at the full limits for a mesh, for what is left of its faces with their origins, and for what they use, and room for the file
 pub record FileRoom (p t n : List Float) (c s out : List ℕ) : Type 0 where
   pub positions : length p ≡ pointNumbers
   pub textures : length t ≡ texelNumbers
@@ -25,10 +25,11 @@ pub record FileRoom (p t n : List Float) (c s out : List ℕ) : Type 0 where
   pub sizes : length s ≡ faceLimit
   pub room : fileLimit ≤ length out
 
-pub record MeshRoom (m : Mesh) (c s out : List ℕ) : Type 0 where
+pub record MeshRoom (m : Mesh) (c s o out : List ℕ) : Type 0 where
   pub ready : Ready m out
   pub corners : length c ≡ cornerNumbers
   pub sizes : length s ≡ faceLimit
+  pub origins : length o ≡ faceLimit
 
 pub record CleanRoom (m : Mesh) (c : List ℕ) (p t n : List Float) (out : List ℕ) : Type 0 where
   pub ready : Ready m out
