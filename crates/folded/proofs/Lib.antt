@@ -11,3 +11,4 @@ pub mod CameFrom
 pub mod Ascending
 pub mod Origins
 pub mod Telling
+pub mod Behind

@@ -1,6 +1,5 @@
 -- `folded::remove_behind` meets its contract: what is written to all that stands behind is written behind. Assumes nothing.
-use Rattle.folded.proofs.TwoParts.{left-corners, left-faces}
-use Rattle.folded.proofs.Telling.{ready-tail, left-tail}
+use Rattle.folded.proofs.Behind.{left-corners, left-faces, ready-tail, left-tail}
 use native.Mathlib.Omega.{arith}
 use borrow.Author.Needs.{needs}
 use Rattle.folded.proofs.remove_behind.Statement.{statement}

@@ -4,8 +4,8 @@ use mathlib.Core.Path.{sym}
 use lib.Seq.{length-take-le}
 use borrow.Rule.Slice.PartAt.{part-to-end}
 use Rattle.mesh.specs.Limits.{width}
-use Rattle.folded.proofs.TwoParts.{within-corners, ready-front, ready-behind}
-use Rattle.folded.proofs.Telling.{left-triangles, left-parts}
+use Rattle.folded.proofs.TwoParts.{within-corners}
+use Rattle.folded.proofs.Behind.{ready-front, ready-behind, left-triangles, left-parts}
 use native.Mathlib.Omega.{arith}
 use borrow.Author.Needs.{needs}
 use Rattle.folded.proofs.remove_folded.Statement.{statement}

@@ -66,7 +66,7 @@ module _ (t : ℕ) where
   sub-m c = omega (arith, cut (found c) .ordered)
 
   rotate-requires : lts.Need-rotate-requires claims (at t) reads.Post
-  rotate-requires c κs = search needs
+  rotate-requires c κs = (let s = found (c .before) in omega (arith, cut s .ordered, cut s .within))
 
   slice-relend-prefix-split-places : lts.Need-slice-relend-prefix-split-places claims (at t) reads.Post
   slice-relend-prefix-split-places c =
