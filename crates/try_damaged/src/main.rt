@@ -51,11 +51,16 @@ fn one_file(i: usize) {
 fn damage(fd: i32) {
     let mut file = [0u8; 4096];
     let n = io::read_full(fd, &mut file[..]);
-    count_bytes(&mut file[..n]);
-    count_coordinates(&mut file[..n]);
+    count_all(&mut file[..n]);
 }
 
-// Cuts and changes of a header.
+fn count_all(file: &mut [u8]) {
+    count_bytes(file);
+    count_broken(file);
+    count_large(file);
+}
+
+// Cuts, and changes of a header.
 fn count_bytes(file: &mut [u8]) {
     let mut cut = [0u32; NUMBERS];
     copies::cuts(file, &mut cut[..]);
@@ -65,16 +70,23 @@ fn count_bytes(file: &mut [u8]) {
     copies::print_counts(b"changed header", &changed[..]);
 }
 
-// Changes of a coordinate: those that are not finite, and the greatest that are.
-fn count_coordinates(file: &mut [u8]) {
+// Coordinates that are not finite.
+fn count_broken(file: &mut [u8]) {
     let mut broken = [0u32; NUMBERS];
-    coordinates::changes(file, NAN, &mut broken[..]);
-    coordinates::changes(file, OTHER_NAN, &mut broken[..]);
-    coordinates::changes(file, INFINITY, &mut broken[..]);
-    coordinates::changes(file, MINUS_INFINITY, &mut broken[..]);
+    change_both(file, NAN, OTHER_NAN, &mut broken[..]);
+    change_both(file, INFINITY, MINUS_INFINITY, &mut broken[..]);
     copies::print_counts(b"broken coordinate", &broken[..]);
+}
+
+// The greatest that are.
+fn count_large(file: &mut [u8]) {
     let mut large = [0u32; NUMBERS];
-    coordinates::changes(file, GREATEST, &mut large[..]);
-    coordinates::changes(file, LEAST, &mut large[..]);
+    change_both(file, GREATEST, LEAST, &mut large[..]);
     copies::print_counts(b"large coordinate", &large[..]);
+}
+
+// Each coordinate gets these bits, and then those.
+fn change_both(file: &mut [u8], these: u64, those: u64, counts: &mut [u32]) {
+    coordinates::changes(file, these, counts);
+    coordinates::changes(file, those, counts);
 }

@@ -58,7 +58,7 @@ fn every_place() -> Vec<File> {
 
 /// A broken entry before, in and behind each other fault of a file but the limits.
 fn beside_others() -> Vec<Vec<Vec<u8>>> {
-    let (nan, end) = (entry(1, 1, f64::NAN), END.to_vec());
+    let (nan, end) = (entry(1, 1, f64::from_bits(BROKEN[0])), END.to_vec());
     let faults = [
         vec![0, 0, 5, 0],                   // 12: its kind
         record(3, &[0; 25]),                // 12: its length
