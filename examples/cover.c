@@ -22,9 +22,9 @@ struct mesh {
 #define ROOM(list) list, sizeof list / sizeof *list
 
 static struct mesh drawn, left, clean;
-static uint32_t flat[2 * BH_MAX_CORNERS], lengths[BH_MAX_CORNERS];
+static uint32_t origins[BH_MAX_FACES], flat[2 * BH_MAX_CORNERS], lengths[BH_MAX_CORNERS];
 
-/* Reads, removes folded faces, compacts; the number of the first refusal, or 0. */
+/* Reads, removes folded faces, compacts; the number of the first refusal, or 0. Face k of the clean cover came from drawn face origins[k]. */
 static uint32_t draw(const uint8_t *file, size_t file_len) {
     if (file_len > BH_MAX_FILE) {
         return BH_OVER_LIMIT;
@@ -36,7 +36,8 @@ static uint32_t draw(const uint8_t *file, size_t file_len) {
         return number;
     }
     left = drawn;
-    number = bh_remove_degenerate_faces(LISTS(&drawn), ROOM(left.corners), ROOM(left.sizes), &left.cornercount, &left.facecount);
+    number = bh_remove_degenerate_faces(
+        LISTS(&drawn), ROOM(left.corners), ROOM(left.sizes), ROOM(origins), &left.cornercount, &left.facecount);
     if (number != BH_DONE) {
         return number;
     }
@@ -46,14 +47,19 @@ static uint32_t draw(const uint8_t *file, size_t file_len) {
         &clean.positioncount, &clean.texturecount, &clean.normalcount);
 }
 
+static void print_row(const char *name, const uint32_t *row, size_t length) {
+    printf("%s", name);
+    for (size_t k = 0; k < length; k++) {
+        printf(" %u", row[k]);
+    }
+    printf("\n");
+}
+
 static void print_rows(const char *name, size_t rows) {
     const uint32_t *at = flat;
     for (size_t i = 0; i < rows; i++) {
-        printf("%s", name);
-        for (uint32_t k = 0; k < lengths[i]; k++) {
-            printf(" %u", *at++);
-        }
-        printf("\n");
+        print_row(name, at, lengths[i]);
+        at += lengths[i];
     }
 }
 
@@ -136,6 +142,7 @@ int main(void) {
     uint32_t number = draw(file, length);
     if (number == BH_DONE) {
         print_sheet();
+        print_row("drawn as", origins, clean.facecount);
         print_more();
         print_written(file, length);
         print_broken();

@@ -25,8 +25,8 @@
    MEMORY. No call allocates, and none keeps anything: there are no statics, so calls may run side by side, each with lists of its own to
    write; lists that are only read may be shared. A lent list need not be initialised. What a call needs beside its lists is stack, in KB
    of 1,024 bytes, measured on x86-64 by tools/measure_stack, which also holds these figures to the library; none is proved:
-     bh_clean_panel 600, bh_sheet 560, bh_components 200, bh_read_panel 192, bh_put_together_same_attrs 192, bh_extract_boundaries 164,
-     bh_house_wires 164, bh_remove_degenerate_faces 104, bh_shell_condition 104, bh_hem_edges 104, bh_remove_unused_attrs 32, bh_push 4,
+     bh_clean_panel 604, bh_sheet 568, bh_components 200, bh_read_panel 192, bh_put_together_same_attrs 192, bh_extract_boundaries 164,
+     bh_house_wires 164, bh_shell_condition 104, bh_hem_edges 104, bh_remove_degenerate_faces 76, bh_remove_unused_attrs 32, bh_push 4,
      bh_write_panel 4, bh_mesh_number 4, bh_face 4
 
    What is promised is proved for every input: each call's contract stands in crates/barleyhinge/src/lib.rt. */
@@ -35,9 +35,9 @@
 
 /* The version of this interface. */
 #define BH_VERSION_MAJOR 0
-#define BH_VERSION_MINOR 4
+#define BH_VERSION_MINOR 5
 #define BH_VERSION_PATCH 0
-#define BH_VERSION "0.4.0"
+#define BH_VERSION "0.5.0"
 
 #include <stdbool.h>
 #include <stddef.h>
@@ -176,9 +176,11 @@ uint32_t bh_remove_unused_attrs(
     size_t *normalcount);
 
 /* Folded faces (two corners with one position) go or are cut open; no face of the result is folded.
-   Lends 'newcorners', with room for corners_len numbers, and 'newsizes', with room for a third of the count of corners, rounded
-   down (corners_len / 9). The attribute lists don't change.
-   On 0: 3 numbers in 'newcorners' for each of '*cornercount' corners, and '*facecount' sizes.
+   Lends 'newcorners', with room for corners_len numbers, and 'newsizes' and 'origins', each with room for a third of the count of
+   corners, rounded down (corners_len / 9). The attribute lists don't change.
+   On 0: 3 numbers in 'newcorners' for each of '*cornercount' corners, '*facecount' sizes, and as many origins: face k of the result
+   came from face origins[k]. Where nothing is folded they are 0, 1, 2, .. . bh_remove_unused_attrs changes no face's number, so they
+   hold after it too.
    May also answer 9. */
 uint32_t bh_remove_degenerate_faces(
     const double *positions, size_t positions_len,
@@ -188,6 +190,7 @@ uint32_t bh_remove_degenerate_faces(
     const uint32_t *sizes, size_t sizes_len,
     uint32_t *newcorners, size_t newcorners_len,
     uint32_t *newsizes, size_t newsizes_len,
+    uint32_t *origins, size_t origins_len,
     size_t *cornercount,
     size_t *facecount);
 

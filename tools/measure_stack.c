@@ -24,7 +24,7 @@ struct mesh {
 #define ROOM(list) list, sizeof list / sizeof *list
 
 static struct mesh mesh, made;
-static uint32_t flat[2 * BH_MAX_CORNERS], lengths[BH_MAX_CORNERS], verdict;
+static uint32_t origins[BH_MAX_FACES], flat[2 * BH_MAX_CORNERS], lengths[BH_MAX_CORNERS], verdict;
 static uint8_t file[LONGEST_FILE], text[BH_SHEET_ROOM], written[BH_FILE_ROOM];
 static size_t file_len, a, b, c;
 
@@ -39,7 +39,7 @@ static void push(void) { bh_push(mesh.corners, 3 * mesh.counts[3], mesh.sizes, m
 static void compaction(void) {
     bh_remove_unused_attrs(LISTS, ROOM(made.corners), ROOM(made.positions), ROOM(made.textures), ROOM(made.normals), &a, &b, &c);
 }
-static void removal(void) { bh_remove_degenerate_faces(LISTS, ROOM(made.corners), ROOM(made.sizes), &a, &b); }
+static void removal(void) { bh_remove_degenerate_faces(LISTS, ROOM(made.corners), ROOM(made.sizes), ROOM(origins), &a, &b); }
 static void merging(void) { bh_put_together_same_attrs(LISTS, 0.125, ROOM(made.corners), &a, &b, &c); }
 static void condition(void) { bh_shell_condition(LISTS, &verdict); }
 static void hems(void) { bh_hem_edges(LISTS, ROOM(flat), ROOM(lengths), &a); }

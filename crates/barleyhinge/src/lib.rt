@@ -114,7 +114,7 @@ pub extern "C" fn bh_remove_unused_attrs(
     answers::compacted(made, positioncount, texturecount, normalcount)
 }
 
-// Removal of folded faces.
+// Removal of folded faces, with the number of the face that each came from.
 #[no_mangle]
 pub extern "C" fn bh_remove_degenerate_faces(
     positions: &[f64],
@@ -124,13 +124,14 @@ pub extern "C" fn bh_remove_degenerate_faces(
     sizes: &[u32],
     newcorners: &mut [u32],
     newsizes: &mut [u32],
+    origins: &mut [u32],
     cornercount: &mut usize,
     facecount: &mut usize,
 ) -> u32
     ensures { λ r. ⌜ folding.Removal
         (meshOf (now (positions .entry)) (now (textures .entry)) (now (normals .entry)) (now (corners .entry)) (now (sizes .entry)))
-        (folding.resultOf (now (newcorners .entry)) (now (newsizes .entry)))
-        (folding.resultOf (now (newcorners .exit)) (now (newsizes .exit)))
+        (folding.resultOf (now (newcorners .entry)) (now (newsizes .entry)) (now (origins .entry)))
+        (folding.resultOf (now (newcorners .exit)) (now (newsizes .exit)) (now (origins .exit)))
         (answer.removedBy r (now (cornercount .exit)) (now (facecount .exit))) ⌝ }
 {
     let left = folded::remove_degenerate_faces(
@@ -141,6 +142,7 @@ pub extern "C" fn bh_remove_degenerate_faces(
         sizes,
         newcorners,
         newsizes,
+        origins,
     );
     answers::removed(left, cornercount, facecount)
 }

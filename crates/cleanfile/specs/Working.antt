@@ -27,10 +27,11 @@ pub record FileRoom (p t n : List Float) (c s out : List ℕ) : Type 0 where
   pub sizes : length s ≡ faceLimit
   pub room : fileLimit ≤ length out
 
-pub record MeshRoom (m : Mesh) (c s out : List ℕ) : Type 0 where
+pub record MeshRoom (m : Mesh) (c s o out : List ℕ) : Type 0 where
   pub ready : Ready m out
   pub corners : length c ≡ cornerNumbers
   pub sizes : length s ≡ faceLimit
+  pub origins : length o ≡ faceLimit
 
 pub record CleanRoom (m : Mesh) (c : List ℕ) (p t n : List Float) (out : List ℕ) : Type 0 where
   pub ready : Ready m out

@@ -116,6 +116,7 @@ fn from_mesh(
 {
     let mut newcorners = [0u32; mesh::CORNER_NUMBERS];
     let mut newsizes = [0u32; mesh::FACES];
+    let mut origins = [0u32; mesh::FACES];
     unfold_in(
         positions,
         textures,
@@ -124,11 +125,12 @@ fn from_mesh(
         sizes,
         &mut newcorners[..],
         &mut newsizes[..],
+        &mut origins[..],
         out,
     )
 }
 
-// Folded faces are removed.
+// Folded faces are removed; which face each came from is not needed further.
 fn unfold_in(
     positions: &[f64],
     textures: &[f64],
@@ -137,15 +139,16 @@ fn unfold_in(
     sizes: &[u32],
     newcorners: &mut [u32],
     newsizes: &mut [u32],
+    origins: &mut [u32],
     out: &mut [u8],
 ) -> usize
     requires { ⌜ MeshRoom
-        (meshOf (now positions) (now textures) (now normals) (now corners) (now sizes)) (now newcorners) (now newsizes) (now out) ⌝ }
+        (meshOf (now positions) (now textures) (now normals) (now corners) (now sizes)) (now newcorners) (now newsizes) (now origins) (now out) ⌝ }
     ensures { λ r. ⌜ Filed
         (cleaned (meshOf (now (positions .entry)) (now (textures .entry)) (now (normals .entry)) (now (corners .entry)) (now (sizes .entry))))
         (now (out .entry)) (now (out .exit)) r ⌝ }
 {
-    let left = folded::remove(corners, sizes, newcorners, newsizes);
+    let left = folded::remove(corners, sizes, newcorners, newsizes, origins);
     let c = mesh::WIDTH * left.corners;
     let f = left.faces;
     from_unfolded(

@@ -71,7 +71,8 @@ removal-determined g r q a b =
     let f : r .0 .faces ≡ q .0 .faces = cc in
     let x : r .1 .corners ≡ q .1 .corners = cc in
     let y : r .1 .sizes ≡ q .1 .sizes = cc in
-    λ i. (record { number = n i; corners = c i; faces = f i }, removal.resultOf (x i) (y i))
+    let z : r .1 .origins ≡ q .1 .origins = cc in
+    λ i. (record { number = n i; corners = c i; faces = f i }, removal.resultOf (x i) (y i) (z i))
 
 merging-determined : Determined mergingCall
 merging-determined g r q a b =

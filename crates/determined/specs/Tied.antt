@@ -66,8 +66,8 @@ module _ {Rest : Type 0} where
   abbrev pub compactedLists : Lends ℕ (Lends Float (Lends Float (Lends Float Rest))) → compaction.Result
   compactedLists a = compaction.resultOf (now (a .0)) (now (a .1 .0)) (now (a .1 .1 .0)) (now (a .1 .1 .1 .0))
 
-  abbrev pub removedLists : Lends ℕ (Lends ℕ Rest) → removal.Result
-  removedLists a = removal.resultOf (now (a .0)) (now (a .1 .0))
+  abbrev pub removedLists : Lends ℕ (Lends ℕ (Lends ℕ Rest)) → removal.Result
+  removedLists a = removal.resultOf (now (a .0)) (now (a .1 .0)) (now (a .1 .1 .0))
 
 -- ---- the ties
 

@@ -6,3 +6,9 @@ pub mod Unfolded
 pub mod TwoParts
 pub mod Answer
 pub mod Examples
+pub mod Testing
+pub mod CameFrom
+pub mod Ascending
+pub mod Origins
+pub mod Telling
+pub mod Behind

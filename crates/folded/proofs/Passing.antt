@@ -56,9 +56,9 @@ removing-begins cs s o l = record {
 }
 
 -- the next face, and room for its pieces
-pub removing-room : (cs s face o o' l l' : List ℕ) (c f from k : ℕ) → k < length s → face ≡ faceOf cs s k → Ready cs s o l
+pub removing-room : (cs s face o o' l l' u : List ℕ) (c f from k : ℕ) → k < length s → face ≡ faceOf cs s k → Ready cs s o l u
     → Removing cs s o o' l l' c f from k → Face face (getD s k 0) o' l' c f
-removing-room cs s face o o' l l' c f from k h e y r =
+removing-room cs s face o o' l l' u c f from k h e y r =
     let a : offsetOf s k + getD s k 0 ≤ sum s = sum-at s k h in
     let b : width * sum s ≡ length cs = y .fit .sound .adds in
     record {
@@ -80,10 +80,10 @@ next-pieces cs s k h =
     ∙ ap (λ (t : List Ring). piecesTo cs s k ++ t) (append-nil (pieces (getD fs k [])))
     ∙ ap (λ (t : Ring). piecesTo cs s k ++ pieces t) (getD-rings s cs k h)
 
-pub removing-turns : (cs s face o o' o'' l l' l'' : List ℕ) (c f c' f' from k : ℕ) → k < length s → face ≡ faceOf cs s k → Ready cs s o l
+pub removing-turns : (cs s face o o' o'' l l' l'' u : List ℕ) (c f c' f' from k : ℕ) → k < length s → face ≡ faceOf cs s k → Ready cs s o l u
     → Removing cs s o o' l l' c f from k → Placed (pieces (cornersIn face)) o' o'' l' l'' c f c' f' → length o'' ≡ length o' → length l'' ≡ length l'
     → Removing cs s o o'' l l'' c' f' (from + getD s k 0) (k + 1)
-removing-turns cs s face o o' o'' l l' l'' c f c' f' from k h e y r p x z =
+removing-turns cs s face o o' o'' l l' l'' u c f c' f' from k h e y r p x z =
     let g : Ring = cornersIn (faceOf cs s k) in
     let q : Placed (pieces g) o' o'' l' l'' c f c' f' = rw e at p in
     let t = took g (pieces g) o' o'' l' l'' c f c' f' (pieces-sane g) q in

@@ -19,7 +19,7 @@ use Rattle.folding.specs.Folding.{pieces}
 use Rattle.folding.proofs.Pieces.{isFace, pieces-sane}
 use Rattle.splitting.proofs.Pieces.{third}
 use Rattle.folded.specs.Folded.{removed}
-use Rattle.folded.specs.Working.{Ready}
+use Rattle.folded.specs.Working.{Ready, Numbered}
 use Rattle.folded.proofs.Passing.{pieces-rings}
 use Rattle.folded.proofs.Result.{every-pieces, count-pieces}
 
@@ -28,15 +28,21 @@ pub blank : FacesAtLimits (replicate cornerNumbers 0) (replicate faceLimit 0)
 blank = record { corners = length-replicate {A = ℕ} cornerNumbers 0; sizes = length-replicate {A = ℕ} faceLimit 0 }
 
 -- so they have the room that the pieces ask for
-pub scratch-ready : (cs s o l p q : List ℕ) → FacesAtLimits p q → Ready cs s o l → Ready cs s p q
-scratch-ready cs s o l p q x y = record {
-  fit = y .fit;
-  corners = omega (arith, x .corners, y .fit .sound .fits);
-  sizes = omega (arith, x .sizes, y .fit .sound .fits);
-}
+pub scratch-ready : (a : ℕ) (cs s o l u p q v : List ℕ) → FacesAtLimits p q → FacesAtLimits p v → Numbered a cs s o l u → Numbered a cs s p q v
+scratch-ready a cs s o l u p q v x w y =
+    let fits = y .ready .fit .sound .fits in
+    record {
+      ready = record {
+        fit = y .ready .fit;
+        corners = omega (arith, x .corners, fits);
+        sizes = omega (arith, x .sizes, fits);
+        origins = omega (arith, w .sizes, fits);
+      };
+      few = y .few;
+    }
 
 -- c corners and f faces are written to p and q, which hold p' and q' then
-module _ (cs s o l p p' q q' : List ℕ) (c f : ℕ) (y : Ready cs s o l) (x : FacesAtLimits p q)
+module _ (cs s o l u p p' q q' : List ℕ) (c f : ℕ) (y : Ready cs s o l u) (x : FacesAtLimits p q)
     (w : Placed (each pieces (rings s cs)) p p' q q' 0 0 c f) where
   abbrev ps : List Ring
   ps = each pieces (rings s cs)
@@ -61,23 +67,23 @@ module _ (cs s o l p p' q q' : List ℕ) (c f : ℕ) (y : Ready cs s o l) (x : F
   count : length (map length ps) ≡ f
   count = omega (arith, length-map ps length, w .most)
 
-  sizes-front : take f q' ≡ map length ps
-  sizes-front = ap (take f) (w .sizes) ∙ take-written q (map length ps) f count (omega (arith, few-faces, x .sizes, y .fit .sound .fits))
+  pub pieces-front : take f q' ≡ map length ps
+  pieces-front = ap (take f) (w .sizes) ∙ take-written q (map length ps) f count (omega (arith, few-faces, x .sizes, y .fit .sound .fits))
 
   pub pieces-sound : Sound (take (width * c) p') (take f q')
   pieces-sound = record {
-    few = rw sizes-front (omega (arith, count, few-faces, y .fit .sound .fits));
+    few = rw pieces-front (omega (arith, count, few-faces, y .fit .sound .fits));
     fits = rw front (omega (arith, flat, few-corners, y .fit .sound .fits));
-    adds = rw (front, sizes-front) (sym (length-flat ps whole));
+    adds = rw (front, pieces-front) (sym (length-flat ps whole));
   }
 
   pub pieces-corners : length (take (width * c) p') ≤ length o
   pieces-corners = rw front (omega (arith, flat, few-corners, y .corners))
 
   pub pieces-sizes : length (take f q') ≤ length l
-  pieces-sizes = rw sizes-front (omega (arith, count, few-faces, y .sizes))
+  pieces-sizes = rw pieces-front (omega (arith, count, few-faces, y .sizes))
 
   -- grouped, they are the faces that are left
   pub pieces-grouped : removed (rings s cs) ≡ pushed (rings (take f q') (take (width * c) p'))
   unfolding removed
-  pieces-grouped = ap pushed (sym (ap₂ rings sizes-front front ∙ rings-back ps whole))
+  pieces-grouped = ap pushed (sym (ap₂ rings pieces-front front ∙ rings-back ps whole))

@@ -2,34 +2,28 @@
 -- is left of the others. Assumes nothing.
 use mathlib.Core.Path.{_≡_, refl, sym, ap, _∙_}
 use mathlib.Core.Bool.{true}
-use mathlib.Core.List.{List, [], _∷_, _++_, map, append-nil}
+use mathlib.Core.List.{List, [], _∷_, _++_}
 use Prim.Native.Nat.{ℕ, _+_, _-_, _*_, _≤_, _<_}
 use native.Mathlib.Nat.{le-of-eq}
 use native.Mathlib.Numerals.{add-one}
 use native.Mathlib.Omega.{arith}
-use lib.ListN.{length, getD, take, drop, length-drop, take-append-drop, drop-of-length-le}
-use lib.Seq.{sets, take-suc, take-take, drop-length, drop-drop, length-take-le, getD-take, getD-drop}
+use lib.ListN.{length, getD, take, drop, length-drop, take-append-drop}
+use lib.Seq.{take-suc, take-take, drop-drop, length-take-le, getD-take, getD-drop}
 use lib.Dec.{eqb}
 use borrow.Author.Tests.{eqb-true}
-use borrow.Rule.Slice.PartAt.{part-to-end}
-use Rattle.lists.specs.Lists.{every, joined, each, sum}
+use Rattle.lists.specs.Lists.{every, each, sum}
 use Rattle.lists.proofs.Bools.{and-both, and-left, and-right}
 use Rattle.lists.proofs.Parts.{every-append, each-append, sum-append}
-use Rattle.lists.proofs.Copies.{drop-take, sets-tail}
+use Rattle.lists.proofs.Copies.{drop-take}
 use Rattle.mesh.specs.Limits.{width}
 use Rattle.mesh.specs.Mesh.{Ring, cornersIn, rings}
 use Rattle.mesh.proofs.Corners.{length-cornersIn}
-use Rattle.mesh.proofs.Faces.{rings-are, sizes-back}
-use Rattle.grouping.specs.Push.{Placed, pushed, isTriangle, cornerCount}
-use Rattle.grouping.proofs.Placing.{placed-both, placed-as}
+use Rattle.grouping.specs.Push.{pushed, isTriangle}
 use Rattle.grouping.proofs.Pushed.{pushed-behind}
 use Rattle.folding.specs.Folding.{pieces}
-use Rattle.folding.proofs.Pieces.{isFace, pieces-sane, triangle-triangles}
-use Rattle.splitting.proofs.Pieces.{third}
+use Rattle.folding.proofs.Pieces.{triangle-triangles}
 use Rattle.folded.specs.Folded.{removed}
-use Rattle.folded.specs.Working.{Fit, Triangles, Ready, Behind}
-use Rattle.folded.proofs.Passing.{pieces-rings}
-use Rattle.folded.proofs.Result.{every-pieces, count-pieces, removed-count, removed-length}
+use Rattle.folded.specs.Working.{Fit, Triangles}
 
 -- ---- the sizes of the first k faces are looked at
 
@@ -68,10 +62,10 @@ rings-append (n ∷ a) b cs =
     ∙ rw (x, y, z)
 
 module _ (cs s : List ℕ) (k : ℕ) (y : Fit cs s) (t : Triangles s k) where
-  count : length (take k s) ≡ k
+  pub count : length (take k s) ≡ k
   count = length-take-le k s (t .within)
 
-  total : sum (take k s) ≡ 3 * k
+  pub total : sum (take k s) ≡ 3 * k
   total = all-three (take k s) (t .first) ∙ ap (λ (n : ℕ). 3 * n) count
 
   parts : sum (take k s) + sum (drop k s) ≡ sum s
@@ -80,7 +74,7 @@ module _ (cs s : List ℕ) (k : ℕ) (y : Fit cs s) (t : Triangles s k) where
   pub within-corners : width * 3 * k ≤ length cs
   within-corners = omega (arith, total, parts, y .sound .adds)
 
-  front-long : length (take (width * 3 * k) cs) ≡ width * 3 * k
+  pub front-long : length (take (width * 3 * k) cs) ≡ width * 3 * k
   front-long = length-take-le (width * 3 * k) cs within-corners
 
   pub fit-front : Fit (take (width * 3 * k) cs) (take k s)
@@ -109,7 +103,7 @@ module _ (cs s : List ℕ) (k : ℕ) (y : Fit cs s) (t : Triangles s k) where
       }
 
   -- all faces
-  faces-split : rings s cs ≡ rings (take k s) (take (width * 3 * k) cs) ++ rings (drop k s) (drop (width * 3 * k) cs)
+  pub faces-split : rings s cs ≡ rings (take k s) (take (width * 3 * k) cs) ++ rings (drop k s) (drop (width * 3 * k) cs)
   faces-split =
       let n : width * sum (take k s) ≡ width * 3 * k = omega (arith, total) in
       ap (λ (l : List ℕ). rings l cs) (sym (take-append-drop k s))
@@ -117,7 +111,7 @@ module _ (cs s : List ℕ) (k : ℕ) (y : Fit cs s) (t : Triangles s k) where
       ∙ ap (λ (j : ℕ). rings (take k s) (take j cs) ++ rings (drop k s) (drop j cs)) n
 
 -- the pieces of triangles are triangles
-triangle-rings : (s cs : List ℕ) → every (eqb 3) s ≡ true → width * sum s ≤ length cs → every isTriangle (each pieces (rings s cs)) ≡ true
+pub triangle-rings : (s cs : List ℕ) → every (eqb 3) s ≡ true → width * sum s ≤ length cs → every isTriangle (each pieces (rings s cs)) ≡ true
 triangle-rings [] cs e h = refl
 triangle-rings (n ∷ s) cs e h =
     let a : 3 ≡ n = eqb-true 3 n (and-left (eqb 3 n) (every (eqb 3) s) e) in
@@ -138,74 +132,3 @@ module _ (cs s : List ℕ) (k : ℕ) (y : Fit cs s) (t : Triangles s k) where
       ap (λ (fs : List Ring). pushed (each pieces fs)) (faces-split cs s k y t)
       ∙ ap pushed (each-append pieces a b)
       ∙ pushed-behind (each pieces a) (each pieces b) (triangle-rings (take k s) (take (width * 3 * k) cs) (t .first) (le-of-eq (fit-front cs s k y t .sound .adds)))
-
--- ---- the two parts are written one behind the other
-
--- room for the triangles, and behind their pieces for what is left of the others
-pub ready-front : (cs s o l : List ℕ) (k : ℕ) → Ready cs s o l → Triangles s k → Ready (take (width * 3 * k) cs) (take k s) o l
-ready-front cs s o l k y t =
-    let n : length (take (width * 3 * k) cs) ≡ width * 3 * k = front-long cs s k (y .fit) t in
-    let w = within-corners cs s k (y .fit) t in
-    record { fit = fit-front cs s k (y .fit) t; corners = omega (arith, y .corners); sizes = omega (arith, y .sizes) }
-
-pub ready-behind : (cs s o o' l l' : List ℕ) (k c f : ℕ) → Ready cs s o l → Triangles s k
-    → Placed (each pieces (rings (take k s) (take (width * 3 * k) cs))) o o' l l' 0 0 c f → length o' ≡ length o → length l' ≡ length l
-    → Behind (drop (width * 3 * k) cs) (drop k s) o' l' c f
-ready-behind cs s o o' l l' k c f y t p x z =
-    let a = rings (take k s) (take (width * 3 * k) cs) in
-    let w = within-corners cs s k (y .fit) t in
-    let d : length (drop (width * 3 * k) cs) ≡ length cs - width * 3 * k = length-drop (width * 3 * k) cs in
-    let e : cornerCount a ≡ 3 * k = ap sum (sizes-back (take k s) (take (width * 3 * k) cs) (le-of-eq (fit-front cs s k (y .fit) t .sound .adds))) ∙ total cs s k (y .fit) t in
-    let g = count-pieces a in
-    let h : 3 * length (each pieces a) ≤ cornerCount (each pieces a) = third (each pieces a) (every-pieces isFace a (λ r. pieces-sane r .faces)) in
-    record { fit = fit-behind cs s k (y .fit) t; corners = omega (arith, p .more, y .corners); sizes = omega (arith, p .more, p .most, y .sizes) }
-
--- no more is left than was given
-pub left-corners : (cs s o o' l l' : List ℕ) (c f : ℕ) → Fit cs s → Placed (removed (rings s cs)) o o' l l' 0 0 c f → width * c ≤ length cs
-left-corners cs s o o' l l' c f y p =
-    omega (arith, p .more, removed-count (rings s cs), ap sum (sizes-back s cs (le-of-eq (y .sound .adds))), y .sound .adds)
-
-pub left-faces : (cs s o o' l l' : List ℕ) (c f : ℕ) → Fit cs s → Placed (removed (rings s cs)) o o' l l' 0 0 c f → width * 3 * f ≤ length cs
-left-faces cs s o o' l l' c f y p =
-    omega (arith, p .more, p .most, left-corners cs s o o' l l' c f y p, removed-length (rings s cs))
-
--- what is written to all that stands behind is written behind
-pub placed-tail : (fs : List Ring) (o o' l l' : List ℕ) (c f c' f' : ℕ)
-    → Placed fs (take (length o - width * c) (drop (width * c) o)) o' (take (length l - f) (drop f l)) l' 0 0 c' f'
-    → Placed fs o (take (width * c) o ++ (o' ++ drop (length o - width * c) (drop (width * c) o))) l (take f l ++ (l' ++ drop (length l - f) (drop f l))) c f (c + c') (f + f')
-placed-tail fs o o' l l' c f c' f' p = record {
-  corners = tail-written o o' (width * c) (each joined fs) (p .corners);
-  sizes = tail-written l l' f (map length fs) (p .sizes);
-  more = omega (arith, p .more);
-  most = omega (arith, p .most);
-}
-  where
-    tail-written : (x x' : List ℕ) (a : ℕ) (vs : List ℕ) → x' ≡ sets (take (length x - a) (drop a x)) 0 vs → take a x ++ (x' ++ drop (length x - a) (drop a x)) ≡ sets x a vs
-    tail-written x x' a vs e =
-        let n : length (drop a x) ≤ length x - a = le-of-eq (length-drop a x) in
-        ap (λ (t : List ℕ). take a x ++ (x' ++ t)) (drop-of-length-le (drop a x) n)
-        ∙ ap (λ (t : List ℕ). take a x ++ t) (append-nil x' ∙ e ∙ ap (λ (t : List ℕ). sets t 0 vs) (part-to-end x a))
-        ∙ sets-tail x a vs
-
--- the triangles' pieces, and the others behind them
-pub placed-parts : (cs s o o1 o2 l l1 l2 : List ℕ) (k c f c' f' : ℕ) → Fit cs s → Triangles s k
-    → Placed (each pieces (rings (take k s) (take (width * 3 * k) cs))) o o1 l l1 0 0 c f
-    → Placed (removed (rings (drop k s) (drop (width * 3 * k) cs))) o1 o2 l1 l2 c f c' f' → Placed (removed (rings s cs)) o o2 l l2 0 0 c' f'
-placed-parts cs s o o1 o2 l l1 l2 k c f c' f' y t p q =
-    placed-as (removed-split cs s k y t)
-    (placed-both _ _ o o1 o2 l l1 l2 0 0 c f c' f' (pieces-rings (rings (take k s) (take (width * 3 * k) cs)) (rings-are (take k s) (take (width * 3 * k) cs))) p q)
-
-removed-none : removed [] ≡ []
-unfolding removed pushed
-removed-none = refl
-
--- only triangles
-pub placed-triangles : (cs s o o' l l' : List ℕ) (k c f : ℕ) → Fit cs s → Triangles s k → k ≡ length s
-    → Placed (each pieces (rings (take k s) (take (width * 3 * k) cs))) o o' l l' 0 0 c f → Placed (removed (rings s cs)) o o' l l' 0 0 c f
-placed-triangles cs s o o' l l' k c f y t e p =
-    placed-as
-    (removed-split cs s k y t
-    ∙ ap (λ (l : List ℕ). each pieces (rings (take k s) (take (width * 3 * k) cs)) ++ removed (rings l (drop (width * 3 * k) cs))) (ap (λ (n : ℕ). drop n s) e ∙ drop-length s)
-    ∙ ap (λ (l : List Ring). each pieces (rings (take k s) (take (width * 3 * k) cs)) ++ l) removed-none
-    ∙ append-nil (each pieces (rings (take k s) (take (width * 3 * k) cs))))
-    p

@@ -1,16 +1,19 @@
 -- A mesh in which no face is folded: how that is seen, and that all its faces stay as they stand. Assumes nothing.
-use mathlib.Core.Path.{_≡_, refl, sym, ap, _∙_}
+use mathlib.Core.Path.{_≡_, refl, sym, ap, ap₂, _∙_}
 use mathlib.Core.Bool.{Bool, true, false}
-use mathlib.Core.List.{List, [], _∷_, map}
+use mathlib.Core.List.{List, [], _∷_, _++_, map}
 use Prim.Native.Nat.{ℕ, suc, _+_, _*_, _/_, _≤_, _<_}
 use native.Mathlib.Nat.{le-of-eq}
 use native.Mathlib.Omega.{arith}
-use lib.ListN.{length, getD}
-use lib.Seq.{sets}
+use lib.ListN.{length, getD, take, drop}
+use lib.Seq.{sets, length-take-le}
 use borrow.Author.Tests.{le-leb, leb-true}
-use Rattle.lists.specs.Lists.{every, some, each, sum}
+use Rattle.lists.specs.Lists.{every, some, each, span, sum}
+use Rattle.lists.proofs.Buckets.{length-span}
 use Rattle.lists.proofs.Bools.{and-both, and-left, and-right, or-false-left, or-false-right}
 use Rattle.lists.proofs.Parts.{Searching, search-begins, search-turns, search-finds, search-ends}
+use Rattle.lists.proofs.Writing.{sets-front}
+use Rattle.sorting.specs.Sorting.{numberLimit}
 use Rattle.mesh.specs.Limits.{width}
 use Rattle.mesh.specs.Mesh.{Ring, cornersIn, rings}
 use Rattle.mesh.specs.Table.{kind, falls}
@@ -18,12 +21,15 @@ use Rattle.mesh.specs.Face.{faceOf, Sound}
 use Rattle.mesh.proofs.Faces.{length-rings, getD-rings, face-length, sizes-back, corners-back}
 use Rattle.mesh.proofs.Walking.{Walking, walk-begins, walk-turns}
 use Rattle.grouping.specs.Push.{Placed, pushed}
+use Rattle.grouping.specs.Tags.{pushedBeside}
 use Rattle.grouping.proofs.Pushed.{pushed-same}
+use Rattle.grouping.proofs.Beside.{tags-same}
 use Rattle.folding.specs.Folding.{folded, pieces}
 use Rattle.folding.proofs.Pieces.{isFace, pieces-same}
+use Rattle.folded.specs.Origins.{numbered, originsOf}
 use Rattle.folded.specs.Folded.{removed}
 use Rattle.oneface.specs.Working.{Corners}
-use Rattle.folded.specs.Working.{Fit}
+use Rattle.folded.specs.Working.{Fit, Left}
 
 -- ---- all faces, one by one: none of the first k is folded
 
@@ -79,8 +85,33 @@ removed-same cs s y g h =
     ap pushed (each-same (rings s cs) e h)
     ∙ pushed-same (rings s cs) e (ap (λ (t : List ℕ). falls (map kind t)) b ∙ g)
 
+-- and each keeps its number
+numbered-same : (a : ℕ) (fs : List Ring) → every isFace fs ≡ true → some folded fs ≡ false → numbered a fs ≡ span a (length fs)
+unfolding numbered
+numbered-same a [] e h = refl
+numbered-same a (r ∷ fs) e h =
+    rw (pieces-same r (leb-true 3 (length r) (and-left (isFace r) (every isFace fs) e)) (or-false-left (folded r) (some folded fs) h))
+    (ap (λ (l : List ℕ). a ∷ l) (numbered-same (suc a) fs (and-right (isFace r) (every isFace fs) e) (or-false-right (folded r) (some folded fs) h)))
+
+pub origins-same :
+    (cs s : List ℕ) → Fit cs s → falls (map kind s) ≡ false → some folded (rings s cs) ≡ false
+    → originsOf (rings s cs) ≡ span 0 (length s)
+unfolding originsOf
+origins-same cs s y g h =
+    let fs = rings s cs in
+    let b : map length fs ≡ s = sizes-back s cs (le-of-eq (y .sound .adds)) in
+    let e : every isFace fs ≡ true = faces-of fs (rw b (y .least)) in
+    ap₂ pushedBeside (each-same fs e h) (numbered-same 0 fs e h)
+    ∙ tags-same fs (span 0 (length fs)) (length-span 0 (length fs)) e (ap (λ (t : List ℕ). falls (map kind t)) b ∙ g)
+    ∙ ap (span 0) (length-rings s cs)
+
+-- so what keeps all is what is left
+pub left-same : (cs s o o' l l' u u' : List ℕ) (c f : ℕ) → Fit cs s → falls (map kind s) ≡ false → some folded (rings s cs) ≡ false
+    → Left (rings s cs) (span 0 (length s)) o o' l l' u u' 0 0 c f → Left (removed (rings s cs)) (originsOf (rings s cs)) o o' l l' u u' 0 0 c f
+left-same cs s o o' l l' u u' c f y g h p = rw (removed-same cs s y g h, origins-same cs s y g h) p
+
 -- all faces are written as they stand
-pub kept-all : (cs s o o' l l' : List ℕ) → Sound cs s → o' ≡ sets o 0 cs → l' ≡ sets l 0 s → Placed (rings s cs) o o' l l' 0 0 (length cs / width) (length s)
+kept-all : (cs s o o' l l' : List ℕ) → Sound cs s → o' ≡ sets o 0 cs → l' ≡ sets l 0 s → Placed (rings s cs) o o' l l' 0 0 (length cs / width) (length s)
 kept-all cs s o o' l l' y e f =
     let b : map length (rings s cs) ≡ s = sizes-back s cs (le-of-eq (y .adds)) in
     record {
@@ -88,6 +119,23 @@ kept-all cs s o o' l l' y e f =
       sizes = f ∙ ap (sets l 0) (sym b);
       more = omega (arith, ap sum b, y .adds);
       most = omega (arith, length-rings s cs);
+    }
+
+-- so few that they can be counted
+pub few-numbers : (cs s u : List ℕ) → Sound cs s → length s ≤ length u → length (take (length s) u) ≤ numberLimit
+few-numbers cs s u y h = omega (arith, length-take-le (length s) u h, y .few)
+
+-- with the numbers 0, 1, 2, .. in front
+pub left-all : (cs s o o' l l' u u' : List ℕ) → Sound cs s → length s ≤ length u → o' ≡ sets o 0 cs → l' ≡ sets l 0 s → u' ≡ span 0 (length (take (length s) u))
+    → Left (rings s cs) (span 0 (length s)) o o' l l' u (u' ++ drop (length s) u) 0 0 (length cs / width) (length s)
+left-all cs s o o' l l' u u' y h e f g =
+    let n : u' ≡ span 0 (length s) = g ∙ ap (span 0) (length-take-le (length s) u h) in
+    let m : length (span 0 (length s)) ≡ length s = length-span 0 (length s) in
+    record {
+      placed = kept-all cs s o o' l l' y e f;
+      origins =
+          ap₂ (λ (x : List ℕ) (j : ℕ). x ++ drop j u) n (sym m)
+          ∙ sym (sets-front u (span 0 (length s)) (omega arith));
     }
 
 -- no more faces than a third of the corners

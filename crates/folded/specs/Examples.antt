@@ -1,11 +1,12 @@
 -- What an example of folded faces says, as a test that computes; examples 5 to 8 of document 01 stand with the other examples, in the
--- crate `examples`. Assumes nothing.
+-- crate `examples`. And two examples of our own. Assumes nothing.
 use Prim.Native.Nat.{ℕ}
 use mathlib.Core.Path.{_≡_}
 use mathlib.Core.Bool.{Bool}
 use mathlib.Core.List.{List, [], _∷_}
 use Rattle.lists.specs.Same.{sameRings, Tells}
 use Rattle.mesh.specs.Mesh.{Corner, Ring, missing}
+use Rattle.folded.specs.Origins.{originsOf}
 use Rattle.folded.specs.Folded.{removed}
 
 -- whether removal leaves just these faces of a face, corner by corner
@@ -27,3 +28,17 @@ fallenToFour =
     leaves
     (corner 0 0 ∷ corner 0 1 ∷ corner 1 2 ∷ corner 1 3 ∷ corner 2 4 ∷ [])
     ((corner 1 3 ∷ corner 2 4 ∷ corner 0 1 ∷ []) ∷ [])
+
+-- and one with origins: behind a triangle and a quadrangle come the folded faces of the examples 5, 6 and 8. What is left of them are
+-- triangles, which go before the quadrangle, and the numbers of their faces go with them
+abbrev pub drawn : List Ring
+drawn =
+    (corner 0 0 ∷ corner 1 1 ∷ corner 2 2 ∷ [])
+    ∷ (corner 0 0 ∷ corner 1 1 ∷ corner 2 2 ∷ corner 3 3 ∷ [])
+    ∷ (corner 0 0 ∷ corner 1 1 ∷ corner 1 2 ∷ corner 2 3 ∷ [])
+    ∷ (corner 0 0 ∷ corner 1 1 ∷ corner 0 2 ∷ corner 2 3 ∷ [])
+    ∷ (corner 0 0 ∷ corner 1 1 ∷ corner 2 2 ∷ corner 0 3 ∷ corner 3 4 ∷ corner 4 5 ∷ [])
+    ∷ []
+
+abbrev pub DrawnFaces : Type 0
+DrawnFaces = originsOf drawn ≡ 0 ∷ 2 ∷ 4 ∷ 4 ∷ 1 ∷ []

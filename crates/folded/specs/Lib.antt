@@ -1,4 +1,5 @@
 -- the rules, which a caller cites
+pub mod Origins
 pub mod Folded
 pub mod Promises
 pub mod Examples

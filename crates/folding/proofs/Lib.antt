@@ -2,4 +2,6 @@ pub mod Rows
 pub mod Search
 pub mod Pieces
 pub mod Placing
-pub mod Cutting
+pub mod Places
+pub mod Faces
+pub mod Promises

@@ -62,7 +62,7 @@ triangle-sane t h =
     (λ e. rw (triangle-stays t e) (sane-same t e h))
 
 -- three corners, and what the tests on their positions say, in the order of the code
-three-corners : (t : Ring) → length t ≡ 3 → t ≡ getD t 0 [] ∷ getD t 1 [] ∷ getD t 2 [] ∷ []
+pub three-corners : (t : Ring) → length t ≡ 3 → t ≡ getD t 0 [] ∷ getD t 1 [] ∷ getD t 2 [] ∷ []
 three-corners [] h = absurd (let z : _≡_ {A = ℕ} 0 3 = h in omega arith)
 three-corners (a ∷ []) h = absurd (let z : _≡_ {A = ℕ} 1 3 = h in omega arith)
 three-corners (a ∷ b ∷ []) h = absurd (let z : _≡_ {A = ℕ} 2 3 = h in omega arith)
@@ -209,7 +209,7 @@ module _ (a b c d : Corner) where
       let da = ne-eqb (position d) (position a) (λ f. eqb-false (position a) (position d) ad (sym f)) in
       rw (ac, bd, ab, bc, cd, da)
 
-quadrangle-stays : (q : Ring) → length q ≡ 4 → folded q ≡ false → foldOf q ≡ Stays
+pub quadrangle-stays : (q : Ring) → length q ≡ 4 → folded q ≡ false → foldOf q ≡ Stays
 quadrangle-stays [] h e = absurd (let z : _≡_ {A = ℕ} 0 4 = h in omega arith)
 quadrangle-stays (a ∷ []) h e = absurd (let z : _≡_ {A = ℕ} 1 4 = h in omega arith)
 quadrangle-stays (a ∷ b ∷ []) h e = absurd (let z : _≡_ {A = ℕ} 2 4 = h in omega arith)

@@ -1,21 +1,13 @@
 // What becomes of a face that may be folded: document 01, 'Folded faces', as `degenerate_triangle`, `degenerate_quadrangle` and
-// `split_into_nondegenerate` have it. A corner is three numbers, position, texture and normal; the first decides.
+// `split_into_nondegenerate` have it. A corner's first number, its position, decides. A larger face is split by its places, in crate places.
 ghost use mathlib.Core.Path.{_≡_};
-ghost use Prim.Native.Nat.{_+_, _*_, _-_, _<_, _≤_};
-ghost use lib.ListN.{length, take, drop};
-ghost use lib.Seq.{sets};
-ghost use mathlib.Core.List.{map};
-ghost use mathlib.Core.Bool.{false};
-ghost use Rattle.lists.specs.Lists.{joined};
-ghost use Rattle.mesh.specs.Mesh.{position};
-ghost use Rattle.mesh.specs.Limits.{width, ringLimit};
-ghost use Rattle.grouping.specs.Push.{Placed};
-ghost use Rattle.folding.specs.Working.{Room, Cut, FirstPair};
-ghost use Rattle.splitting.specs.Splitting.{mateOf, firstMated, between, around};
-ghost use Rattle.folding.specs.Folding.{foldOf, withoutQ1, withoutQ3, folded, ringPieces};
+ghost use Prim.Native.Nat.{_<_};
+ghost use lib.ListN.{length};
+ghost use Rattle.mesh.specs.Mesh.{cornersIn};
+ghost use Rattle.splitting.specs.Splitting.{mateOf, firstMated};
+ghost use Rattle.folding.specs.Folding.{foldOf, withoutQ1, withoutQ3, folded};
+ghost use Rattle.folding.specs.Working.{Splittable, WithPlaces};
 use grouping::Filled;
-use mesh::LEAST_RING;
-use mesh::RING;
 use mesh::WIDTH;
 
 // What becomes of a quadrangle q0..q3.
@@ -24,12 +16,6 @@ pub enum Fold {
     WithoutQ1,
     WithoutQ3,
     Stays,
-}
-
-// Two corners of a ring.
-struct Pair {
-    i: usize,
-    j: usize,
 }
 
 // The decision on a triangle: whether it is folded.
@@ -133,137 +119,32 @@ pub fn first(places: &[u32]) -> usize
     i
 }
 
-// The positions of a row's corners.
-fn places_of(poly: [[u32; WIDTH]; RING]) -> [u32; RING]
-    ensures { λ r. ⌜ r ≡ map position poly ⌝ }
-{
-    let mut places = [0u32; RING];
-    let mut k: usize = 0;
-    while k < RING {
-        places[k] = poly[k][0];
-        k += 1;
-    }
-    places
-}
-
-// The first i, and for it the first j after i, with equal positions; i is n where there is none.
-fn pair_of(poly: [[u32; WIDTH]; RING], n: usize) -> Pair
-    requires { ⌜ n ≤ ringLimit ⌝ }
-    ensures { λ r. ⌜ FirstPair (take n poly) (r .i) (r .j) ⌝ }
-{
-    let places = places_of(poly);
-    let i = first(&places[..n]);
-    if i < n {
-        let j = mate(&places[..n], i);
-        return Pair { i, j };
-    }
-    Pair { i, j: n }
-}
-
-// Corners a, a + 1, .. of a row, m of them, go to another, from place b on.
-fn copied(
-    poly: [[u32; WIDTH]; RING],
-    a: usize,
-    m: usize,
-    to: [[u32; WIDTH]; RING],
-    b: usize,
-) -> [[u32; WIDTH]; RING]
-    requires { ⌜ (a + m ≤ ringLimit) × (b + m ≤ ringLimit) ⌝ }
-    ensures { λ r. ⌜ r ≡ sets to b (take m (drop a poly)) ⌝ }
-{
-    let mut row = to;
-    let mut k: usize = 0;
-    while k < m {
-        row[b + k] = poly[a + k];
-        k += 1;
-    }
-    row
-}
-
-// Corners i to j-1.
-fn ring_one(poly: [[u32; WIDTH]; RING], n: usize, i: usize, j: usize) -> [[u32; WIDTH]; RING]
-    requires { ⌜ Cut n i j ⌝ }
-    ensures { λ r. ⌜ take (j - i) r ≡ between (take n poly) i j ⌝ }
-{
-    copied(poly, i, j - i, poly, 0)
-}
-
-// Corners j to the last, then 0 to i-1.
-fn ring_two(poly: [[u32; WIDTH]; RING], n: usize, i: usize, j: usize) -> [[u32; WIDTH]; RING]
-    requires { ⌜ Cut n i j ⌝ }
-    ensures { λ r. ⌜ take (n - (j - i)) r ≡ around (take n poly) i j ⌝ }
-{
-    let row = copied(poly, j, n - j, poly, 0);
-    copied(poly, 0, i, row, n - j)
-}
-
-// A corner's numbers go to the list.
-pub fn put_corner(corner: [u32; WIDTH], out: &mut [u32], at: usize)
-    requires { ⌜ at + width ≤ length (now out) ⌝ }
-    ensures { λ _. ⌜ now (out .exit) ≡ sets (now (out .entry)) at corner ⌝ }
-{
-    lists::put(&corner[..], out, at);
-}
-
-// The first n corners of a row go to the list.
-fn put_row(poly: [[u32; WIDTH]; RING], n: usize, out: &mut [u32], at: usize)
-    requires { ⌜ (n ≤ ringLimit) × (at + width * n ≤ length (now out)) ⌝ }
-    ensures { λ _. ⌜ now (out .exit) ≡ sets (now (out .entry)) at (joined (take n poly)) ⌝ }
-{
-    let mut k: usize = 0;
-    while k < n {
-        put_corner(poly[k], out, at + WIDTH * k);
-        k += 1;
-    }
-}
-
-// A ring that is not folded goes to the lists where it has three corners or more.
-fn put_ring(
-    poly: [[u32; WIDTH]; RING],
-    n: usize,
+// The pieces of a larger face go to two lists, corners and sizes, behind what is written, and to a third, from its beginning on, which
+// corners of the face they took. The row has an entry for each corner of the face; the work is done there, and what stands in it before
+// does not matter.
+pub fn split_into_nondegenerate(
+    face: &[u32],
+    row: &mut [u32],
+    took: &mut [u32],
     out: &mut [u32],
     lens: &mut [u32],
     at: Filled,
 ) -> Filled
-    requires { ⌜ Room n (now out) (now lens) (at .corners) (at .faces) ⌝ }
-    requires { ⌜ folded (take n poly) ≡ false ⌝ }
-    ensures { λ r. ⌜ Placed (ringPieces (take n poly))
+    requires { ⌜ Splittable (now face) (now row) (now took) (now out) (now lens) (at .corners) (at .faces) ⌝ }
+    ensures { λ r. ⌜ WithPlaces (cornersIn (now (face .entry))) (now (row .exit)) (now (took .entry)) (now (took .exit))
         (now (out .entry)) (now (out .exit)) (now (lens .entry)) (now (lens .exit))
         (at .corners) (at .faces) (r .corners) (r .faces) ⌝ }
 {
-    if n < LEAST_RING {
-        return at;
-    }
     let c = at.corners;
-    let f = at.faces;
-    put_row(poly, n, out, WIDTH * c);
-    lens[f] = n as u32;
+    let from = Filled {
+        corners: 0,
+        faces: at.faces,
+    };
+    let left = places::split_ring(face, row, took, lens, from);
+    let n = left.corners;
+    places::put_places(face, &took[..n], out, WIDTH * c);
     Filled {
         corners: c + n,
-        faces: f + 1,
+        faces: left.faces,
     }
-}
-
-// The pieces of a larger face go to the lists: each of the two rings is split again by the same rule, the first ring's pieces first.
-pub fn split_into_nondegenerate(
-    poly: [[u32; WIDTH]; RING],
-    n: usize,
-    out: &mut [u32],
-    lens: &mut [u32],
-    at: Filled,
-) -> Filled
-    requires { ⌜ Room n (now out) (now lens) (at .corners) (at .faces) ⌝ }
-    ensures { λ r. ⌜ Placed (ringPieces (take n poly))
-        (now (out .entry)) (now (out .exit)) (now (lens .entry)) (now (lens .exit))
-        (at .corners) (at .faces) (r .corners) (r .faces) ⌝ }
-{
-    let pair = pair_of(poly, n);
-    let i = pair.i;
-    let j = pair.j;
-    if i < n {
-        let m = j - i;
-        let mid = split_into_nondegenerate(ring_one(poly, n, i, j), m, out, lens, at);
-        return split_into_nondegenerate(ring_two(poly, n, i, j), n - m, out, lens, mid);
-    }
-    put_ring(poly, n, out, lens, at)
 }

@@ -1,4 +1,4 @@
--- A face's flat part of the list of corners, read corner by corner: a triangle, a quadrangle, a row. Assumes nothing.
+-- A face's flat part of the list of corners, read corner by corner: a triangle, a quadrangle, the positions. Assumes nothing.
 use mathlib.Core.Path.{_≡_, sym, ap, _∙_}
 use mathlib.Core.Bool.{true}
 use mathlib.Core.List.{List, [], _∷_, map}
@@ -52,14 +52,6 @@ module _ (cs : List ℕ) (n : ℕ) (h : length cs ≡ width * n) where
   places-end l l' k b a c =
       let m : length (map position (cornersIn cs)) ≡ n = length-map (cornersIn cs) position ∙ corners in
       ap (take n) (copy-ends 0 (map position (cornersIn cs)) l l' 0 k (omega arith) c) ∙ take-written l (map position (cornersIn cs)) n m b
-
-  -- the row
-  pub row-turn : (l l' : Ring) (k : ℕ) → k < n → Copying (cornersIn cs) l l' 0 k → Copying (cornersIn cs) l (set l' k (cornerAt cs k)) 0 (k + 1)
-  row-turn l l' k b c = rw (getD-cornersIn cs k (omega arith)) at (front-turns [] (cornersIn cs) l l' k (omega (arith, corners)) c)
-
-  pub row-end : (l l' : Ring) (k : ℕ) → n ≤ length l → n ≤ k → Copying (cornersIn cs) l l' 0 k → take n l' ≡ cornersIn cs
-  row-end l l' k b a c =
-      ap (take n) (copy-ends [] (cornersIn cs) l l' 0 k (omega (arith, corners)) c) ∙ take-written l (cornersIn cs) n corners b
 
 -- ---- corners that are written one behind the other
 

@@ -17,6 +17,7 @@ use Rattle.splitting.specs.Splitting.{firstMated, firstBy}
 use Rattle.splitting.proofs.Search.{folded-found, folded-missing}
 use Rattle.splitting.proofs.Pieces.{pieces-stay}
 use Rattle.folding.specs.Folding.{folded, trianglePieces, foldOf, left, quadranglePieces, ringPieces, pieces}
+use Rattle.folding.specs.Working.{Splittable}
 use Rattle.folding.specs.declared.Fold.{Fold}
 use Rattle.folding.proofs.Pieces.{triangle-goes, triangle-stays, changes, quadrangle-left, quadrangle-tells, pieces-triangle, pieces-quadrangle, pieces-ring}
 use Rattle.oneface.specs.Working.{Corners, Face}
@@ -32,6 +33,14 @@ module _ (face : List ℕ) (n : ℕ) (out lens : List ℕ) (c f : ℕ) (h : Face
     small = omega (arith, h .wide, h .room .small);
     corners = omega (arith, h .wide, h .room .corners);
     faces = omega (arith, h .least, h .room .sizes);
+  }
+
+  -- a row of as many places as the face has corners, and as many for what is taken
+  pub splittable : (row took : List ℕ) → length row ≡ n → n ≤ length took → Splittable face row took out lens c f
+  splittable row took e g = record {
+    wide = h .wide ∙ ap (λ (k : ℕ). width * k) (sym e);
+    places = omega arith;
+    room = rw e (h .room);
   }
 
   -- a larger face in which the search finds no pair stays

@@ -108,20 +108,6 @@ fn places_of(face: &[u32], n: usize) -> [u32; RING]
     places
 }
 
-// A face's corners, as the front of a row.
-fn row_of(face: &[u32], n: usize) -> [[u32; WIDTH]; RING]
-    requires { ⌜ Corners (now face) n ⌝ }
-    ensures { λ r. ⌜ take n r ≡ cornersIn (now (face .entry)) ⌝ }
-{
-    let mut row = [[0u32; WIDTH]; RING];
-    let mut k: usize = 0;
-    while k < n {
-        row[k] = mesh::corner_at(face, k);
-        k += 1;
-    }
-    row
-}
-
 // The triangle that is left of a quadrangle, behind what is written.
 fn put_triangle(tri: [[u32; WIDTH]; 3], out: &mut [u32], lens: &mut [u32], at: Filled) -> Filled
     requires { ⌜ (width * (at .corners + 3) ≤ length (now out)) × (at .faces < length (now lens)) ⌝ }
@@ -131,9 +117,9 @@ fn put_triangle(tri: [[u32; WIDTH]; 3], out: &mut [u32], lens: &mut [u32], at: F
 {
     let c = at.corners;
     let f = at.faces;
-    folding::put_corner(tri[0], out, WIDTH * c);
-    folding::put_corner(tri[1], out, WIDTH * c + SECOND);
-    folding::put_corner(tri[2], out, WIDTH * c + THIRD);
+    places::put_corner(tri[0], out, WIDTH * c);
+    places::put_corner(tri[1], out, WIDTH * c + SECOND);
+    places::put_corner(tri[2], out, WIDTH * c + THIRD);
     lens[f] = 3;
     Filled {
         corners: c + 3,
@@ -180,7 +166,19 @@ fn ring_pieces(face: &[u32], n: usize, out: &mut [u32], lens: &mut [u32], at: Fi
 {
     let places = places_of(face, n);
     if folding::first(&places[..n]) < n {
-        return folding::split_into_nondegenerate(row_of(face, n), n, out, lens, at);
+        return split_pieces(face, n, out, lens, at);
     }
     grouping::put_face(face, out, lens, at)
+}
+
+// The pieces of a larger face of n corners, split on one row of places; which corners they took is not told on.
+fn split_pieces(face: &[u32], n: usize, out: &mut [u32], lens: &mut [u32], at: Filled) -> Filled
+    requires { ⌜ Face (now face) n (now out) (now lens) (at .corners) (at .faces) ⌝ }
+    ensures { λ r. ⌜ Placed (ringPieces (cornersIn (now (face .entry))))
+        (now (out .entry)) (now (out .exit)) (now (lens .entry)) (now (lens .exit))
+        (at .corners) (at .faces) (r .corners) (r .faces) ⌝ }
+{
+    let mut row = [0u32; RING];
+    let mut took = [0u32; RING];
+    folding::split_into_nondegenerate(face, &mut row[..n], &mut took, out, lens, at)
 }

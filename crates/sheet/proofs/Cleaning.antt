@@ -7,13 +7,13 @@ use native.Mathlib.Omega.{arith}
 use lib.ListN.{length, take, length-map}
 use lib.Seq.{take-length, length-take-le}
 use lib.Ieee.{Float}
-use Rattle.mesh.specs.Limits.{width}
+use Rattle.mesh.specs.Limits.{width, leastRing}
 use Rattle.mesh.specs.Mesh.{Mesh, meshOf, faces, rings}
 use Rattle.mesh.specs.Table.{meshNumber}
 use Rattle.mesh.proofs.Accepted.{Accepted, accepted}
 use Rattle.mesh.proofs.After.{after-done}
-use Rattle.grouping.specs.Push.{Placed}
-use Rattle.folded.specs.Working.{Given}
+use Rattle.folded.specs.Origins.{originsOf}
+use Rattle.folded.specs.Working.{Given, Left}
 use Rattle.folded.proofs.Answer.{given, done as removal-done}
 use Rattle.folded.proofs.Accepted.{removed-accepted, flat-removed}
 use Rattle.compaction.specs.declared.Compacted.{Compacted}
@@ -31,7 +31,7 @@ use Rattle.compaction.specs.Working as compacting-steps
 
 -- ---- removal
 
-module _ {p t n : List Float} {d : List ℕ} {k : ℕ} {u c s : List ℕ} (room : Unfolding p t n d k u c s) where
+module _ {p t n : List Float} {d : List ℕ} {k : ℕ} {u o c s : List ℕ} (room : Unfolding p t n d k u o c s) where
   abbrev m : Mesh
   m = meshOf p t n (take k c) d
 
@@ -44,18 +44,22 @@ module _ {p t n : List Float} {d : List ℕ} {k : ℕ} {u c s : List ℕ} (room 
   corners-room : length (m .corners) ≤ length u
   corners-room = omega (arith, room .unfolded-long, accepted m ok .limits .corners)
 
-  sizes-room : length (m .corners) / width / 3 ≤ length s
+  sizes-room : length (m .corners) / width / leastRing ≤ length s
   sizes-room = omega (arith, room .drawn-mesh .faces .sizes-long, accepted m ok .limits .corners)
 
-  pub unfolded-given : Given (m .corners) (m .sizes) u s
-  unfolded-given = given m u s ok corners-room sizes-room
+  origins-room : length (m .corners) / width / leastRing ≤ length o
+  origins-room = omega (arith, room .origins-long, accepted m ok .limits .corners)
 
-  module _ {u′ s′ : List ℕ} {i f : ℕ} (placed : Placed (folding.removed (rings d (take k c))) u u′ s s′ 0 0 i f) where
+  pub unfolded-given : Given (m .corners) (m .sizes) u s o
+  unfolded-given = given m u s o ok corners-room sizes-room origins-room
+
+  module _ {u′ s′ o′ : List ℕ} {i f : ℕ}
+      (written : Left (folding.removed (rings d (take k c))) (originsOf (rings d (take k c))) u u′ s s′ o o′ 0 0 i f) where
     abbrev unfolded : Mesh
     unfolded = folding.unfoldedMesh m
 
-    left : folding.Removal m (folding.resultOf u s) (folding.resultOf u′ s′) (record { number = 0; corners = i; faces = f })
-    left = removal-done m u s ok corners-room sizes-room u′ s′ i f placed
+    left : folding.Removal m (folding.resultOf u s o) (folding.resultOf u′ s′ o′) (record { number = 0; corners = i; faces = f })
+    left = removal-done m u s o ok corners-room sizes-room origins-room u′ s′ o′ i f written
 
     unfolded-accepted : meshNumber unfolded ≡ 0
     unfolded-accepted = removed-accepted m ok

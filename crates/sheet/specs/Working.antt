@@ -59,9 +59,10 @@ pub record Drawn (p t n : List Float) (drawn : List ℕ) (c : ℕ) (corners size
   pub within : c ≤ length corners
   pub faces : FaceRoom corners sizes
 
-pub record Unfolding (p t n : List Float) (drawn : List ℕ) (c : ℕ) (unfolded corners sizes : List ℕ) : Type 0 where
+pub record Unfolding (p t n : List Float) (drawn : List ℕ) (c : ℕ) (unfolded origins corners sizes : List ℕ) : Type 0 where
   pub drawn-mesh : Drawn p t n drawn c corners sizes
   pub unfolded-long : length unfolded ≡ cornerNumbers
+  pub origins-long : length origins ≡ faceLimit
 
 -- a mesh without folded faces, and lists for what its faces use
 pub record Unfolded (m : Mesh) (corners : List ℕ) : Type 0 where

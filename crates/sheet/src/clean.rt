@@ -64,7 +64,7 @@ fn read_in(
     )
 }
 
-// A mesh whose corners are the first c numbers of `corners`: a list for the corners of what is left of its faces.
+// A mesh whose corners are the first c numbers of `corners`: lists for the corners of what is left of its faces and for their origins.
 fn from_drawn(
     positions: &[f64],
     textures: &[f64],
@@ -80,6 +80,7 @@ fn from_drawn(
         r (now (corners .exit)) (now (sizes .exit)) ⌝ }
 {
     let mut unfolded = [0u32; mesh::CORNER_NUMBERS];
+    let mut origins = [0u32; mesh::FACES];
     unfold_in(
         positions,
         textures,
@@ -87,12 +88,13 @@ fn from_drawn(
         drawn,
         c,
         &mut unfolded[..],
+        &mut origins[..],
         corners,
         sizes,
     )
 }
 
-// Folded faces are removed.
+// Folded faces are removed; which face each came from no line of the sheet says.
 fn unfold_in(
     positions: &[f64],
     textures: &[f64],
@@ -100,15 +102,16 @@ fn unfold_in(
     drawn: &[u32],
     c: usize,
     unfolded: &mut [u32],
+    origins: &mut [u32],
     corners: &mut [u32],
     sizes: &mut [u32],
 ) -> MeshRead
-    requires { ⌜ Unfolding (now positions) (now textures) (now normals) (now drawn) c (now unfolded) (now corners) (now sizes) ⌝ }
+    requires { ⌜ Unfolding (now positions) (now textures) (now normals) (now drawn) c (now unfolded) (now origins) (now corners) (now sizes) ⌝ }
     ensures { λ r. ⌜ Kept
         (cleaned (meshOf (now (positions .entry)) (now (textures .entry)) (now (normals .entry)) (take c (now (corners .entry))) (now (drawn .entry))))
         r (now (corners .exit)) (now (sizes .exit)) ⌝ }
 {
-    let left = folded::remove(&corners[..c], drawn, unfolded, sizes);
+    let left = folded::remove(&corners[..c], drawn, unfolded, sizes, origins);
     let k = mesh::WIDTH * left.corners;
     let f = left.faces;
     compact(

@@ -1,5 +1,5 @@
-// Cases of the calls that go by faces: those that lend nothing, mesh_number, face and shell_condition, and in `pairs` those that lend
-// two lists of u32.
+// Cases of the calls that go by faces: those that lend nothing, mesh_number, face and shell_condition, in `removal` the one that lends
+// three lists of u32, and in `pairs` those that lend two.
 //
 // `list` is the list of answers, `at` where the case's own words begin; then come the five lists of the mesh.
 use crate::cases;
@@ -7,10 +7,11 @@ use crate::cases::Outcome;
 use crate::cases::Said;
 use crate::list;
 use crate::pairs;
+use crate::removal;
 use edges::Judged;
 use edges::ShellCondition;
 
-// The calls that lend nothing, by the kind of their records; `pairs` has the others.
+// The calls that lend nothing, by the kind of their records; `removal` and `pairs` have the others.
 const MESH_NUMBER: u32 = 1;
 
 const FACE: u32 = 2;
@@ -39,6 +40,9 @@ pub(crate) fn ask(
     }
     if kind == VERDICT {
         return shell_condition(list, at, positions, textures, normals, corners, sizes);
+    }
+    if kind == removal::REMOVAL {
+        return removal::ask(list, at, positions, textures, normals, corners, sizes);
     }
     pairs::two_lists(list, at, kind, positions, textures, normals, corners, sizes)
 }

@@ -16,6 +16,7 @@ mod list;
 mod pairs;
 mod questions;
 mod reading;
+mod removal;
 mod tally;
 
 use cases::Outcome;

@@ -1,4 +1,4 @@
-// Cases of the calls that lend two lists of u32: removal, hem edges, wires of both kinds, panels, and faces in any order.
+// Cases of the calls that lend two lists of u32: hem edges, wires of both kinds, panels, and faces in any order.
 use crate::cases;
 use crate::cases::Outcome;
 use crate::cases::Said;
@@ -6,8 +6,6 @@ use crate::lent;
 use crate::list;
 
 // The kinds of records.
-const REMOVAL: u32 = 4;
-
 const HEMS: u32 = 7;
 
 const PORTED: u32 = 8;
@@ -16,7 +14,7 @@ const HOUSE: u32 = 9;
 
 const PUSH: u32 = 13;
 
-// A call by its kind; any other kind than these five is panels. Each lent list has a function that lends it and looks at it afterwards.
+// A call by its kind; any other kind than these four is panels. Each lent list has a function that lends it and looks at it afterwards.
 pub(crate) fn two_lists(
     list: &[u8],
     at: usize,
@@ -97,10 +95,6 @@ fn call_two(
 ) -> Said {
     if kind == PUSH {
         let r = faces::push(corners, sizes, a, b);
-        return cases::saying(r.number, r.corners, r.faces);
-    }
-    if kind == REMOVAL {
-        let r = folded::remove_degenerate_faces(positions, textures, normals, corners, sizes, a, b);
         return cases::saying(r.number, r.corners, r.faces);
     }
     if kind <= HOUSE {

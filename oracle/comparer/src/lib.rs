@@ -2,8 +2,8 @@
 //!
 //! `library` asks the product, with lent lists that are filled with a pattern (`lent`); `check` holds what came back to the judge's
 //! answer. `meshes`, `shapes`, `coordinates`, `damage`, `files` and `faults` make what is asked. A difference is made small by `shrink` and
-//! printed by `show`. What was written is read back by `round_trip`. `slips`, `wrong`, `wrong_broken` (over `one_by_one`), `wrong_files` and
-//! `wrong_merging` show that the comparer can fail. What is public serves the lister too.
+//! printed by `show`. What was written is read back by `round_trip`. `slips`, `wrong`, `wrong_broken` (over `one_by_one`), `wrong_files`,
+//! `wrong_merging` and `wrong_removal` show that the comparer can fail. What is public serves the lister too.
 
 pub mod check;
 mod coordinates;
@@ -29,6 +29,7 @@ mod wrong;
 mod wrong_broken;
 mod wrong_files;
 mod wrong_merging;
+mod wrong_removal;
 
 pub use library::{Asked, Library, Product, Watch};
 pub use random::Random;

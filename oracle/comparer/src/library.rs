@@ -24,7 +24,7 @@ pub struct Library {
     pub face: on_mesh!(usize, *mut u64, *mut u64 => ()),
     pub remove_unused_attrs: on_mesh!(
         *mut u32, usize, *mut f64, usize, *mut f64, usize, *mut f64, usize, *mut u64, *mut u64, *mut u64 => u32),
-    pub remove_degenerate_faces: on_mesh!(*mut u32, usize, *mut u32, usize, *mut u64, *mut u64 => u32),
+    pub remove_degenerate_faces: on_mesh!(*mut u32, usize, *mut u32, usize, *mut u32, usize, *mut u64, *mut u64 => u32),
     pub put_together_same_attrs: on_mesh!(f64, *mut u32, usize, *mut u64, *mut u64, *mut u64 => u32),
     pub shell_condition: on_mesh!(*mut u32 => u32),
     pub hem_edges: on_mesh!(*mut u32, usize, *mut u32, usize, *mut u64 => u32),
@@ -208,7 +208,22 @@ impl Library {
                     counts.add(2)
                 );
             }
-            Call::RemoveDegenerateFaces => rows!(remove_degenerate_faces),
+            Call::RemoveDegenerateFaces => {
+                let (corners, corners_room) = asked.lists[0].words();
+                let (sizes, sizes_room) = asked.lists[1].words();
+                let (origins, origins_room) = asked.lists[2].words();
+                asked.number = on!(
+                    remove_degenerate_faces,
+                    corners,
+                    corners_room,
+                    sizes,
+                    sizes_room,
+                    origins,
+                    origins_room,
+                    counts,
+                    counts.add(1)
+                );
+            }
             Call::PutTogetherSameAttrs => {
                 let (corners, room) = asked.lists[0].words();
                 let tolerance = question.tolerance;

@@ -98,6 +98,8 @@ fn differences_become_small() {
     assert_eq!(third_use.mesh.corners.iter().step_by(3).copied().collect::<Vec<_>>(), [0, 0, 0]);
     let both_rings = smallest(Call::RemoveDegenerateFaces, "corner i for both rings");
     assert_eq!(both_rings.mesh.sizes, [5]);
+    let from_0_again = smallest(Call::RemoveDegenerateFaces, "faces behind the triangles numbered from 0 again");
+    assert_eq!(from_0_again.mesh.sizes, [3, 4]);
     let after_the_end = smallest(Call::ReadPanel, "an index asked before bytes after the end");
     assert!(after_the_end.file.len() <= 4 + 1 + 36 + 4 + 1);
     let wraps = smallest(Call::MeshNumber, "sizes added in 32 bits");

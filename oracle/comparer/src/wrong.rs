@@ -1,8 +1,8 @@
 //! Wrong answers that look right: what a product with one misreading of document 01 would say.
 
 use crate::wrong_merging::{merging, Misread};
-use crate::{wrong_broken, wrong_files};
-use judge::mesh::{Corner, Merged, Unfolded, Verdict};
+use crate::{wrong_broken, wrong_files, wrong_removal};
+use judge::mesh::{Corner, Merged, Pushed, Verdict};
 use judge::reading::merging::put_together_same_attrs;
 use judge::reading::{cleaning, edges, numbers, panel_file, panels};
 use judge::{Answer, Call, Count, Mesh, Numbers, Question, MISSING};
@@ -26,10 +26,7 @@ fn of_its_own(call: Call) -> &'static [(&'static str, Wrong)] {
         ],
         Call::Face => &[("empty where an index is off, too", |q, _| (number(q) == 5).then(|| Answer::face(0, 0)))],
         Call::RemoveUnusedAttrs => &[("entries kept in their old order", old_order)],
-        Call::RemoveDegenerateFaces => &[
-            ("corner i for both rings", |q, right| accepted(right, || unfolded(q, ring_with_corner_i))),
-            ("the search begins at i = 1", |q, right| accepted(right, || unfolded(q, ring_from_1))),
-        ],
+        Call::RemoveDegenerateFaces => wrong_removal::REMOVAL,
         Call::PutTogetherSameAttrs => &[
             ("the lowest index for the representative", lowest_index),
             ("positions merged raw", raw_positions),
@@ -95,7 +92,7 @@ fn pushed_by(question: &Question, key: fn(usize) -> Option<usize>) -> Answer {
     let mut faces: Vec<Vec<Corner>> = question.mesh.faces().into_iter().filter(|face| key(face.len()).is_some()).collect();
     faces.sort_by_key(|face| key(face.len()));
     let made = Mesh::default().with_faces(&faces);
-    Answer::unfolded(Unfolded { corners: made.corners, sizes: made.sizes })
+    Answer::pushed(Pushed { corners: made.corners, sizes: made.sizes })
 }
 
 fn small_faces_refused(question: &Question, right: &Answer) -> Option<Answer> {
@@ -132,35 +129,6 @@ fn old_order(question: &Question, right: &Answer) -> Option<Answer> {
         answer.lists[0] = Numbers::Words(corners.iter().enumerate().map(rank).collect());
         answer
     })
-}
-
-/// The removal with another way to split a larger face.
-fn unfolded(question: &Question, ring: fn(Vec<Corner>) -> Vec<Vec<Corner>>) -> Answer {
-    let small: Vec<Vec<Corner>> = question.mesh.faces().into_iter().filter(|face| face.len() < 5).collect();
-    let right = cleaning::remove_degenerate_faces(&question.mesh.with_faces(&small));
-    let mut pieces = Mesh { corners: right.corners, sizes: right.sizes, ..Mesh::default() }.faces();
-    pieces.extend(question.mesh.faces().into_iter().filter(|face| face.len() >= 5).flat_map(ring));
-    let mesh = Mesh::default().with_faces(&cleaning::grouped(pieces));
-    Answer::unfolded(Unfolded { corners: mesh.corners, sizes: mesh.sizes })
-}
-
-fn split(
-    r: Vec<Corner>,
-    from: usize,
-    again: fn(Vec<Corner>) -> Vec<Vec<Corner>>,
-    other: fn(&[Corner], usize, usize) -> Vec<Corner>,
-) -> Vec<Vec<Corner>> {
-    let pairs = (from..r.len()).flat_map(|i| (i + 1..r.len()).map(move |j| (i, j)));
-    let found = pairs.into_iter().find(|(i, j)| r[*i][0] == r[*j][0]);
-    found.map_or(vec![r.clone()], |(i, j)| [again(r[i..j].to_vec()), again(other(&r, i, j))].concat())
-}
-
-fn ring_with_corner_i(r: Vec<Corner>) -> Vec<Vec<Corner>> {
-    split(r, 0, ring_with_corner_i, |r, i, j| [&[r[i]], &r[j + 1..], &r[..i]].concat())
-}
-
-fn ring_from_1(r: Vec<Corner>) -> Vec<Vec<Corner>> {
-    split(r, 1, ring_from_1, |r, i, j| [&r[j..], &r[..i]].concat())
 }
 
 fn words(answer: &Answer) -> &[u32] {

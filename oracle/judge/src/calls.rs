@@ -1,6 +1,6 @@
 //! The calls of the product's C interface, what can be asked of each, and the one shape of all their answers.
 
-use crate::mesh::{Compacted, Merged, Mesh, Unfolded, Verdict};
+use crate::mesh::{Compacted, Merged, Mesh, Pushed, Unfolded, Verdict};
 
 #[derive(Clone, Copy, Debug, PartialEq, Eq)]
 pub enum Call {
@@ -112,11 +112,11 @@ impl Answer {
             Call::MeshNumber => (vec![], 0),
             Call::Face => (vec![], 2),
             Call::RemoveUnusedAttrs => (vec![words(), floats(), floats(), floats()], 3),
-            Call::RemoveDegenerateFaces | Call::Push => (vec![words(), words()], 2),
+            Call::RemoveDegenerateFaces => (vec![words(), words(), words()], 2),
             Call::PutTogetherSameAttrs => (vec![words()], 3),
             Call::ShellCondition => return Answer { number, lists: vec![], counts: vec![Count::Untouched] },
             Call::HemEdges => (vec![words(), words()], 1),
-            Call::ExtractBoundaries | Call::HouseWires | Call::Components => (vec![words(), words()], 2),
+            Call::Push | Call::ExtractBoundaries | Call::HouseWires | Call::Components => (vec![words(), words()], 2),
             Call::ReadPanel => (vec![floats(), floats(), floats(), words(), words()], 5),
             Call::WritePanel | Call::CleanPanel | Call::Sheet => (vec![Bytes(vec![])], 1),
         };
@@ -146,9 +146,16 @@ impl Answer {
         Answer::done(lists, &counts)
     }
 
-    pub fn unfolded(made: Unfolded) -> Answer {
+    pub fn pushed(made: Pushed) -> Answer {
         let counts = [made.corners.len() / 3, made.sizes.len()];
         Answer::done(vec![Numbers::Words(made.corners), Numbers::Words(made.sizes)], &counts)
+    }
+
+    /// The faces count their origins too.
+    pub fn unfolded(made: Unfolded) -> Answer {
+        let counts = [made.corners.len() / 3, made.sizes.len()];
+        let lists = vec![Numbers::Words(made.corners), Numbers::Words(made.sizes), Numbers::Words(made.origins)];
+        Answer::done(lists, &counts)
     }
 
     pub fn merged(made: Merged) -> Answer {

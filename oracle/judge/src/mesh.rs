@@ -54,10 +54,17 @@ pub struct Compacted {
     pub normals: Vec<f64>,
 }
 
-/// What the removal of folded faces gives.
+/// Faces that were given in any order, grouped.
+pub struct Pushed {
+    pub corners: Vec<u32>,
+    pub sizes: Vec<u32>,
+}
+
+/// What the removal of folded faces gives; for each face of it the number of the face it came from.
 pub struct Unfolded {
     pub corners: Vec<u32>,
     pub sizes: Vec<u32>,
+    pub origins: Vec<u32>,
 }
 
 /// What merging gives; the pairs it compared in positions, texture points and normals.

@@ -3,7 +3,7 @@
 //! The Rust checks less than document 01 asks, and panics where document 01 refuses; so it is asked only where the question is accepted.
 
 use crate::calls::{Answer, Call, Question};
-use crate::mesh::{Compacted, Merged, Mesh, Unfolded, Verdict, MISSING};
+use crate::mesh::{Compacted, Merged, Mesh, Pushed, Unfolded, Verdict, MISSING};
 use truck_polymesh::{Faces, Point3, PolygonMesh, StandardAttributes, StandardVertex, Vector2, Vector3};
 
 pub mod untouched {
@@ -51,6 +51,32 @@ fn pushed(mesh: &Mesh) -> Faces {
         pushed.push(&corners);
     }
     pushed
+}
+
+/// The same faces, told apart: every corner of face k has texture point k. There are fewer faces than a mesh may have texture points, so
+/// this is a mesh too, and always can be had.
+fn told_apart(mesh: &Mesh) -> Mesh {
+    let mut faces = mesh.faces();
+    for (number, face) in faces.iter_mut().enumerate() {
+        face.iter_mut().for_each(|corner| corner[1] = number as u32);
+    }
+    Mesh { textures: vec![0.0; 2 * faces.len()], ..mesh.with_faces(&faces) }
+}
+
+/// The face that the corners of a result face came from, by their texture points; missing, which is no face, where they came from several.
+fn origin(face: &[StandardVertex]) -> u32 {
+    let origin = face[0].uv;
+    let is_one = face.iter().all(|corner| corner.uv == origin);
+    origin.filter(|_| is_one).map_or(MISSING, |number| number as u32)
+}
+
+fn sizes(faces: &Faces) -> Vec<u32> {
+    faces.face_iter().map(|face| face.len() as u32).collect()
+}
+
+/// The corners without their texture points.
+fn without_textures(corners: &[u32]) -> Vec<[u32; 2]> {
+    corners.chunks(3).map(|corner| [corner[0], corner[2]]).collect()
 }
 
 fn flat_corners(faces: &Faces) -> Vec<u32> {

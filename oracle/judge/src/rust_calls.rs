@@ -14,7 +14,17 @@ pub fn remove_unused_attrs(mesh: &Mesh) -> Compacted {
 pub fn remove_degenerate_faces(mesh: &Mesh) -> Unfolded {
     let mut rust = into_rust(mesh).unwrap();
     rust.remove_degenerate_faces();
-    Unfolded { corners: flat_corners(rust.faces()), sizes: rust.face_iter().map(|face| face.len() as u32).collect() }
+    let (corners, sizes) = (flat_corners(rust.faces()), sizes(rust.faces()));
+    Unfolded { origins: origins(mesh, &corners, &sizes), corners, sizes }
+}
+
+/// The Rust gives no origins. It is asked once more, about the same faces told apart by their texture points; no rule of the removal looks at
+/// these, so the faces of both results must be alike but for them. Where they are not, no origins are given: that is a difference.
+fn origins(mesh: &Mesh, corners: &[u32], expected: &[u32]) -> Vec<u32> {
+    let mut rust = into_rust(&told_apart(mesh)).unwrap();
+    rust.remove_degenerate_faces();
+    let is_alike = without_textures(&flat_corners(rust.faces())) == without_textures(corners) && sizes(rust.faces()) == expected;
+    rust.face_iter().filter(|_| is_alike).map(origin).collect()
 }
 
 pub fn put_together_same_attrs(mesh: &Mesh, tolerance: f64) -> Merged {
@@ -71,7 +81,7 @@ fn answered(call: Call, question: &Question) -> Option<Answer> {
         Call::Components => Answer::rows(&components(mesh, question.use_normal)),
         Call::Push => {
             let faces = pushed(mesh);
-            Answer::unfolded(Unfolded { corners: flat_corners(&faces), sizes: faces.face_iter().map(|face| face.len() as u32).collect() })
+            Answer::pushed(Pushed { corners: flat_corners(&faces), sizes: sizes(&faces) })
         }
         Call::HouseWires | Call::ReadPanel | Call::WritePanel | Call::CleanPanel | Call::Sheet => return None,
     })

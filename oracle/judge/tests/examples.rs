@@ -87,6 +87,37 @@ fn examples_5_to_8_folded_faces() {
     assert_eq!(unfolded(&[0, 0, 1, 1, 2]), [[3, 4, 1]]);
 }
 
+/// The faces that the result's came from, by each judge; the Rust's are read off texture points, whatever the mesh itself has there.
+fn origins(mesh: &Mesh) -> Vec<u32> {
+    judged(Call::RemoveDegenerateFaces, Question { mesh: mesh.clone(), ..Question::default() });
+    let made = rust::untouched::remove_degenerate_faces(mesh);
+    assert_eq!(made.origins.len(), made.sizes.len());
+    made.origins
+}
+
+#[test]
+fn each_face_has_the_number_of_the_face_it_came_from() {
+    let of = |faces: &[&[u32]]| origins(&by_positions(faces));
+    assert!(of(&[]).is_empty());
+    assert!(of(&[&[0, 0, 1]]).is_empty());
+    assert_eq!(of(&[&[0, 1, 1, 2]]), [0]);
+    assert_eq!(of(&[&[0, 1, 2, 0, 3, 4]]), [0, 0]);
+    // Nothing is folded: 0, 1, 2, .. .
+    assert_eq!(of(&[&[0, 1, 2], &[0, 1, 2, 3], &[0, 1, 2, 3, 4]]), [0, 1, 2]);
+    // What a quadrangle and a larger face leave stands behind the triangles that stay, and before the quadrangles.
+    let mixed: &[&[u32]] =
+        &[&[0, 1, 1], &[0, 1, 2], &[0, 1, 2, 3], &[3, 2, 2, 4], &[0, 1, 2, 3, 4], &[4, 3, 2, 4, 1, 0], &[0, 1, 2, 0, 3, 4, 5]];
+    assert_eq!(of(mixed), [1, 3, 5, 5, 6, 2, 6, 4]);
+}
+
+#[test]
+fn origins_do_not_go_by_what_the_corners_carry() {
+    let mut mesh = by_positions(&[&[0, 1, 2], &[3, 4, 5, 3, 6, 7]]);
+    mesh.textures = vec![0.5; 2];
+    mesh.corners.iter_mut().skip(1).step_by(3).for_each(|texture| *texture = 0);
+    assert_eq!(origins(&mesh), [0, 1, 1]);
+}
+
 #[test]
 fn example_9_compaction() {
     let mesh = by_positions(&[&[5, 2, 4]]);

@@ -115,6 +115,13 @@ impl Lister {
         }
     }
 
+    /// The removal of faces some of which are folded: the result would fit where the stated room is not there.
+    fn short_rooms_of_removal(&mut self, mesh: &Mesh) {
+        self.list.mesh(mesh);
+        let mut question = Question { mesh: mesh.clone(), ..Question::default() };
+        self.short_rooms_of(Call::RemoveDegenerateFaces, &mut question);
+    }
+
     fn merging(&mut self, mesh: &Mesh, tolerance: f64) {
         self.list.mesh(mesh);
         let rooms = vec![mesh.corners.len()];
@@ -166,6 +173,7 @@ fn list() -> Lister {
     }
     let examples = subjects::examples();
     [&examples[10], &examples[11]].iter().for_each(|mesh| lister.short_rooms(mesh, 0.5));
+    lister.short_rooms_of_removal(&examples[17]);
     subjects::that_merge().iter().for_each(|case| lister.merging(&case.mesh, case.tolerance));
     for asked in [merging::tolerances(), merging::coordinates(), merging::quotients(), merging::merges()] {
         asked.iter().for_each(|(mesh, tolerance)| lister.merging(mesh, *tolerance));

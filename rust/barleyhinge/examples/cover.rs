@@ -9,21 +9,24 @@
 use barleyhinge::{clean_panel, read_panel, sheet, Faces, Mesh, OwnedMesh, Refusal, Rows, MAX_ENTRIES, MAX_FACES, MAX_FILE};
 use std::io::Read;
 
-/// Reads, removes folded faces, compacts.
-fn draw(file: &[u8]) -> Result<OwnedMesh, Refusal> {
+/// Reads, removes folded faces, compacts: the clean cover, and for each of its faces the number of the drawn face it came from.
+fn draw(file: &[u8]) -> Result<(OwnedMesh, Vec<u32>), Refusal> {
     if file.len() > MAX_FILE {
         return Err(Refusal::OverLimit);
     }
     let drawn = read_panel(file)?;
     let left = drawn.mesh().remove_degenerate_faces()?;
-    Mesh { corners: &left.corners, sizes: &left.sizes, ..drawn.mesh() }.remove_unused_attrs()
+    let clean = Mesh { corners: &left.faces.corners, sizes: &left.faces.sizes, ..drawn.mesh() }.remove_unused_attrs()?;
+    Ok((clean, left.origins))
+}
+
+fn print_row(name: &str, row: &[u32]) {
+    let numbers: String = row.iter().map(|number| format!(" {number}")).collect();
+    println!("{name}{numbers}");
 }
 
 fn print_rows(name: &str, rows: &Rows) {
-    for row in rows.rows() {
-        let numbers: Vec<String> = row.iter().map(|number| number.to_string()).collect();
-        println!("{name} {}", numbers.join(" "));
-    }
+    rows.rows().for_each(|row| print_row(name, row));
 }
 
 fn print_sheet(mesh: Mesh) -> Result<(), Refusal> {
@@ -93,8 +96,9 @@ fn print_broken(mut clean: OwnedMesh) {
 pub extern "C" fn main() -> i32 {
     let mut file = vec![];
     std::io::stdin().take(MAX_FILE as u64 + 1).read_to_end(&mut file).unwrap();
-    let done = draw(&file).and_then(|clean| {
+    let done = draw(&file).and_then(|(clean, origins)| {
         print_sheet(clean.mesh())?;
+        print_row("drawn as", &origins);
         print_more(clean.mesh())?;
         print_written(&clean, &file)?;
         print_broken(clean);

@@ -4,7 +4,7 @@
 //! that is stated for it, and gives back what was written, as lists of its own. A number other than 0 comes back as a [`Refusal`].
 //!
 //! The library itself allocates nothing and has no statics, so calls may run side by side. It needs stack: the most for
-//! [`clean_panel`], 600 KB (`include/barleyhinge.h` has the figure of each call); a Rust thread has 2 MB unless it is asked for less.
+//! [`clean_panel`], 604 KB (`include/barleyhinge.h` has the figure of each call); a Rust thread has 2 MB unless it is asked for less.
 //!
 //! ```no_run
 //! use barleyhinge::{read_panel, Refusal, Verdict};
@@ -87,6 +87,13 @@ impl OwnedMesh {
 pub struct Faces {
     pub corners: Vec<u32>,
     pub sizes: Vec<u32>,
+}
+
+/// What the removal of folded faces gives: the faces that are left, and for each of them the number of the face it came from.
+#[derive(Clone, Debug, Default, PartialEq, Eq)]
+pub struct Unfolded {
+    pub faces: Faces,
+    pub origins: Vec<u32>,
 }
 
 /// What merging gives: the corners, and how many pairs were compared in each list. The other lists don't change.
@@ -231,9 +238,11 @@ impl<'a> Mesh<'a> {
         Ok(made)
     }
 
-    /// Folded faces go or are cut open. The attribute lists don't change.
-    pub fn remove_degenerate_faces(self) -> Result<Faces, Refusal> {
+    /// Folded faces go or are cut open; each face that is left comes with the number of the face it came from. The attribute lists don't
+    /// change. Compaction of what is left changes no face's number, so the origins hold after it too.
+    pub fn remove_degenerate_faces(self) -> Result<Unfolded, Refusal> {
         let mut made = Faces { corners: vec![0; self.corners.len()], sizes: vec![0; self.corner_count() / 3] };
+        let mut origins = vec![0; self.corner_count() / 3];
         let (mut corners, mut faces) = (0, 0);
         let number = on!(
             self,
@@ -242,13 +251,16 @@ impl<'a> Mesh<'a> {
             made.corners.len(),
             made.sizes.as_mut_ptr(),
             made.sizes.len(),
+            origins.as_mut_ptr(),
+            origins.len(),
             &mut corners,
             &mut faces
         );
         Refusal::unless_done(number)?;
         made.corners.truncate(3 * corners);
         made.sizes.truncate(faces);
-        Ok(made)
+        origins.truncate(faces);
+        Ok(Unfolded { faces: made, origins })
     }
 
     /// Merging: near positions, texture points and normals each get the index of one of them.

@@ -54,6 +54,7 @@ extern "C" {
         sizes: *const u32, sizes_len: usize,
         newcorners: *mut u32, newcorners_len: usize,
         newsizes: *mut u32, newsizes_len: usize,
+        origins: *mut u32, origins_len: usize,
         cornercount: *mut usize,
         facecount: *mut usize,
     ) -> u32;

@@ -17,8 +17,11 @@ same-length c = search needs
 same-length-2 : tie.Need-same-length-2
 same-length-2 c = search needs
 
+same-length-3 : tie.Need-same-length-3
+same-length-3 c = search needs
+
 returns : tie.Need-returns
-returns c = taken (Removal _ _ _) _ _ (c .removed .ensures) (c .before .before .before .before .before .before .before .remove-degenerate-faces .ensures)
+returns c = taken (Removal _ _ _) _ _ (c .removed .ensures) (c .before .before .before .before .before .before .before .before .before .remove-degenerate-faces .ensures)
 
 pub bh-remove-degenerate-faces-spec : {M : Type 1} → statement M
-bh-remove-degenerate-faces-spec = tie.close (tie.spec remove-degenerate-faces-requires removed-requires same-length same-length-2 returns)
+bh-remove-degenerate-faces-spec = tie.close (tie.spec remove-degenerate-faces-requires removed-requires same-length same-length-2 same-length-3 returns)

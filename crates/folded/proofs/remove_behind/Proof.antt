@@ -1,5 +1,5 @@
 -- `folded::remove_behind` meets its contract: what is written to all that stands behind is written behind. Assumes nothing.
-use Rattle.folded.proofs.TwoParts.{left-corners, left-faces, placed-tail}
+use Rattle.folded.proofs.Behind.{left-corners, left-faces, ready-tail, left-tail}
 use native.Mathlib.Omega.{arith}
 use borrow.Author.Needs.{needs}
 use Rattle.folded.proofs.remove_behind.Statement.{statement}
@@ -32,18 +32,30 @@ part-remove-larger-start-2 c = search needs
 part-remove-larger-end-2 : tie.Need-part-remove-larger-end-2
 part-remove-larger-end-2 c = search needs
 
+mul-remove-larger-3 : tie.Need-mul-remove-larger-3
+mul-remove-larger-3 c = search needs
+
+sub-remove-larger-3 : tie.Need-sub-remove-larger-3
+sub-remove-larger-3 c = search needs
+
+part-remove-larger-start-3 : tie.Need-part-remove-larger-start-3
+part-remove-larger-start-3 c = search needs
+
+part-remove-larger-end-3 : tie.Need-part-remove-larger-end-3
+part-remove-larger-end-3 c = search needs
+
 remove-larger-requires : tie.Need-remove-larger-requires
-remove-larger-requires c κs = search needs
+remove-larger-requires c κs = ready-tail _ _ _ _ _ _ _ _ (c .before .before .before .before .before .before .before .before .pre)
 
-add-t10 : tie.Need-add-t10
-add-t10 c =
-    let pre = c .before .before .before .before .before .before .before .before .before .before .before .before .pre in
-    omega (arith, left-corners _ _ _ _ _ _ _ _ (pre .fit) (c .before .before .before .before .before .remove-larger .ensures))
+add-t12 : tie.Need-add-t12
+add-t12 c =
+    let pre = c .before .before .before .before .before .before .before .before .before .before .before .before .before .before .before .before .pre in
+    omega (arith, left-corners _ _ _ _ _ _ _ _ (pre .fit) (c .before .before .before .before .before .before .before .remove-larger .ensures .placed))
 
-add-t17 : tie.Need-add-t17
-add-t17 c =
-    let pre = c .before .before .before .before .before .before .before .before .before .before .before .before .before .pre in
-    omega (arith, left-faces _ _ _ _ _ _ _ _ (pre .fit) (c .before .before .before .before .before .before .remove-larger .ensures))
+add-t24 : tie.Need-add-t24
+add-t24 c =
+    let pre = c .before .before .before .before .before .before .before .before .before .before .before .before .before .before .before .before .before .pre in
+    omega (arith, left-faces _ _ _ _ _ _ _ _ (pre .fit) (c .before .before .before .before .before .before .before .before .remove-larger .ensures .placed))
 
 same-length : tie.Need-same-length
 same-length c = search needs
@@ -51,8 +63,11 @@ same-length c = search needs
 same-length-2 : tie.Need-same-length-2
 same-length-2 c = search needs
 
+same-length-3 : tie.Need-same-length-3
+same-length-3 c = search needs
+
 returns : tie.Need-returns
-returns c = placed-tail _ _ _ _ _ _ _ _ _ (c .before .before .before .before .before .before .remove-larger .ensures)
+returns c = left-tail _ _ _ _ _ _ _ _ _ _ _ _ (c .before .before .before .before .before .before .before .before .remove-larger .ensures)
 
 pub remove-behind-spec : {M : Type 1} → statement M
 remove-behind-spec =
@@ -67,9 +82,14 @@ remove-behind-spec =
     sub-remove-larger-2
     part-remove-larger-start-2
     part-remove-larger-end-2
+    mul-remove-larger-3
+    sub-remove-larger-3
+    part-remove-larger-start-3
+    part-remove-larger-end-3
     remove-larger-requires
-    add-t10
-    add-t17
+    add-t12
+    add-t24
     same-length
     same-length-2
+    same-length-3
     returns)

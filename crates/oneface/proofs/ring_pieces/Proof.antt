@@ -1,7 +1,6 @@
--- `oneface::ring_pieces` meets its contract: where the search finds no pair, the face stays; else its row is split. Assumes nothing.
-use mathlib.Core.Path.{sym, ap}
+-- `oneface::ring_pieces` meets its contract: where the search finds no pair, the face stays; else it is split. Assumes nothing.
+use mathlib.Core.Path.{sym}
 use lib.Seq.{length-take-le}
-use Rattle.folding.specs.Folding.{ringPieces}
 use Rattle.grouping.proofs.Placing.{placed-as}
 use Rattle.oneface.proofs.OneFace.{face-room, ring-kept}
 use native.Mathlib.Omega.{arith}
@@ -21,11 +20,8 @@ slice-aggregate-first c = sym (length-take-le _ _ (omega arith))
 first-requires : tie.Need-first-requires
 first-requires c κs = search needs
 
-row-of-requires : tie.Need-row-of-requires
-row-of-requires c κs = search needs
-
-split-into-nondegenerate-requires : tie.Need-split-into-nondegenerate-requires
-split-into-nondegenerate-requires c κs = search needs
+split-pieces-requires : tie.Need-split-pieces-requires
+split-pieces-requires c κs = search needs
 
 same-length : tie.Need-same-length
 same-length c = search needs
@@ -34,8 +30,7 @@ same-length-2 : tie.Need-same-length-2
 same-length-2 c = search needs
 
 returns : tie.Need-returns
-returns c =
-    placed-as (ap ringPieces (sym (c .before .before .before .before .before .before .before .row-of .ensures))) (c .before .before .before .before .split-into-nondegenerate .ensures)
+returns c = search needs
 
 put-face-requires : tie.Need-put-face-requires
 put-face-requires c κs = face-room _ _ _ _ _ _ (c .before .before .before .before .before .before .before .before .before .pre)
@@ -63,8 +58,7 @@ ring-pieces-spec =
     array-share-prefix-places
     slice-aggregate-first
     first-requires
-    row-of-requires
-    split-into-nondegenerate-requires
+    split-pieces-requires
     same-length
     same-length-2
     returns

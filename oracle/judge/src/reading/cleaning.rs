@@ -1,6 +1,6 @@
-//! 'Compaction' and 'Folded faces', and the two after each other, which is cleaning.
+//! 'Compaction' and 'Folded faces', with CR 3 of document 02, and the two after each other, which is cleaning.
 
-use crate::mesh::{Compacted, Corner, Mesh, Unfolded, MISSING};
+use crate::mesh::{Compacted, Corner, Mesh, Pushed, Unfolded, MISSING};
 use std::collections::BTreeMap;
 
 /// Folded faces are removed, then unused entries.
@@ -52,21 +52,30 @@ fn entries(list: &[f64], width: usize, which: &[u32]) -> Vec<f64> {
 }
 
 /// Faces in any order, grouped as `push` does.
-pub fn push(mesh: &Mesh) -> Unfolded {
+pub fn push(mesh: &Mesh) -> Pushed {
     let mesh = Mesh::default().with_faces(&grouped(mesh.faces()));
-    Unfolded { corners: mesh.corners, sizes: mesh.sizes }
+    Pushed { corners: mesh.corners, sizes: mesh.sizes }
 }
 
-/// Folded faces go or are split; the results are grouped as `push` does.
+/// Folded faces go or are split; the results are grouped as `push` does, each with the number of the face it came from.
 pub fn remove_degenerate_faces(mesh: &Mesh) -> Unfolded {
-    let pieces = mesh.faces().into_iter().flat_map(|face| match face.len() {
-        3 => triangle(face),
-        4 => quadrangle(face),
-        _ => ring(face),
-    });
-    let faces = grouped(pieces.collect());
+    unfolded_by(mesh, ring)
+}
+
+/// The same with any way to split a larger face.
+pub fn unfolded_by(mesh: &Mesh, ring: fn(Vec<Corner>) -> Vec<Vec<Corner>>) -> Unfolded {
+    let mut pieces: Vec<(u32, Vec<Corner>)> = vec![];
+    for (number, face) in mesh.faces().into_iter().enumerate() {
+        let left = match face.len() {
+            3 => triangle(face),
+            4 => quadrangle(face),
+            _ => ring(face),
+        };
+        pieces.extend(left.into_iter().map(|piece| (number as u32, piece)));
+    }
+    let (origins, faces): (Vec<u32>, Vec<Vec<Corner>>) = grouped_by(pieces, |(_, piece)| piece.len()).into_iter().unzip();
     let mesh = Mesh::default().with_faces(&faces);
-    Unfolded { corners: mesh.corners, sizes: mesh.sizes }
+    Unfolded { corners: mesh.corners, sizes: mesh.sizes, origins }
 }
 
 /// A folded triangle goes.
@@ -109,6 +118,11 @@ fn ring(r: Vec<Corner>) -> Vec<Vec<Corner>> {
 
 /// As `push` does: triangles, then quadrangles, then larger faces, each in the order in which they came; fewer than three corners vanish.
 pub fn grouped(faces: Vec<Vec<Corner>>) -> Vec<Vec<Corner>> {
-    let of = |sizes: std::ops::RangeInclusive<usize>| faces.iter().filter(move |face| sizes.contains(&face.len())).cloned();
+    grouped_by(faces, |face| face.len())
+}
+
+/// The same of faces that come with something beside their corners.
+fn grouped_by<Face: Clone>(faces: Vec<Face>, corners: fn(&Face) -> usize) -> Vec<Face> {
+    let of = |sizes: std::ops::RangeInclusive<usize>| faces.iter().filter(move |face| sizes.contains(&corners(face))).cloned();
     of(3..=3).chain(of(4..=4)).chain(of(5..=usize::MAX)).collect()
 }

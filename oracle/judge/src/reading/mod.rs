@@ -38,6 +38,6 @@ pub fn answer(call: Call, question: &Question) -> Answer {
         Call::WritePanel => Answer::bytes(writing::write(mesh)),
         Call::CleanPanel => Answer::bytes(writing::clean(file).unwrap()),
         Call::Sheet => Answer::sheet(sheet::sheet(file)),
-        Call::Push => Answer::unfolded(cleaning::push(mesh)),
+        Call::Push => Answer::pushed(cleaning::push(mesh)),
     }
 }

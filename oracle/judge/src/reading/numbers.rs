@@ -129,7 +129,7 @@ pub fn stated_rooms(call: Call, mesh: &Mesh) -> Vec<usize> {
     match call {
         Call::MeshNumber | Call::Face | Call::ShellCondition => vec![],
         Call::RemoveUnusedAttrs => vec![mesh.corners.len(), mesh.positions.len(), mesh.textures.len(), mesh.normals.len()],
-        Call::RemoveDegenerateFaces => vec![mesh.corners.len(), corners / 3],
+        Call::RemoveDegenerateFaces => vec![mesh.corners.len(), corners / 3, corners / 3],
         Call::PutTogetherSameAttrs => vec![mesh.corners.len()],
         // Document 01 names no call for `push`: as for compaction, the input's own lengths.
         Call::Push => vec![mesh.corners.len(), mesh.sizes.len()],

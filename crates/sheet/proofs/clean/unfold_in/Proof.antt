@@ -10,45 +10,45 @@ slice-reshare-prefix-remove : tie.Need-slice-reshare-prefix-remove
 slice-reshare-prefix-remove c = search needs
 
 slice-aggregate-remove : tie.Need-slice-aggregate-remove
-slice-aggregate-remove c = corners-counted (c .before .before .before .before .before .before .before .before .pre)
+slice-aggregate-remove c = corners-counted (c .before .before .before .before .before .before .before .before .before .pre)
 
 remove-requires : tie.Need-remove-requires
-remove-requires c κs = unfolded-given (c .before .before .before .before .before .before .before .before .before .before .pre)
+remove-requires c κs = unfolded-given (c .before .before .before .before .before .before .before .before .before .before .before .before .pre)
 
 mul-k : tie.Need-mul-k
 mul-k c =
-    let at-remove = c .before .before .before .before .before in
-    let start = at-remove .before .before .before .before .before .before .before .before .before .before .before in
+    let at-remove = c .before .before .before .before .before .before .before in
+    let start = at-remove .before .before .before .before .before .before .before .before .before .before .before .before .before in
     omega (arith, unfolded-corners (start .pre) (at-remove .remove .ensures) .within)
 
 slice-reshare-prefix-compact : tie.Need-slice-reshare-prefix-compact
 slice-reshare-prefix-compact c =
-    let at-remove = c .before .before .before .before .before in
-    let start = at-remove .before .before .before .before .before .before .before .before .before .before .before in
+    let at-remove = c .before .before .before .before .before .before .before in
+    let start = at-remove .before .before .before .before .before .before .before .before .before .before .before .before .before in
     unfolded-corners (start .pre) (at-remove .remove .ensures) .within
 
 slice-aggregate-compact : tie.Need-slice-aggregate-compact
 slice-aggregate-compact c =
-    let at-remove = c .before .before .before .before .before .before in
-    let start = at-remove .before .before .before .before .before .before .before .before .before .before .before in
+    let at-remove = c .before .before .before .before .before .before .before .before in
+    let start = at-remove .before .before .before .before .before .before .before .before .before .before .before .before .before in
     unfolded-corners (start .pre) (at-remove .remove .ensures) .long
 
 slice-reshare-prefix-compact-2 : tie.Need-slice-reshare-prefix-compact-2
 slice-reshare-prefix-compact-2 c =
-    let at-remove = c .before .before .before .before .before .before in
-    let start = at-remove .before .before .before .before .before .before .before .before .before .before .before in
+    let at-remove = c .before .before .before .before .before .before .before .before in
+    let start = at-remove .before .before .before .before .before .before .before .before .before .before .before .before .before in
     unfolded-sizes (start .pre) (at-remove .remove .ensures) .within
 
 slice-aggregate-compact-2 : tie.Need-slice-aggregate-compact-2
 slice-aggregate-compact-2 c =
-    let at-remove = c .before .before .before .before .before .before .before in
-    let start = at-remove .before .before .before .before .before .before .before .before .before .before .before in
+    let at-remove = c .before .before .before .before .before .before .before .before .before in
+    let start = at-remove .before .before .before .before .before .before .before .before .before .before .before .before .before in
     unfolded-sizes (start .pre) (at-remove .remove .ensures) .long
 
 compact-requires : tie.Need-compact-requires
 compact-requires c κs =
-    let at-remove = c .before .before .before .before .before .before .before .before in
-    let start = at-remove .before .before .before .before .before .before .before .before .before .before .before in
+    let at-remove = c .before .before .before .before .before .before .before .before .before .before in
+    let start = at-remove .before .before .before .before .before .before .before .before .before .before .before .before .before in
     unfolded-mesh (start .pre) (at-remove .remove .ensures)
 
 same-length : tie.Need-same-length
@@ -60,11 +60,14 @@ same-length-2 c = search needs
 same-length-3 : tie.Need-same-length-3
 same-length-3 c = search needs
 
+same-length-4 : tie.Need-same-length-4
+same-length-4 c = search needs
+
 returns : tie.Need-returns
 returns c =
     let at-compact = c .before .before in
-    let at-remove = at-compact .before .before .before .before .before .before .before .before .before in
-    let start = at-remove .before .before .before .before .before .before .before .before .before .before .before in
+    let at-remove = at-compact .before .before .before .before .before .before .before .before .before .before .before in
+    let start = at-remove .before .before .before .before .before .before .before .before .before .before .before .before .before in
     unfolded-kept (start .pre) (at-remove .remove .ensures) (at-compact .compact .ensures)
 
 pub unfold-in-spec : {M : Type 1} → statement M
@@ -83,4 +86,5 @@ unfold-in-spec =
     same-length
     same-length-2
     same-length-3
+    same-length-4
     returns)
