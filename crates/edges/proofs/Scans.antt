@@ -13,11 +13,11 @@ use lib.Dec.{leb, eqb}
 use Rattle.lists.specs.Lists.{keepIf, only, some, each, lastOf, bump, count}
 use Rattle.lists.proofs.Bools.{by-cases}
 use Rattle.uses.specs.Uses.{keyAt, goesOn}
-use Rattle.edges.specs.Edges.{Edge, same, odd}
+use Rattle.verdicts.specs.Edges.{Edge, same, odd}
 use Rattle.edges.specs.Runs.{hemsAt, oddAfter, lastOdd, tallyOf, counted, closed, stepped, tallied}
 use Rattle.edges.specs.declared.Tally.{Tally}
-use Rattle.edges.proofs.SameEdge.{same-true, same-refl, Before, before-asym}
-use Rattle.edges.proofs.Ascending.{Above, Asc}
+use Rattle.verdicts.proofs.SameEdge.{same-true, same-refl, Before, before-asym}
+use Rattle.verdicts.proofs.Ascending.{Above, Asc}
 
 -- ---- groups
 

@@ -11,7 +11,7 @@ use Rattle.lists.specs.Lists.{keepIf}
 use Rattle.mesh.specs.Limits.{width}
 use Rattle.uses.specs.Uses.{Ready, Rooms, Columned, goesOn}
 pub use Rattle.mesh.specs.Edges.{Edged}
-use Rattle.edges.specs.Edges.{Verdict, Irregular, Regular, Oriented, Closed}
+use Rattle.verdicts.specs.Edges.{Verdict, Irregular, Regular, Oriented, Closed}
 use Rattle.edges.specs.declared.Tally.{Tally}
 
 module _ (lowers highers : List ℕ) where

@@ -12,7 +12,7 @@ ghost use Rattle.mesh.specs.Limits.{width};
 ghost use Rattle.mesh.specs.Mesh.{meshOf, rings};
 ghost use Rattle.mesh.specs.Edges.{edgesOf, Edged};
 ghost use Rattle.uses.specs.Uses.{Gatherable};
-ghost use Rattle.edges.specs.Edges.{verdict};
+ghost use Rattle.verdicts.specs.Edges.{verdict};
 ghost use Rattle.edges.specs.Answers.{answerOf, judged, verdictOf, hemsIn, HemAnswer, Hemmed};
 ghost use Rattle.edges.specs.Runs.{HemRows};
 
