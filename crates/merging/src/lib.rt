@@ -17,9 +17,9 @@ ghost use Rattle.floating.specs.Scaling.{scaledList};
 ghost use Rattle.nearby.specs.Pairs.{comparedPairs};
 ghost use Rattle.nearby.specs.Walk.{groups};
 ghost use Rattle.nearby.specs.Engine.{nearBy, Listed, laidOut};
-ghost use Rattle.merging.specs.Centre as centre;
+ghost use Rattle.together.specs.Centre as centre;
 ghost use Rattle.merging.specs.Merging.{mergeNumber, mergedTo, unlessMissing, PutTogether};
-ghost use Rattle.merging.specs.Working.{Grouped, InGroups, Sent, Mergeable, Settled, Scalable, Indexed, sentCorner};
+ghost use Rattle.together.specs.Working.{Grouped, InGroups, Sent, Mergeable, Settled, Scalable, Indexed, sentCorner};
 use floating::Point;
 use mesh::MISSING;
 

@@ -3,7 +3,7 @@ use Prim.Native.Nat.{_-_}
 use native.Mathlib.Omega.{arith}
 use denote.Ref.{now}
 use borrow.Author.Needs.{needs}
-use Rattle.merging.proofs.Sending.{Sending, send-begins, send-turns, send-ends}
+use Rattle.together.proofs.Sending.{Sending, send-begins, send-turns, send-ends}
 use Rattle.merging.proofs.centralize.Statement.{statement}
 use Rattle.merging.proofs.centralize.Tie as tie
 

@@ -2,7 +2,7 @@
 use Prim.Native.Nat.{_-_}
 use native.Mathlib.Omega.{arith}
 use borrow.Author.Needs.{needs}
-use Rattle.merging.proofs.Settling.{Settling, settle-begins, grouped, settle-turns, settle-ends}
+use Rattle.together.proofs.Settling.{Settling, settle-begins, grouped, settle-turns, settle-ends}
 use Rattle.merging.proofs.centralize_groups.Statement.{statement}
 use Rattle.merging.proofs.centralize_groups.Tie as tie
 

@@ -3,7 +3,7 @@ use Prim.Native.Nat.{_-_}
 use native.Mathlib.Omega.{arith}
 use denote.Ref.{now}
 use borrow.Author.Needs.{needs}
-use Rattle.merging.proofs.Centres.{point-in, Summing, sum-begins, sum-turns, sum-ends}
+use Rattle.together.proofs.Centres.{point-in, Summing, sum-begins, sum-turns, sum-ends}
 use Rattle.merging.proofs.group_centre.Statement.{statement}
 use Rattle.merging.proofs.group_centre.Tie as tie
 

@@ -4,7 +4,7 @@ use Prim.Native.Nat.{_-_}
 use native.Mathlib.Omega.{arith}
 use denote.Ref.{now}
 use borrow.Author.Needs.{needs}
-use Rattle.merging.proofs.Centres.{point-in, Choosing, choose-begins, choose-closer, choose-not, choose-ends}
+use Rattle.together.proofs.Centres.{point-in, Choosing, choose-begins, choose-closer, choose-not, choose-ends}
 use Rattle.merging.proofs.representative.Statement.{statement}
 use Rattle.merging.proofs.representative.Tie as tie
 

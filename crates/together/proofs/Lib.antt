@@ -1,0 +1,11 @@
+pub mod Centres
+pub mod Sending
+pub mod Settling
+pub mod OneList
+pub mod Numbers
+pub mod Corners
+pub mod Scaling
+pub mod Ready
+pub mod Joined
+pub mod Nearest
+pub mod Representatives
