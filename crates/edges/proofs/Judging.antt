@@ -16,7 +16,7 @@ use Rattle.lists.proofs.Counting.{clash, or-either, some-less, count-map, count
 use Rattle.lists.proofs.Mapping.{count-only, count-cong}
 use Rattle.verdicts.specs.Edges.{Edge, same, flip, key, keys, uses, runs, thrice, alike, once}
 use Rattle.uses.specs.Uses.{downOf}
-use Rattle.edges.specs.Runs.{tallyOf, tallied}
+use Rattle.scans.specs.Runs.{tallyOf, tallied}
 use Rattle.verdicts.proofs.SameEdge.{same-true, found}
 use Rattle.verdicts.proofs.Ascending.{keys-asc}
 use Rattle.verdicts.proofs.Keys.{key-order, key-or-flip, some-keys}

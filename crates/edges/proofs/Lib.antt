@@ -11,6 +11,5 @@ pub mod Grouped
 pub mod Scans
 pub mod Judging
 pub mod LastUses
-pub mod Hemming
 pub mod Composed
 pub mod Answering

@@ -1,10 +1,10 @@
--- `edges::writing::hem_use` meets its contract: the edge goes on, or it ends after an odd or an even number of uses. Assumes nothing.
-use Rattle.edges.proofs.Hemming.{hem-goes-on, hem-odd, hem-even}
+-- `scans::writing::hem_use` meets its contract: the edge goes on, or it ends after an odd or an even number of uses. Assumes nothing.
+use Rattle.scans.proofs.Hemming.{hem-goes-on, hem-odd, hem-even}
 use mathlib.Core.Path.{refl}
 use native.Mathlib.Omega.{arith}
 use borrow.Author.Needs.{needs}
-use Rattle.edges.proofs.writing.hem_use.Statement.{statement}
-use Rattle.edges.proofs.writing.hem_use.Tie as tie
+use Rattle.scans.proofs.writing.hem_use.Statement.{statement}
+use Rattle.scans.proofs.writing.hem_use.Tie as tie
 
 goes-on-requires : tie.Need-goes-on-requires
 goes-on-requires c κs = search needs

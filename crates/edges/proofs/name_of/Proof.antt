@@ -1,8 +1,8 @@
--- `edges::counting::name_of` meets its contract: by cases on what was seen. Assumes nothing.
+-- `edges::name_of` meets its contract: by cases on what was seen. Assumes nothing.
 use Rattle.edges.specs.Runs.{named}
 use Rattle.edges.specs.Answers.{verdictOf}
-use Rattle.edges.proofs.counting.name_of.Statement.{statement}
-use Rattle.edges.proofs.counting.name_of.Tie as tie
+use Rattle.edges.proofs.name_of.Statement.{statement}
+use Rattle.edges.proofs.name_of.Tie as tie
 
 returns : tie.Need-returns
 unfolding named verdictOf

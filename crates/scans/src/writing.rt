@@ -3,7 +3,7 @@ ghost use mathlib.Core.Bool.{false};
 ghost use mathlib.Core.List.{[], _∷_};
 ghost use Prim.Native.Nat.{ℕ, _+_};
 ghost use lib.ListN.{getD, drop};
-ghost use Rattle.edges.specs.Runs.{lastOdd, Put, PutReady, HemAt, UseAt, HemStep};
+ghost use Rattle.scans.specs.Runs.{lastOdd, Put, PutReady, HemAt, UseAt, HemStep};
 use crate::Place;
 
 // The last use of each edge with an odd number of uses.

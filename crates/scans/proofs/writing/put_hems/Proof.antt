@@ -1,10 +1,10 @@
--- `edges::writing::put_hems` meets its contract: the hem edges among the first i uses are written, and i rises to all of them. Assumes nothing.
+-- `scans::writing::put_hems` meets its contract: the hem edges among the first i uses are written, and i rises to all of them. Assumes nothing.
 use Prim.Native.Nat.{_-_}
 use lib.ListN.{length}
-use Rattle.edges.proofs.Hemming.{Hemming, hem-begins, hem-turns, hem-ends}
+use Rattle.scans.proofs.Hemming.{Hemming, hem-begins, hem-turns, hem-ends}
 use borrow.Author.Needs.{needs}
-use Rattle.edges.proofs.writing.put_hems.Statement.{statement}
-use Rattle.edges.proofs.writing.put_hems.Tie as tie
+use Rattle.scans.proofs.writing.put_hems.Statement.{statement}
+use Rattle.scans.proofs.writing.put_hems.Tie as tie
 
 abbrev Inv-loop : tie.InvT-loop
 Inv-loop lowers highers downs order starts₀ ends₀ p₀ i₀ starts ends p i = Hemming lowers highers downs order starts₀ ends₀ starts ends p i

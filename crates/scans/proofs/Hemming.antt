@@ -13,8 +13,8 @@ use borrow.Author.Tests.{eq-eqb, ne-eqb}
 use Rattle.lists.specs.Lists.{keepIf}
 use Rattle.lists.proofs.Growing.{Growing, grow-begins, grow-part}
 use Rattle.uses.specs.Uses.{goesOn}
-use Rattle.edges.specs.Runs.{hemsAt, oddAfter, lastOdd, startAt, endAt, Put, HemStep}
-use Rattle.edges.specs.declared.Place.{Place}
+use Rattle.scans.specs.Runs.{hemsAt, oddAfter, lastOdd, startAt, endAt, Put, HemStep}
+use Rattle.scans.specs.declared.Place.{Place}
 
 module _ (lowers highers downs : List ℕ) where
   -- one use, read from the columns

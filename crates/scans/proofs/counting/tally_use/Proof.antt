@@ -1,12 +1,12 @@
--- `edges::counting::tally_use` meets its contract: the edge goes on or it ends with this use. Assumes nothing.
+-- `scans::counting::tally_use` meets its contract: the edge goes on or it ends with this use. Assumes nothing.
 use mathlib.Core.Path.{_≡_, ap, _∙_}
 use Prim.Native.Nat.{_+_}
-use Rattle.edges.specs.declared.Tally.{Tally}
-use Rattle.edges.proofs.Scans.{counted-small, step-on, step-closed}
+use Rattle.scans.specs.declared.Tally.{Tally}
+use Rattle.scans.proofs.Tallying.{counted-small, step-on, step-closed}
 use native.Mathlib.Omega.{arith}
 use borrow.Author.Needs.{needs}
-use Rattle.edges.proofs.counting.tally_use.Statement.{statement}
-use Rattle.edges.proofs.counting.tally_use.Tie as tie
+use Rattle.scans.proofs.counting.tally_use.Statement.{statement}
+use Rattle.scans.proofs.counting.tally_use.Tie as tie
 
 mul-wide : tie.Need-mul-wide
 mul-wide c = search needs

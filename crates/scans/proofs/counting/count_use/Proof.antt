@@ -1,9 +1,9 @@
--- `edges::counting::count_use` meets its contract: by cases on the direction. Assumes nothing.
-use Rattle.edges.specs.Runs.{counted}
+-- `scans::counting::count_use` meets its contract: by cases on the direction. Assumes nothing.
+use Rattle.scans.specs.Runs.{counted}
 use borrow.Author.Tests.{eq-eqb, ne-eqb}
 use borrow.Author.Needs.{needs}
-use Rattle.edges.proofs.counting.count_use.Statement.{statement}
-use Rattle.edges.proofs.counting.count_use.Tie as tie
+use Rattle.scans.proofs.counting.count_use.Statement.{statement}
+use Rattle.scans.proofs.counting.count_use.Tie as tie
 
 add-t5 : tie.Need-add-t5
 add-t5 c = search needs

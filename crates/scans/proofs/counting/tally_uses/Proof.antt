@@ -1,10 +1,10 @@
--- `edges::counting::tally_uses` meets its contract: what the first i uses come to, with what is left, comes to the same as all. Assumes nothing.
+-- `scans::counting::tally_uses` meets its contract: what the first i uses come to, with what is left, comes to the same as all. Assumes nothing.
 use Prim.Native.Nat.{_-_}
 use lib.ListN.{length}
-use Rattle.edges.proofs.Scans.{Tallying, tally-begins, tally-turns, tally-ends}
+use Rattle.scans.proofs.Tallying.{Tallying, tally-begins, tally-turns, tally-ends}
 use borrow.Author.Needs.{needs}
-use Rattle.edges.proofs.counting.tally_uses.Statement.{statement}
-use Rattle.edges.proofs.counting.tally_uses.Tie as tie
+use Rattle.scans.proofs.counting.tally_uses.Statement.{statement}
+use Rattle.scans.proofs.counting.tally_uses.Tie as tie
 
 abbrev Inv-loop : tie.InvT-loop
 Inv-loop lowers highers downs order t₀ i₀ t i = Tallying lowers highers downs order t i

@@ -5,26 +5,8 @@ ghost use Prim.Native.Nat.{ℕ, _+_, _<_, _≤_};
 ghost use lib.ListN.{getD, drop};
 ghost use Rattle.mesh.specs.Limits.{cornerLimit};
 ghost use Rattle.uses.specs.Uses.{Ready};
-ghost use Rattle.edges.specs.Answers.{verdictOf};
-ghost use Rattle.edges.specs.Runs.{tallyOf, counted, closed, stepped, tallied, named, TallyAt};
-use crate::ShellCondition;
+ghost use Rattle.scans.specs.Runs.{tallyOf, counted, closed, stepped, tallied, TallyAt};
 use crate::Tally;
-
-// The verdict by what was seen.
-pub fn name_of(t: Tally) -> ShellCondition
-    ensures { λ r. ⌜ verdictOf r ≡ named t ⌝ }
-{
-    if t.thrice {
-        return ShellCondition::Irregular;
-    }
-    if t.alike {
-        return ShellCondition::Regular;
-    }
-    if t.once {
-        return ShellCondition::Oriented;
-    }
-    ShellCondition::Closed
-}
 
 // All uses, in their order.
 pub fn tally_uses(lowers: &[u32], highers: &[u32], downs: &[u32], order: &[u32]) -> Tally

@@ -1,13 +1,13 @@
--- `edges::counting::close_edge` meets its contract: what the present edge's uses come to is seen, and the counts begin at 0 again. Assumes nothing.
-use Rattle.edges.specs.Runs.{closed}
+-- `scans::counting::close_edge` meets its contract: what the present edge's uses come to is seen, and the counts begin at 0 again. Assumes nothing.
+use Rattle.scans.specs.Runs.{closed}
 use native.Mathlib.Omega.{arith}
 use borrow.Author.Needs.{needs}
-use Rattle.edges.proofs.counting.close_edge.Statement.{statement}
-use Rattle.edges.proofs.counting.close_edge.Tie as tie
-use Rattle.edges.proofs.counting.close_edge.Reads as reads
-use Rattle.edges.proofs.counting.close_edge.Lts as lts
-use Rattle.edges.proofs.counting.either.Reads as either-reads
-use Rattle.edges.proofs.counting.uses_of.Reads as uses-of-reads
+use Rattle.scans.proofs.counting.close_edge.Statement.{statement}
+use Rattle.scans.proofs.counting.close_edge.Tie as tie
+use Rattle.scans.proofs.counting.close_edge.Reads as reads
+use Rattle.scans.proofs.counting.close_edge.Lts as lts
+use Rattle.scans.proofs.counting.either.Reads as either-reads
+use Rattle.scans.proofs.counting.uses_of.Reads as uses-of-reads
 
 uses-of-requires : tie.Need-uses-of-requires
 uses-of-requires c κs = search needs

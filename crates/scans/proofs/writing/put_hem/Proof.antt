@@ -1,8 +1,8 @@
--- `edges::writing::put_hem` meets its contract: by cases on the direction. Assumes nothing.
-use Rattle.edges.proofs.Hemming.{hem-down, hem-up}
+-- `scans::writing::put_hem` meets its contract: by cases on the direction. Assumes nothing.
+use Rattle.scans.proofs.Hemming.{hem-down, hem-up}
 use borrow.Author.Needs.{needs}
-use Rattle.edges.proofs.writing.put_hem.Statement.{statement}
-use Rattle.edges.proofs.writing.put_hem.Tie as tie
+use Rattle.scans.proofs.writing.put_hem.Statement.{statement}
+use Rattle.scans.proofs.writing.put_hem.Tie as tie
 
 mul-if1 : tie.Need-mul-if1
 mul-if1 c = search needs
