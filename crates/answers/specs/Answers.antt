@@ -12,7 +12,7 @@ use Rattle.mesh.specs.Face.{offsetOf, facePart}
 use Rattle.faces.specs.declared.Pushed.{Pushed}
 use Rattle.compaction.specs.declared.Compacted.{Compacted}
 use Rattle.folded.specs.declared.Removed.{Removed}
-use Rattle.merging.specs.declared.Merged.{Merged}
+use Rattle.together.specs.declared.Merged.{Merged}
 use Rattle.edges.specs.Edges.{Verdict}
 use Rattle.edges.specs.declared.HemEdges.{HemEdges}
 use Rattle.tracing.specs.declared.Wires.{Wires}

@@ -15,7 +15,6 @@ ghost use Rattle.uses.specs.Uses.{Gatherable};
 ghost use Rattle.verdicts.specs.Edges.{verdict};
 ghost use Rattle.edges.specs.Answers.{answerOf, judged, verdictOf, hemsIn, HemAnswer, Hemmed};
 ghost use Rattle.edges.specs.Runs.{named, HemRows};
-
 use scans::Tally;
 
 // The four verdicts.

@@ -17,7 +17,7 @@ use Rattle.lists.proofs.Writing.{sets-append}
 use Rattle.mesh.specs.Limits.{width, cornerNumbers}
 use Rattle.mesh.specs.Mesh.{Corner, missing, cornersIn, cornerAt}
 use Rattle.mesh.proofs.Corners.{length-cornersIn, getD-cornersIn}
-use Rattle.together.specs.Rules.{unlessMissing}
+use Rattle.together.specs.Merging.{unlessMissing}
 use Rattle.together.specs.Working.{sentCorner, Indexed}
 
 -- ---- one index

@@ -23,7 +23,7 @@ use Rattle.nearby.proofs.Both.{near-both}
 use Rattle.nearby.specs.Promises.{Near, ConnectedSets}
 use Rattle.nearby.proofs.Connected.{groups-connected}
 use Rattle.together.specs.Centre.{Best, best, centreOf, closest, representative, sentTo}
-use Rattle.together.specs.Rules.{mergedTo}
+use Rattle.together.specs.Merging.{mergedTo}
 use Rattle.together.specs.Promises.{ChainedBecomeOne, OnlyChainedBecomeOne}
 
 -- ---- the representative stands in its group

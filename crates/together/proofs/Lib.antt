@@ -6,6 +6,7 @@ pub mod Numbers
 pub mod Corners
 pub mod Scaling
 pub mod Ready
+pub mod Whole
 pub mod Joined
 pub mod Nearest
 pub mod Representatives

@@ -12,7 +12,7 @@ use Rattle.lists.proofs.Bools.{by-cases, or-false-left, or-false-right}
 use Rattle.mesh.specs.Mesh.{Mesh}
 use Rattle.mesh.specs.Table.{meshNumber, short}
 use Rattle.floating.specs.Limits.{unfit, boundless, distant}
-use Rattle.together.specs.Rules.{anyBoundless, anyDistant, mergeNumber}
+use Rattle.together.specs.Merging.{anyBoundless, anyDistant, mergeNumber}
 
 module _ (m : Mesh) (t : Float) (room : ℕ) where
   own-row : (n : ℕ) → meshNumber m ≡ suc n → suc n ≡ mergeNumber m t room

@@ -15,7 +15,7 @@ use Rattle.nearby.specs.Walk.{groups}
 use Rattle.nearby.specs.Engine.{cellsOf, besideAt, nearBy, Points, Listed}
 use Rattle.nearby.proofs.Agree.{length-cells, cells-small, beside-agrees, near-agrees}
 use Rattle.together.specs.Centre.{sentTo}
-use Rattle.together.specs.Rules.{mergedTo}
+use Rattle.together.specs.Merging.{mergedTo}
 use Rattle.together.specs.Working.{Mergeable, Settled}
 
 module _ {t : Float} {w n : ℕ} {s : List Float} {map : List ℕ} (g : Mergeable t w n s map) where

@@ -14,7 +14,7 @@ use Rattle.mesh.specs.Mesh.{Mesh, missing, cornersIn, cornerAt, positionCount, 
 use Rattle.mesh.proofs.Accepted.{Accepted, Found, accepted}
 use Rattle.mesh.proofs.Corners.{length-cornersIn, getD-cornersIn}
 use Rattle.floating.specs.Scaling.{scaledList}
-use Rattle.together.specs.Rules.{mergeNumber, mergedTo, unlessMissing, mergedCorner}
+use Rattle.together.specs.Merging.{mergeNumber, mergedTo, unlessMissing, mergedCorner}
 use Rattle.together.specs.Working.{Mergeable, Settled, Scalable, sentCorner, Indexed}
 use Rattle.together.proofs.Numbers.{Clear, clear, positions-bounded, textures-near, normals-near}
 

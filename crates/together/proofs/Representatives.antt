@@ -24,7 +24,7 @@ use Rattle.nearby.specs.Pairs.{nearAt}
 use Rattle.nearby.specs.Walk.{groups}
 use Rattle.nearby.specs.Promises.{ConnectedSets, lowestFirst}
 use Rattle.nearby.proofs.Connected.{groups-connected}
-use Rattle.together.specs.Rules.{mergeNumber}
+use Rattle.together.specs.Merging.{mergeNumber}
 use Rattle.together.specs.Nearest.{NearestFirst, InEachGroup, RepresentativesAreNearest}
 use Rattle.together.proofs.Numbers.{clear, positions-bounded, textures-bounded, normals-bounded}
 use Rattle.together.proofs.Scaling.{scaled-length}

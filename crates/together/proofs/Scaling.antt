@@ -17,7 +17,7 @@ use Rattle.floating.specs.Scaling.{boxOf, scaledIn, scaledList}
 use Rattle.floating.proofs.Boxes.{length-points, length-coordinates}
 use Rattle.floating.proofs.InBox.{scaled-near}
 use Rattle.nearby.specs.Pairs.{pairs, comparedPairs}
-use Rattle.together.specs.Rules.{mergedTo}
+use Rattle.together.specs.Merging.{mergedTo}
 use Rattle.together.specs.Working.{Mergeable, Settled, Scalable}
 
 -- ---- no positions

@@ -1,6 +1,6 @@
 -- the rules, and what they promise
 pub mod Centre
-pub mod Rules
+pub mod Merging
 pub mod Nearest
 pub mod Promises
 -- steps of the code, which a caller does not need

@@ -16,7 +16,7 @@ use Rattle.floating.specs.Promises.{Doubles}
 use Rattle.nearby.specs.Pairs.{nearAt}
 use Rattle.nearby.specs.Walk.{groups}
 use Rattle.together.specs.Centre.{centreOf, representative}
-use Rattle.together.specs.Rules.{mergeNumber}
+use Rattle.together.specs.Merging.{mergeNumber}
 
 -- the squared distance of point i to the centre of the group g
 abbrev pub apart : ℕ → List Float → List ℕ → ℕ → Float

@@ -7,7 +7,7 @@ use lib.Ieee.{Float}
 use Rattle.lists.proofs.Chains.{Reach}
 use Rattle.nearby.specs.Pairs.{nearAt}
 use Rattle.nearby.specs.Promises.{Near}
-use Rattle.together.specs.Rules.{mergedTo}
+use Rattle.together.specs.Merging.{mergedTo}
 
 -- points that a chain of near points connects become one
 abbrev pub ChainedBecomeOne : Float → ℕ → List Float → Type 0

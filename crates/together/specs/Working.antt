@@ -12,7 +12,7 @@ use Rattle.mesh.specs.Mesh.{Corner, position, texture, normal, missing}
 use Rattle.floating.specs.Limits.{unfit, boundless, distant}
 use Rattle.nearby.specs.Engine.{Laid}
 use Rattle.together.specs.Centre.{representative, sentTo}
-use Rattle.together.specs.Rules.{unlessMissing}
+use Rattle.together.specs.Merging.{unlessMissing}
 
 -- n points of width w in the list s, and a group of them at the places from `from` to below `to` of `order`
 pub record Grouped (w n : ℕ) (s : List Float) (order : List ℕ) (from to : ℕ) : Type 0 where

@@ -1,11 +1,11 @@
--- `merging::group_centre` meets its contract, by the laws of `Centres`. Assumes nothing.
+-- `centring::group_centre` meets its contract, by the laws of `Centres`. Assumes nothing.
 use Prim.Native.Nat.{_-_}
 use native.Mathlib.Omega.{arith}
 use denote.Ref.{now}
 use borrow.Author.Needs.{needs}
 use Rattle.together.proofs.Centres.{point-in, Summing, sum-begins, sum-turns, sum-ends}
-use Rattle.merging.proofs.group_centre.Statement.{statement}
-use Rattle.merging.proofs.group_centre.Tie as tie
+use Rattle.centring.proofs.group_centre.Statement.{statement}
+use Rattle.centring.proofs.group_centre.Tie as tie
 
 abbrev Inv-loop : tie.InvT-loop
 Inv-loop s w n order from to sum₀ k₀ sum k = Summing w s order from to k sum

@@ -1,10 +1,10 @@
--- `merging::centralize_groups` meets its contract, by the laws of `Settling`. Assumes nothing.
+-- `centring::centralize_groups` meets its contract, by the laws of `Settling`. Assumes nothing.
 use Prim.Native.Nat.{_-_}
 use native.Mathlib.Omega.{arith}
 use borrow.Author.Needs.{needs}
 use Rattle.together.proofs.Settling.{Settling, settle-begins, grouped, settle-turns, settle-ends}
-use Rattle.merging.proofs.centralize_groups.Statement.{statement}
-use Rattle.merging.proofs.centralize_groups.Tie as tie
+use Rattle.centring.proofs.centralize_groups.Statement.{statement}
+use Rattle.centring.proofs.centralize_groups.Tie as tie
 
 abbrev Inv-loop : tie.InvT-loop
 Inv-loop s w n order ends count map₀ from₀ k₀ map from k = Settling w n s order ends map₀ map count from k

@@ -11,10 +11,9 @@ use Rattle.mesh.specs.Table.{after}
 use Rattle.mesh.proofs.After.{after-refused}
 use Rattle.floating.specs.Scaling.{scaledList}
 use Rattle.nearby.specs.Pairs.{comparedPairs}
-use Rattle.together.specs.Rules.{mergeNumber, mergedTo, positionPairs, texturePairs, normalPairs, mergedCorners}
+use Rattle.together.specs.Merging.{mergeNumber, mergedTo, positionPairs, texturePairs, normalPairs, mergedCorners, PutTogether}
 use Rattle.together.specs.Working.{Settled, sentCorner}
 use Rattle.together.proofs.Ready.{corners-same}
-use Rattle.merging.specs.Merging.{PutTogether}
 
 -- a refusal
 pub refused :

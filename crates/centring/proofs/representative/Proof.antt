@@ -1,12 +1,12 @@
--- `merging::representative` meets its contract, by the laws of `Centres`. Assumes nothing.
+-- `centring::representative` meets its contract, by the laws of `Centres`. Assumes nothing.
 use mathlib.Core.Logic.{⊎-elim}
 use Prim.Native.Nat.{_-_}
 use native.Mathlib.Omega.{arith}
 use denote.Ref.{now}
 use borrow.Author.Needs.{needs}
 use Rattle.together.proofs.Centres.{point-in, Choosing, choose-begins, choose-closer, choose-not, choose-ends}
-use Rattle.merging.proofs.representative.Statement.{statement}
-use Rattle.merging.proofs.representative.Tie as tie
+use Rattle.centring.proofs.representative.Statement.{statement}
+use Rattle.centring.proofs.representative.Tie as tie
 
 abbrev Inv-loop : tie.InvT-loop
 Inv-loop s w n order from to c rep₀ least₀ k₀ rep least k = Choosing w n s order from to c k least rep

@@ -1,18 +1,22 @@
--- The number, the pairs compared and the corners that document 01, 'Merging', gives a mesh at a tolerance. Assumes nothing.
+-- `put_together_same_attrs`: the number, the pairs compared and the corners that document 01, 'Merging', gives a mesh at a tolerance.
+-- Assumes nothing.
+use mathlib.Core.Path.{_≡_}
 use mathlib.Core.Bool.{Bool, _||_}
 use mathlib.Core.List.{List, [], _∷_, map}
 use Prim.Native.Nat.{ℕ, _/_}
 use lib.Dec.{eqb}
 use lib.ListN.{length}
+use lib.Seq.{sets}
 use lib.Ieee.{Float}
 use Rattle.lists.specs.Lists.{some, joined}
 use Rattle.mesh.specs.Mesh.{Mesh, Corner, position, texture, normal, missing, cornersIn}
-use Rattle.mesh.specs.Table.{meshNumber, firstOf, when, lent, short}
+use Rattle.mesh.specs.Table.{meshNumber, firstOf, when, lent, short, after}
 use Rattle.floating.specs.Limits.{unfit, boundless, distant}
 use Rattle.floating.specs.Scaling.{scaledList}
 use Rattle.nearby.specs.Pairs.{nearAt, comparedPairs}
 use Rattle.nearby.specs.Walk.{groups}
 use Rattle.together.specs.Centre.{pick, sentTo}
+use Rattle.together.specs.declared.Merged.{Merged}
 
 -- ---- the number
 
@@ -73,3 +77,12 @@ mergedCorner m t c =
 unfoldable pub mergedCorners : Mesh → Float → List ℕ
 unfolding mergedCorner
 mergedCorners m t = joined (map (mergedCorner m t) (cornersIn (m .corners)))
+
+-- what the call answers, and what the lent list of corners holds before and after it: on 0 the new corners from its beginning on, room
+-- past them unchanged, and how many pairs were compared; on any other number nothing is written, and each count is 0
+pub record PutTogether (m : Mesh) (t : Float) (before afterwards : List ℕ) (answer : Merged) : Type 0 where
+  pub number : answer .number ≡ mergeNumber m t (length before)
+  pub position-pairs : answer .positions ≡ after (answer .number) (positionPairs m t) 0
+  pub texture-pairs : answer .textures ≡ after (answer .number) (texturePairs m t) 0
+  pub normal-pairs : answer .normals ≡ after (answer .number) (normalPairs m t) 0
+  pub corners : afterwards ≡ after (answer .number) (sets before 0 (mergedCorners m t)) before

@@ -1,11 +1,11 @@
--- `merging::centralize` meets its contract, by the laws of `Sending`. Assumes nothing.
+-- `centring::centralize` meets its contract, by the laws of `Sending`. Assumes nothing.
 use Prim.Native.Nat.{_-_}
 use native.Mathlib.Omega.{arith}
 use denote.Ref.{now}
 use borrow.Author.Needs.{needs}
 use Rattle.together.proofs.Sending.{Sending, send-begins, send-turns, send-ends}
-use Rattle.merging.proofs.centralize.Statement.{statement}
-use Rattle.merging.proofs.centralize.Tie as tie
+use Rattle.centring.proofs.centralize.Statement.{statement}
+use Rattle.centring.proofs.centralize.Tie as tie
 
 abbrev Inv-loop : tie.InvT-loop
 Inv-loop s w n order from to map₀ rep k₀ map k = Sending n order from to rep map₀ map k
