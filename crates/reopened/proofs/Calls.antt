@@ -68,13 +68,12 @@ module _ (file : List ℕ) (lists lists' : Mesh) (answer : MeshRead) (ok : meshN
       let ln : 3 * answer .normals ≤ length (lists .normals) = omega (arith, nn, a .limits .normals, full .normals) in
       let lc : width * answer .corners ≤ length (lists .corners) = omega (arith, nc, a .limits .corners, full .corners) in
       let lf : answer .faces ≤ length (lists .sizes) = omega (arith, nf, a .limits .sizes, full .sizes) in
-      rw (
-        front (lists .positions) (r .positions ∙ after-done _ _ _ z) np lp .is,
-        front (lists .textures) (r .textures ∙ after-done _ _ _ z) nt lt .is,
-        front (lists .normals) (r .normals ∙ after-done _ _ _ z) nn ln .is,
-        front (lists .corners) (r .corners ∙ after-done _ _ _ z) nc lc .is,
-        front (lists .sizes) (r .sizes ∙ after-done _ _ _ z) nf lf .is,
-      )
+      let p : take (3 * answer .positions) (lists' .positions) ≡ m .positions = front (lists .positions) (r .positions ∙ after-done _ _ _ z) np lp .is in
+      let t : take (2 * answer .textures) (lists' .textures) ≡ m .textures = front (lists .textures) (r .textures ∙ after-done _ _ _ z) nt lt .is in
+      let n : take (3 * answer .normals) (lists' .normals) ≡ m .normals = front (lists .normals) (r .normals ∙ after-done _ _ _ z) nn ln .is in
+      let c : take (width * answer .corners) (lists' .corners) ≡ m .corners = front (lists .corners) (r .corners ∙ after-done _ _ _ z) nc lc .is in
+      let f : take (answer .faces) (lists' .sizes) ≡ m .sizes = front (lists .sizes) (r .sizes ∙ after-done _ _ _ z) nf lf .is in
+      rw (p, t, n, c, f)
 
 -- ---- both calls
 
