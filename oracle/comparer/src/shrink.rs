@@ -74,7 +74,17 @@ impl Shrinker<'_> {
         }
     }
 
+    /// Leaves out records, then bytes, then makes bytes 0.
     fn file(&mut self) {
+        self.leave_out(
+            |question| records(&question.file).len(),
+            |shrinker, range| {
+                let mut records = records(&shrinker.best.file);
+                records.drain(range);
+                let candidate = Question { file: records.concat(), ..shrinker.best.clone() };
+                shrinker.attempt(candidate)
+            },
+        );
         self.leave_out(
             |question| question.file.len(),
             |shrinker, range| {
@@ -247,6 +257,18 @@ impl Shrinker<'_> {
             self.attempt(candidate);
         }
     }
+}
+
+/// A file's records, each with its header, as far as the headers tell; the last may be cut.
+fn records(file: &[u8]) -> Vec<&[u8]> {
+    let (mut rest, mut records) = (file, vec![]);
+    while !rest.is_empty() {
+        let length = if rest.len() < 2 { rest.len() } else { 4 + u16::from_le_bytes([rest[0], rest[1]]) as usize };
+        let (record, behind) = rest.split_at(length.min(rest.len()));
+        records.push(record);
+        rest = behind;
+    }
+    records
 }
 
 /// Gives a column the numbers that are right once the entries of a range have gone.
