@@ -1,4 +1,4 @@
--- `try_answers::lent::bytes_differ` is safe and ends: as `words_differ`, for u8. Assumes nothing.
+-- `try_replay::lent::bytes_differ` is safe and ends: as `words_differ`, for u8. Assumes nothing.
 use Prim.Native.Nat.{_-_}
 use lib.ListN.{length}
 use borrow.Author.Needs.{needs}

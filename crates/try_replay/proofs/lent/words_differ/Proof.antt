@@ -1,4 +1,4 @@
--- `try_answers::lent::words_differ` is safe and ends: the measure is what is left of the lent list. Assumes nothing.
+-- `try_replay::lent::words_differ` is safe and ends: the measure is what is left of the lent list. Assumes nothing.
 use Prim.Native.Nat.{_-_}
 use lib.ListN.{length}
 use borrow.Author.Needs.{needs}
