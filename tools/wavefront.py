@@ -9,8 +9,9 @@ from panel_format import BYTES, CORNERS, CORNERS_OF_A_FACE, ENTRIES, HEADER, Ref
 
 NUMBER = re.compile(r"[+-]?([0-9]+(\.[0-9]*)?|\.[0-9]+)([eE][+-]?[0-9]+)?")
 # How programs write what is not finite; the last form, 1.#QNAN or 1.#INF, is that of older ones, and its '#' begins no comment.
-NOT_FINITE = re.compile(r"[+-]?(nan(\(.*\))?|inf|infinity|[0-9]\.#[a-z]+[0-9]*)", re.IGNORECASE)
-COMMENT = re.compile(r"(?<![0-9]\.)#.*")
+OLDER = "#(?:qnan|snan|nan|ind|inf)[0-9]*"
+NOT_FINITE = re.compile(rf"[+-]?(nan(\(.*\))?|inf|infinity|[0-9]\.{OLDER})", re.IGNORECASE)
+COMMENT = re.compile(rf"(?!(?<=[0-9]\.){OLDER}(?:\s|$))#.*", re.IGNORECASE)
 INDEX = "[+-]?[0-9]{1,18}"
 CORNER = re.compile(rf"{INDEX}(/({INDEX})?){{0,2}}")
 BLANKS = re.compile("[ \t\v\f]+")

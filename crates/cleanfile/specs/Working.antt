@@ -18,7 +18,7 @@ pub record Ready (m : Mesh) (out : List ℕ) : Type 0 where
   pub are-finite : finiteMesh m ≡ true
   pub room : fileLimit ≤ length out
 
--- lists at the full limits for a mesh, for what is left of its faces with their origins, and for what they use, and room for the file
+-- lists at the full limits for a mesh, for what is left of its faces, and for what they use, and room for the file
 pub record FileRoom (p t n : List Float) (c s out : List ℕ) : Type 0 where
   pub positions : length p ≡ pointNumbers
   pub textures : length t ≡ texelNumbers

@@ -3,8 +3,8 @@
 //! Each method passes on to the library's function of the same name (`include/barleyhinge.h` says what it promises), lends it the room
 //! that is stated for it, and gives back what was written, as lists of its own. A number other than 0 comes back as a [`Refusal`].
 //!
-//! The library itself allocates nothing and has no statics, so calls may run side by side. It needs stack: 560 KB for [`sheet`], less for
-//! each other call (`include/barleyhinge.h` has the figure of each); a Rust thread has 2 MB unless it is asked for less.
+//! The library itself allocates nothing and has no statics, so calls may run side by side. It needs stack: the most for
+//! [`clean_panel`], 600 KB (`include/barleyhinge.h` has the figure of each call); a Rust thread has 2 MB unless it is asked for less.
 //!
 //! ```no_run
 //! use barleyhinge::{read_panel, Refusal, Verdict};
