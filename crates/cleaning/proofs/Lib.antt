@@ -1,2 +1,3 @@
 pub mod Cleaned
 pub mod InARow
+pub mod CanCome

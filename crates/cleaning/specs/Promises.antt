@@ -1,6 +1,7 @@
 -- What a caller may count on of a mesh that was cleaned, and of the two calls in a row. Proved in proofs/. Assumes nothing.
 use Prim.Native.Nat.{ℕ, _*_, _<_}
 use mathlib.Core.Path.{_≡_}
+use mathlib.Core.Bool.{false}
 use mathlib.Core.List.{List, [], map, List·Memᴰ}
 use lib.ListN.{length, getD, take}
 use Rattle.mesh.specs.Limits.{width}
@@ -36,6 +37,14 @@ pub record InARow
   pub removed-0 : answer .number ≡ 0
   pub compacts : compaction.Compaction (handedOn m left answer) room packed counts
   pub compacted-0 : counts .number ≡ 0
+
+-- such calls can be had, of every accepted mesh and lists with each call's stated room; compaction's goes by the mesh that removal gives
+abbrev pub CanComeInARow : Type 0
+CanComeInARow =
+    (m : Mesh) (before : removal.Result) (room : compaction.Result) → meshNumber m ≡ 0
+    → removal.tooShort m before ≡ false → compaction.tooShort (removal.unfoldedMesh m) room ≡ false
+    → (left : removal.Result) × (answer : Removed) × (packed : compaction.Result) × (counts : Compacted)
+    × InARow m before left answer room packed counts
 
 -- a face came from face `origin` of m: it is one of that face's pieces, its corners renumbered by compaction
 pub record Came (m given : Mesh) (origin : ℕ) (face : Ring) : Type 0 where
