@@ -19,9 +19,20 @@ pub const BYTES: usize = 262144;
 // The reader and the cleaner: any other kind than the first is the cleaner.
 pub(crate) fn ask(list: &[u8], subject: usize, kind: u32, at: usize) -> Outcome {
     let mut all = [0u8; BYTES];
-    let n = length(list, subject);
-    copy_file(list, subject, &mut all);
-    let file = list::front_of_bytes(&all, n);
+    ask_in(list, subject, kind, at, &mut all)
+}
+
+fn ask_in(list: &[u8], subject: usize, kind: u32, at: usize, all: &mut [u8]) -> Outcome {
+    copy_file(list, subject, all);
+    ask_of(
+        list,
+        kind,
+        at,
+        list::front_of_bytes(all, length(list, subject)),
+    )
+}
+
+fn ask_of(list: &[u8], kind: u32, at: usize, file: &[u8]) -> Outcome {
     if kind == READING {
         return reading::read_panel(list, at, file);
     }
