@@ -79,7 +79,7 @@ fn face(
     let part = mesh::face(positions, textures, normals, corners, sizes, k);
     let start = list::count(list, list::plus(at, 3));
     let found = cases::answered(list, at, 2, 0, start_of(part, start), part.len(), 0);
-    cases::also(found, part_differs(part, corners, start))
+    cases::also(found, part_differs(part, corners, start), found.end)
 }
 
 // The start of a part: 0 where it is empty.

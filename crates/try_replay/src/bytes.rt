@@ -3,6 +3,9 @@ use crate::cases;
 use crate::cases::Outcome;
 use crate::lent;
 
+// The kind of the writer's records.
+pub const WRITING: u32 = 14;
+
 // How many counts each of them answers.
 const COUNTS: usize = 1;
 

@@ -44,7 +44,7 @@ pub(crate) fn after_bytes(list: &[u8], room: usize) -> usize {
     list::after_bytes(list, list::plus(room, 1))
 }
 
-pub(crate) fn either(a: bool, b: bool) -> bool {
+fn either(a: bool, b: bool) -> bool {
     if a {
         return true;
     }
@@ -81,20 +81,11 @@ pub(crate) fn answered(
     held(list, at, counts, said)
 }
 
-// The same outcome, where a lent list was looked at too.
-pub(crate) fn also(found: Outcome, differs: bool) -> Outcome {
+// The same outcome, where something more was looked at, up to `end`.
+pub(crate) fn also(found: Outcome, differs: bool, end: usize) -> Outcome {
     Outcome {
         number: found.number,
         differs: either(found.differs, differs),
-        end: found.end,
-    }
-}
-
-// The same outcome, looked at up to here.
-pub(crate) fn moved(found: Outcome, end: usize) -> Outcome {
-    Outcome {
-        number: found.number,
-        differs: found.differs,
         end: end,
     }
 }

@@ -1,4 +1,4 @@
-// Cases of the calls on panel files: the reader, the cleaner and the writer.
+// Cases of the calls on panel files: the reader and the cleaner. The room for the file is made in a function of its own.
 //
 // `list` is the list of answers, `at` where the case's own words begin, `subject` where the words of its panel file do.
 use crate::bytes;
@@ -8,8 +8,6 @@ use crate::reading;
 
 // The calls, by the kind of their records.
 pub const READING: u32 = 11;
-
-pub const WRITING: u32 = 14;
 
 pub const CLEANING: u32 = 15;
 
@@ -37,19 +35,6 @@ fn ask_of(list: &[u8], kind: u32, at: usize, file: &[u8]) -> Outcome {
         return reading::read_panel(list, at, file);
     }
     bytes::clean_panel(list, at, file)
-}
-
-// The writer, of the five lists of a mesh.
-pub(crate) fn write_panel(
-    list: &[u8],
-    at: usize,
-    positions: &[f64],
-    textures: &[f64],
-    normals: &[f64],
-    corners: &[u32],
-    sizes: &[u32],
-) -> Outcome {
-    bytes::write_panel(list, at, positions, textures, normals, corners, sizes)
 }
 
 // ---- the file: some bytes, several times over, and then others

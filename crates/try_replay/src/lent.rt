@@ -116,18 +116,18 @@ fn fill_bytes(out: &mut [u8], n: usize) {
 
 // The outcome so far, with the list that was lent next: `all` is what its room was taken from, and the list has its words where the outcome ends.
 pub(crate) fn hold(found: Outcome, all: &[u32], list: &[u8]) -> Outcome {
-    let held = cases::also(found, words_differ(all, list, found.end));
-    cases::moved(held, cases::after_words(list, found.end))
+    let differs = words_differ(all, list, found.end);
+    cases::also(found, differs, cases::after_words(list, found.end))
 }
 
 pub(crate) fn hold_floats(found: Outcome, all: &[f64], list: &[u8]) -> Outcome {
-    let held = cases::also(found, floats_differ(all, list, found.end));
-    cases::moved(held, cases::after_floats(list, found.end))
+    let differs = floats_differ(all, list, found.end);
+    cases::also(found, differs, cases::after_floats(list, found.end))
 }
 
 pub(crate) fn hold_bytes(found: Outcome, all: &[u8], list: &[u8]) -> Outcome {
-    let held = cases::also(found, bytes_differ(all, list, found.end));
-    cases::moved(held, cases::after_bytes(list, found.end))
+    let differs = bytes_differ(all, list, found.end);
+    cases::also(found, differs, cases::after_bytes(list, found.end))
 }
 
 // Whether a lent list is not as the list says at `room`: its room, what stands at its front, and the pattern behind that up to the room's end.

@@ -78,5 +78,5 @@ fn is_subject(kind: u32) -> bool {
 fn outcome(list: &[u8], at: usize, next: usize, subject: usize, kind: u32) -> Outcome {
     let found = questions::ask(list, subject, kind, list::plus(at, 2));
     let elsewhere = found.end != next;
-    cases::also(found, elsewhere)
+    cases::also(found, elsewhere, next)
 }

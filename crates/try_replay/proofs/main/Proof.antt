@@ -1,4 +1,5 @@
 -- `try_replay::main` is safe and ends. That the room has its length is said by a lemma: computed, it would cost by the room's size. Assumes nothing.
+use mathlib.Core.Path.{sym}
 use Prim.Native.Nat.{ℕ}
 use lib.ListN.{length-replicate}
 use borrow.Author.Needs.{needs}
@@ -6,7 +7,7 @@ use Rattle.try_replay.proofs.main.Statement.{statement}
 use Rattle.try_replay.proofs.main.Tie as tie
 
 slice-aggregate-run : tie.Need-slice-aggregate-run
-slice-aggregate-run c = length-replicate {A = ℕ} 524288 0
+slice-aggregate-run c = sym (length-replicate {A = ℕ} 524288 0)
 
 run-requires : tie.Need-run-requires
 run-requires c κs = search needs

@@ -1,4 +1,5 @@
 -- `try_replay::bytes::clean_panel` is safe and ends. That the room has its length is said by a lemma: computed, it would cost by the room's size. Assumes nothing.
+use mathlib.Core.Path.{sym}
 use Prim.Native.Nat.{ℕ}
 use lib.ListN.{length-replicate}
 use borrow.Author.Needs.{needs}
@@ -6,7 +7,7 @@ use Rattle.try_replay.proofs.bytes.clean_panel.Statement.{statement}
 use Rattle.try_replay.proofs.bytes.clean_panel.Tie as tie
 
 slice-aggregate-clean : tie.Need-slice-aggregate-clean
-slice-aggregate-clean c = length-replicate {A = ℕ} 262144 0
+slice-aggregate-clean c = sym (length-replicate {A = ℕ} 262144 0)
 
 clean-requires : tie.Need-clean-requires
 clean-requires c κs = search needs
