@@ -11,7 +11,7 @@ CONSTS = "crates/mesh/src/lib.rt"
 MESH = "crates/mesh/specs/Mesh.antt"
 TABLE = "crates/mesh/specs/Table.antt"
 COMPACTION = "crates/compaction/specs/Compaction.antt"
-MERGING = "crates/merging/specs/Merging.antt"
+MERGING = "crates/together/specs/Merging.antt"
 PORTED = "crates/ported/specs/Answers.antt"
 HOUSE = "crates/house/specs/Answers.antt"
 RECORDS = "crates/records/specs/Records.antt"
@@ -46,7 +46,7 @@ class Unreadable(Exception):
 
 # A limit: its name behind BH_ and in the wrapper; each place of the source that has it, which must all say the same.
 LIMIT_PLACES = {
-    "MISSING": ((MESH, r"^missing = (\d+)$"), (CONSTS, r"const MISSING: u32 = (\d+);")),
+    "MISSING": ((LIMITS, r"^largest = (\d+)$"), (CONSTS, r"const LARGEST: u32 = (\d+);")),
     "MAX_ENTRIES": ((LIMITS, r"^entryLimit = (\d+)$"), (CONSTS, r"const ENTRIES: usize = (\d+);")),
     "MAX_CORNERS": ((LIMITS, r"^cornerLimit = (\d+)$"), (CONSTS, r"const CORNERS: usize = (\d+);")),
     "MAX_FACES": ((LIMITS, r"^faceLimit = (\d+)$"), (CONSTS, r"const FACES: usize = (\d+);")),
@@ -54,6 +54,9 @@ LIMIT_PLACES = {
     "MAX_FILE": ((SHEET, r"^fileLimit = (\d+)$"), (SHEET_CONSTS, r"const FILE: usize = (\d+);")),
     "SHEET_ROOM": ((LINES, r"^sheetRoom = (\d+)$"), (SHEET_CONSTS, r"const ROOM: usize = (\d+);")),
 }
+
+# The mark of a missing index is the largest number, by its name: each place, and the name that must stand there.
+MISSING_PLACES = ((MESH, r"^missing = (.*)$", "largest"), (CONSTS, r"const MISSING: u32 = (.*);", "LARGEST"))
 
 # A number of the table: its name behind BH_, its name in the wrapper, and the row that gives it.
 NUMBER_ROWS = {
@@ -115,6 +118,8 @@ def limits_of(texts):
         if len(said) != 1:
             raise Unreadable(f"{name}: the code and its rules differ")
         values[name] = said.pop()
+    if any(words_at(texts, path, pattern) != name for path, pattern, name in MISSING_PLACES):
+        raise Unreadable("MISSING is not the largest number")
     return values | {"FILE_ROOM": longest_file(texts, values)}
 
 

@@ -12,15 +12,11 @@ use Rattle.mesh.specs.Face.{offsetOf, facePart}
 use Rattle.faces.specs.declared.Pushed.{Pushed}
 use Rattle.compaction.specs.declared.Compacted.{Compacted}
 use Rattle.folded.specs.declared.Removed.{Removed}
-use Rattle.merging.specs.declared.Merged.{Merged}
+use Rattle.together.specs.declared.Merged.{Merged}
 use Rattle.edges.specs.Edges.{Verdict}
 use Rattle.edges.specs.declared.HemEdges.{HemEdges}
 use Rattle.tracing.specs.declared.Wires.{Wires}
 use Rattle.panels.specs.declared.Answer.{Answer as Panels}
-use Rattle.panelfile.specs.declared.MeshRead.{MeshRead}
-use Rattle.saving.specs.declared.Saved.{Saved}
-use Rattle.sheet.specs.declared.Answer.{Answer as Sheet}
-use Rattle.cleanfile.specs.declared.Cleaned.{Cleaned}
 
 -- where the part of face k starts in the list of corners: behind three numbers for each corner of the faces before it; 0 where
 -- the part is empty
@@ -67,20 +63,3 @@ wiredBy number f w = record { number = number; flat = f; wires = w }
 -- what panels answer: the number returned, and the counts of faces and of panels
 abbrev pub panelledBy : ℕ → ℕ → ℕ → Panels
 panelledBy number f p = record { number = number; faces = f; panels = p }
-
--- what the reader answers: the number returned, and the counts of positions, texture points, normals, corners and faces
-abbrev pub readBy : ℕ → ℕ → ℕ → ℕ → ℕ → ℕ → MeshRead
-readBy number p t n c f =
-    record { number = number; positions = p; textures = t; normals = n; corners = c; faces = f }
-
--- what the writer answers: the number returned, and the file's length
-abbrev pub savedBy : ℕ → ℕ → Saved
-savedBy number n = record { number = number; length = n }
-
--- what the sheet answers: the number returned, and the sheet's length
-abbrev pub printedBy : ℕ → ℕ → Sheet
-printedBy number n = record { number = number; length = n }
-
--- what the cleaning of a file answers: the number returned, and the cleaned file's length
-abbrev pub cleanedBy : ℕ → ℕ → Cleaned
-cleanedBy number n = record { number = number; length = n }

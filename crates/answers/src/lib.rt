@@ -1,7 +1,7 @@
 // What a call answers, taken apart for a program in C: the number is returned, and each count is written to the place that is lent for it.
 //
-// One function for each answer; the C interface (crate barleyhinge) hands it what the call answered. What a caller cites stands in
-// specs/Answers.antt.
+// One function for each answer of a call on a mesh; crate fileanswers has those of files and of the sheet. The C interface (crate
+// barleyhinge) hands it what the call answered. What a caller cites stands in specs/Answers.antt.
 ghost use mathlib.Core.Path.{_≡_};
 ghost use Rattle.mesh.specs.Mesh.{meshOf};
 ghost use Rattle.edges.specs.Answers.{verdictOf};
@@ -12,7 +12,6 @@ use edges::ShellCondition;
 use faces::Pushed;
 use folded::Removed;
 use merging::Merged;
-use panelfile::MeshRead;
 use tracing::Wires;
 
 // The part of a face: where it starts in the list of corners, and how many numbers it is. An empty part starts at 0.
@@ -123,47 +122,4 @@ pub fn panelled(found: panels::Answer, faces: &mut usize, panels: &mut usize) ->
     *faces = found.faces;
     *panels = found.panels;
     found.number
-}
-
-// The reader: positions, texture points, normals, corners and faces.
-pub fn read(
-    drawn: MeshRead,
-    positions: &mut usize,
-    textures: &mut usize,
-    normals: &mut usize,
-    corners: &mut usize,
-    faces: &mut usize,
-) -> u32
-    ensures { λ r. ⌜ want.readBy r (now (positions .exit)) (now (textures .exit)) (now (normals .exit)) (now (corners .exit)) (now (faces .exit)) ≡ drawn ⌝ }
-{
-    *positions = drawn.positions;
-    *textures = drawn.textures;
-    *normals = drawn.normals;
-    *corners = drawn.corners;
-    *faces = drawn.faces;
-    drawn.number
-}
-
-// The writer: the file's length.
-pub fn saved(written: saving::Saved, length: &mut usize) -> u32
-    ensures { λ r. ⌜ want.savedBy r (now (length .exit)) ≡ written ⌝ }
-{
-    *length = written.length;
-    written.number
-}
-
-// The sheet: its length.
-pub fn printed(text: sheet::Answer, length: &mut usize) -> u32
-    ensures { λ r. ⌜ want.printedBy r (now (length .exit)) ≡ text ⌝ }
-{
-    *length = text.length;
-    text.number
-}
-
-// The cleaning of a file: the cleaned file's length.
-pub fn cleaned(clean: cleanfile::Cleaned, length: &mut usize) -> u32
-    ensures { λ r. ⌜ want.cleanedBy r (now (length .exit)) ≡ clean ⌝ }
-{
-    *length = clean.length;
-    clean.number
 }

@@ -21,6 +21,7 @@ ghost use Rattle.saving.specs.Answer.{PanelWritten};
 ghost use Rattle.cleanfile.specs.Cleaning.{PanelCleaned};
 ghost use Rattle.sheet.specs.Sheet.{Printed};
 ghost use Rattle.answers.specs.Answers as answer;
+ghost use Rattle.fileanswers.specs.Answers as fileanswer;
 ghost use Rattle.barleyhinge.specs.Calls as call;
 use edges::Judged;
 
@@ -330,10 +331,10 @@ pub extern "C" fn bh_read_panel(
     ensures { λ r. ⌜ PanelRead (now (file .entry))
         (meshOf (now (positions .entry)) (now (textures .entry)) (now (normals .entry)) (now (corners .entry)) (now (sizes .entry)))
         (meshOf (now (positions .exit)) (now (textures .exit)) (now (normals .exit)) (now (corners .exit)) (now (sizes .exit)))
-        (answer.readBy r (now (positioncount .exit)) (now (texturecount .exit)) (now (normalcount .exit)) (now (cornercount .exit)) (now (facecount .exit))) ⌝ }
+        (fileanswer.readBy r (now (positioncount .exit)) (now (texturecount .exit)) (now (normalcount .exit)) (now (cornercount .exit)) (now (facecount .exit))) ⌝ }
 {
     let panel = panelfile::read_panel(file, positions, textures, normals, corners, sizes);
-    answers::read(
+    fileanswers::read(
         panel,
         positioncount,
         texturecount,
@@ -357,26 +358,26 @@ pub extern "C" fn bh_write_panel(
     ensures { λ r. ⌜ PanelWritten
         (meshOf (now (positions .entry)) (now (textures .entry)) (now (normals .entry)) (now (corners .entry)) (now (sizes .entry)))
         (now (file .entry)) (now (file .exit))
-        (answer.savedBy r (now (length .exit))) ⌝ }
+        (fileanswer.savedBy r (now (length .exit))) ⌝ }
 {
     let written = saving::write_panel(positions, textures, normals, corners, sizes, file);
-    answers::saved(written, length)
+    fileanswers::saved(written, length)
 }
 
 // A panel file, cleaned: the bytes of the cleaned file, and how many they are.
 #[no_mangle]
 pub extern "C" fn bh_clean_panel(file: &[u8], cleaned: &mut [u8], length: &mut usize) -> u32
-    ensures { λ r. ⌜ PanelCleaned (now (file .entry)) (now (cleaned .entry)) (now (cleaned .exit)) (answer.cleanedBy r (now (length .exit))) ⌝ }
+    ensures { λ r. ⌜ PanelCleaned (now (file .entry)) (now (cleaned .entry)) (now (cleaned .exit)) (fileanswer.cleanedBy r (now (length .exit))) ⌝ }
 {
     let clean = cleanfile::clean(file, cleaned);
-    answers::cleaned(clean, length)
+    fileanswers::cleaned(clean, length)
 }
 
 // The sheet of a panel file: its bytes, and how many they are.
 #[no_mangle]
 pub extern "C" fn bh_sheet(file: &[u8], text: &mut [u8], length: &mut usize) -> u32
-    ensures { λ r. ⌜ Printed (now (file .entry)) (now (text .entry)) (now (text .exit)) (answer.printedBy r (now (length .exit))) ⌝ }
+    ensures { λ r. ⌜ Printed (now (file .entry)) (now (text .entry)) (now (text .exit)) (fileanswer.printedBy r (now (length .exit))) ⌝ }
 {
     let printed = sheet::sheet(file, text);
-    answers::printed(printed, length)
+    fileanswers::printed(printed, length)
 }

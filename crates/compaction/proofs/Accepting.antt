@@ -9,6 +9,7 @@ use lib.Dec.{eqb}
 use lib.Ieee.{Float}
 use Rattle.lists.specs.Lists.{some}
 use Rattle.lists.proofs.Bools.{and-false-right, or-neither, or-false-left, or-false-right}
+use Rattle.mesh.specs.Limits.{pointWidth, texelWidth}
 use Rattle.mesh.specs.Mesh.{Mesh, position, texture, normal, missing, cornersIn, positionCount, textureCount, normalCount}
 use Rattle.mesh.specs.Table.{beyond, beyondUnlessMissing, astray, astrayAt, meshNumber}
 use Rattle.mesh.proofs.Numbers.{clear}
@@ -33,7 +34,7 @@ module _ (m : Mesh) (h : meshNumber m ≡ 0) where
   unfolding astray
   none-astray = clear m h .found
 
-  pub pointed-positions : Pointed (m .positions) 3 (m .corners) 0
+  pub pointed-positions : Pointed (m .positions) pointWidth (m .corners) 0
   pointed-positions =
       let a : Accepted m = accepted m h in
       record {
@@ -52,7 +53,7 @@ module _ (m : Mesh) (h : meshNumber m ≡ 0) where
             none-astray;
       }
 
-  pub pointed-textures : Pointed (m .textures) 2 (m .corners) 1
+  pub pointed-textures : Pointed (m .textures) texelWidth (m .corners) 1
   pointed-textures =
       let a : Accepted m = accepted m h in
       record {
@@ -70,7 +71,7 @@ module _ (m : Mesh) (h : meshNumber m ≡ 0) where
             none-astray;
       }
 
-  pub pointed-normals : Pointed (m .normals) 3 (m .corners) 2
+  pub pointed-normals : Pointed (m .normals) pointWidth (m .corners) 2
   pointed-normals =
       let a : Accepted m = accepted m h in
       record {

@@ -7,6 +7,7 @@ use native.Mathlib.Omega.{arith}
 use lib.ListN.{length}
 use lib.Seq.{sets}
 use borrow.Author.Tests.{lt-ltb, le-ltb}
+use Rattle.mesh.specs.Limits.{pointWidth, texelWidth}
 use Rattle.mesh.specs.Mesh.{Mesh, positionCount, textureCount, normalCount}
 use Rattle.mesh.specs.Table.{meshNumber, when, short}
 use Rattle.mesh.proofs.After.{after-refused, after-done}
@@ -90,12 +91,12 @@ pub done :
     → Done (m .positions) (m .textures) (m .normals) (m .corners) before afterwards answer → Compaction m before afterwards answer
 unfolding compactionNumber tooShort short compacted renumbered usedPositions usedTextures usedNormals
 done m before afterwards answer z r d =
-    let p : length (entries 3 (m .positions) (usesOf (column 0 (m .corners)))) ≡ length (usesOf (column 0 (m .corners))) * 3 =
-    length-kept (m .positions) 3 (m .corners) 0 (r .positions) in
-    let t : length (entries 2 (m .textures) (usesOf (column 1 (m .corners)))) ≡ length (usesOf (column 1 (m .corners))) * 2 =
-    length-kept (m .textures) 2 (m .corners) 1 (r .textures) in
-    let n : length (entries 3 (m .normals) (usesOf (column 2 (m .corners)))) ≡ length (usesOf (column 2 (m .corners))) * 3 =
-    length-kept (m .normals) 3 (m .corners) 2 (r .normals) in
+    let p : length (entries pointWidth (m .positions) (usesOf (column 0 (m .corners)))) ≡ length (usesOf (column 0 (m .corners))) * pointWidth =
+    length-kept (m .positions) pointWidth (m .corners) 0 (r .positions) in
+    let t : length (entries texelWidth (m .textures) (usesOf (column 1 (m .corners)))) ≡ length (usesOf (column 1 (m .corners))) * texelWidth =
+    length-kept (m .textures) texelWidth (m .corners) 1 (r .textures) in
+    let n : length (entries pointWidth (m .normals) (usesOf (column 2 (m .corners)))) ≡ length (usesOf (column 2 (m .corners))) * pointWidth =
+    length-kept (m .normals) pointWidth (m .corners) 2 (r .normals) in
     let c0 = le-ltb (length (before .corners)) (length (m .corners)) (r .corner-room) in
     let p0 = le-ltb (length (before .positions)) (length (m .positions)) (r .position-room) in
     let t0 = le-ltb (length (before .textures)) (length (m .textures)) (r .texture-room) in

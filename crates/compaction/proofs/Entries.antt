@@ -18,16 +18,17 @@ use Rattle.lists.proofs.Stores.{copy-two, copy-three}
 use Rattle.lists.proofs.Members.{in-head, in-tail}
 use Rattle.lists.proofs.Others.{every-has}
 use Rattle.lists.proofs.Places.{place-below, getD-place}
+use Rattle.mesh.specs.Limits.{pointWidth, texelWidth}
 use Rattle.compaction.specs.Compaction.{entryAt, entries}
 
 -- ---- an entry is copied by two or three stores
 
 module _ (from to : List Float) (b w i : ℕ) (h : i * w + w ≤ length from) where
-  pub entry-two : w ≡ 2 → set (set to b (getD from (i * w) nan)) (b + 1) (getD from (i * w + 1) nan) ≡ sets to b (entryAt w from i)
+  pub entry-two : w ≡ texelWidth → set (set to b (getD from (i * w) nan)) (b + 1) (getD from (i * w + 1) nan) ≡ sets to b (entryAt w from i)
   entry-two e = copy-two nan from to (i * w) b (omega arith) ∙ ap (λ (n : ℕ). sets to b (take n (drop (i * w) from))) (sym e)
 
   pub entry-three :
-      w ≡ 3
+      w ≡ pointWidth
       → set (set (set to b (getD from (i * w) nan)) (b + 1) (getD from (i * w + 1) nan)) (b + 2)
       (getD from (i * w + 2) nan) ≡ sets to b (entryAt w from i)
   entry-three e = copy-three nan from to (i * w) b (omega arith) ∙ ap (λ (n : ℕ). sets to b (take n (drop (i * w) from))) (sym e)

@@ -12,7 +12,7 @@ use Rattle.lists.specs.Lists.{some, has, joined, each}
 use Rattle.lists.proofs.Bools.{or-neither}
 use Rattle.lists.proofs.Mapping.{map-same}
 use Rattle.lists.proofs.Parts.{some-none, each-joined, every-joined}
-use Rattle.mesh.specs.Limits.{width}
+use Rattle.mesh.specs.Limits.{pointWidth, texelWidth, width}
 use Rattle.mesh.specs.Mesh.{Mesh, position, texture, normal, missing, cornersIn, rings, faces, positionCount, textureCount, normalCount}
 use Rattle.mesh.specs.Table.{astray, astrayAt, misfit, ungrouped, meshNumber}
 use Rattle.mesh.proofs.Corners.{length-cornersIn, getD-cornersIn, isCorner, cornersIn-joined, length-corners}
@@ -30,23 +30,23 @@ use Rattle.compaction.proofs.Columns.{used-few, used-small, new-corners
 
 module _ (m : Mesh) (z : meshNumber m ≡ 0) where
   -- as many entries as are used
-  pub positions-long : length (compacted m .positions) ≡ length (usedPositions m) * 3
+  pub positions-long : length (compacted m .positions) ≡ length (usedPositions m) * pointWidth
   unfolding compacted usedPositions
-  positions-long = length-kept (m .positions) 3 (m .corners) 0 (pointed-positions m z)
+  positions-long = length-kept (m .positions) pointWidth (m .corners) 0 (pointed-positions m z)
 
   pub positions-counted : positionCount (compacted m) ≡ length (usedPositions m)
   positions-counted = omega (arith, positions-long)
 
-  pub textures-long : length (compacted m .textures) ≡ length (usedTextures m) * 2
+  pub textures-long : length (compacted m .textures) ≡ length (usedTextures m) * texelWidth
   unfolding compacted usedTextures
-  textures-long = length-kept (m .textures) 2 (m .corners) 1 (pointed-textures m z)
+  textures-long = length-kept (m .textures) texelWidth (m .corners) 1 (pointed-textures m z)
 
   pub textures-counted : textureCount (compacted m) ≡ length (usedTextures m)
   textures-counted = omega (arith, textures-long)
 
-  pub normals-long : length (compacted m .normals) ≡ length (usedNormals m) * 3
+  pub normals-long : length (compacted m .normals) ≡ length (usedNormals m) * pointWidth
   unfolding compacted usedNormals
-  normals-long = length-kept (m .normals) 3 (m .corners) 2 (pointed-normals m z)
+  normals-long = length-kept (m .normals) pointWidth (m .corners) 2 (pointed-normals m z)
 
   pub normals-counted : normalCount (compacted m) ≡ length (usedNormals m)
   normals-counted = omega (arith, normals-long)

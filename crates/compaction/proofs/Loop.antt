@@ -13,7 +13,7 @@ use Rattle.lists.specs.FirstUses.{firstUses}
 use Rattle.lists.proofs.Parts.{joined-append}
 use Rattle.lists.proofs.Stores.{three-stores}
 use Rattle.lists.proofs.Writing.{sets-append}
-use Rattle.mesh.specs.Limits.{width, entryLimit}
+use Rattle.mesh.specs.Limits.{pointWidth, texelWidth, width, entryLimit}
 use Rattle.mesh.specs.Mesh.{Corner, Ring, missing, cornersIn, cornerAt}
 use Rattle.mesh.proofs.Corners.{length-cornersIn, getD-cornersIn}
 use Rattle.compaction.specs.declared.Compacted.{Compacted}
@@ -126,9 +126,9 @@ module _ (cs : List ℕ) where
 pub record Going
     (p t n : List Float) (cs : List ℕ) (before at : Result) (pmap tmap nmap : List ℕ) (pused tused nused k : ℕ) : Type 0 where
   pub within : k ≤ length cs / width
-  pub positions : Column p 3 cs 0 k (before .positions) (at .positions) pmap pused
-  pub textures : Column t 2 cs 1 k (before .textures) (at .textures) tmap tused
-  pub normals : Column n 3 cs 2 k (before .normals) (at .normals) nmap nused
+  pub positions : Column p pointWidth cs 0 k (before .positions) (at .positions) pmap pused
+  pub textures : Column t texelWidth cs 1 k (before .textures) (at .textures) tmap tused
+  pub normals : Column n pointWidth cs 2 k (before .normals) (at .normals) nmap nused
   pub corners : at .corners ≡ sets (before .corners) 0 (joined (map (newCorner cs) (take k (cornersIn cs))))
 
 pub going-begins :
@@ -136,9 +136,9 @@ pub going-begins :
     → Going p t n cs r r (replicate entryLimit missing) (replicate entryLimit missing) (replicate entryLimit missing) 0 0 0 0
 going-begins p t n cs r = record {
   within = omega arith;
-  positions = column-begins p 3 cs 0 (r .positions);
-  textures = column-begins t 2 cs 1 (r .textures);
-  normals = column-begins n 3 cs 2 (r .normals);
+  positions = column-begins p pointWidth cs 0 (r .positions);
+  textures = column-begins t texelWidth cs 1 (r .textures);
+  normals = column-begins n pointWidth cs 2 (r .normals);
   corners = refl;
 }
 
@@ -150,9 +150,9 @@ module _
 
   pub going-turns :
       (afterwards : Result) (c1 c2 pmap′ tmap′ nmap′ : List ℕ) (pused′ tused′ nused′ : ℕ) → k < length cs / width
-      → Taken p 3 cs k 0 pmap′ pused′ (at .positions) (afterwards .positions) (at .corners) c1
-      → Taken t 2 cs k 1 tmap′ tused′ (at .textures) (afterwards .textures) c1 c2
-      → Taken n 3 cs k 2 nmap′ nused′ (at .normals) (afterwards .normals) c2 (afterwards .corners)
+      → Taken p pointWidth cs k 0 pmap′ pused′ (at .positions) (afterwards .positions) (at .corners) c1
+      → Taken t texelWidth cs k 1 tmap′ tused′ (at .textures) (afterwards .textures) c1 c2
+      → Taken n pointWidth cs k 2 nmap′ nused′ (at .normals) (afterwards .normals) c2 (afterwards .corners)
       → Going p t n cs before afterwards pmap′ tmap′ nmap′ pused′ tused′ nused′ (k + 1)
   going-turns afterwards c1 c2 pmap′ tmap′ nmap′ pused′ tused′ nused′ h a b c = record {
     within = omega arith;

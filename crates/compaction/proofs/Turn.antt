@@ -33,13 +33,13 @@ use Rattle.compaction.proofs.Entries.{entry-within, length-entries, ent
 pub length-column : (q : ℕ) (cs : List ℕ) → length (column q cs) ≡ length cs / width
 length-column q cs = length-map (cornersIn cs) (λ (c : Corner). getD c q 0) ∙ length-cornersIn cs
 
-at-corner : (q : ℕ) (cs : List ℕ) (k : ℕ) → q < 3 → getD (cornerAt cs k) q 0 ≡ indexAt cs k q
+at-corner : (q : ℕ) (cs : List ℕ) (k : ℕ) → q < width → getD (cornerAt cs k) q 0 ≡ indexAt cs k q
 at-corner zero cs k h = ap (λ (i : ℕ). getD cs i 0) (omega arith)
 at-corner (suc zero) cs k h = refl
 at-corner (suc (suc zero)) cs k h = refl
 at-corner (suc (suc (suc q))) cs k h = absurd (omega arith)
 
-pub getD-column : (q : ℕ) (cs : List ℕ) (k : ℕ) → q < 3 → k < length cs / width → getD (column q cs) k 0 ≡ indexAt cs k q
+pub getD-column : (q : ℕ) (cs : List ℕ) (k : ℕ) → q < width → k < length cs / width → getD (column q cs) k 0 ≡ indexAt cs k q
 getD-column q cs k h l =
     List·getD-map (λ (c : Corner). getD c q 0) (cornersIn cs) k []
     ∙ ap (λ (c : Corner). getD c q 0) (getD-cornersIn cs k l)
@@ -47,7 +47,7 @@ getD-column q cs k h l =
 
 -- one index more is read
 pub column-more :
-    (q : ℕ) (cs : List ℕ) (k : ℕ) → q < 3 → k < length cs / width
+    (q : ℕ) (cs : List ℕ) (k : ℕ) → q < width → k < length cs / width
     → take (k + 1) (column q cs) ≡ take k (column q cs) ++ (indexAt cs k q ∷ [])
 column-more q cs k h l =
     let n : k < length (column q cs) = rw (length-column q cs) l in

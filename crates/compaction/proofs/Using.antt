@@ -11,6 +11,7 @@ use lib.Dec.{ltb}
 use borrow.Author.Tests.{ltb-false}
 use Rattle.lists.proofs.Bools.{or-false-left, or-false-right}
 use Rattle.lists.proofs.Copies.{take-written}
+use Rattle.mesh.specs.Limits.{pointWidth, texelWidth}
 use Rattle.mesh.specs.Mesh.{Mesh, positionCount, textureCount, normalCount}
 use Rattle.mesh.specs.Table.{meshNumber, when, short}
 use Rattle.mesh.proofs.Numbers.{first-head, first-tail, when-not}
@@ -60,9 +61,9 @@ zero-roomy m before h =
 -- the first numbers of the lent lists, as many as the counts say, are the compacted mesh
 pub record Given (m : Mesh) (afterwards : Result) (answer : Compacted) : Type 0 where
   pub corners : take (length (m .corners)) (afterwards .corners) ≡ compacted m .corners
-  pub positions : take (3 * answer .positions) (afterwards .positions) ≡ compacted m .positions
-  pub textures : take (2 * answer .textures) (afterwards .textures) ≡ compacted m .textures
-  pub normals : take (3 * answer .normals) (afterwards .normals) ≡ compacted m .normals
+  pub positions : take (pointWidth * answer .positions) (afterwards .positions) ≡ compacted m .positions
+  pub textures : take (texelWidth * answer .textures) (afterwards .textures) ≡ compacted m .textures
+  pub normals : take (pointWidth * answer .normals) (afterwards .normals) ≡ compacted m .normals
 
 pub given :
     (m : Mesh) (before afterwards : Result) (answer : Compacted) → Compaction m before afterwards answer → answer .number ≡ 0
@@ -84,18 +85,18 @@ given m before afterwards answer c e =
           (c .corners ∙ after-done (answer .number) (sets (before .corners) 0 (compacted m .corners)) (before .corners) e)
           ∙ take-written (before .corners) (compacted m .corners) (length (m .corners)) (corners-kept m z) (r .corners);
       positions =
-          ap (take (3 * answer .positions))
+          ap (take (pointWidth * answer .positions))
           (c .positions ∙ after-done (answer .number) (sets (before .positions) 0 (compacted m .positions)) (before .positions) e)
-          ∙ take-written (before .positions) (compacted m .positions) (3 * answer .positions)
+          ∙ take-written (before .positions) (compacted m .positions) (pointWidth * answer .positions)
           (omega (arith, positions-long m z, positions-counted m z)) (omega (arith, positions-fewer m z, r .positions, w .positions));
       textures =
-          ap (take (2 * answer .textures))
+          ap (take (texelWidth * answer .textures))
           (c .textures ∙ after-done (answer .number) (sets (before .textures) 0 (compacted m .textures)) (before .textures) e)
-          ∙ take-written (before .textures) (compacted m .textures) (2 * answer .textures)
+          ∙ take-written (before .textures) (compacted m .textures) (texelWidth * answer .textures)
           (omega (arith, textures-long m z, textures-counted m z)) (omega (arith, textures-fewer m z, r .textures, w .textures));
       normals =
-          ap (take (3 * answer .normals))
+          ap (take (pointWidth * answer .normals))
           (c .normals ∙ after-done (answer .number) (sets (before .normals) 0 (compacted m .normals)) (before .normals) e)
-          ∙ take-written (before .normals) (compacted m .normals) (3 * answer .normals)
+          ∙ take-written (before .normals) (compacted m .normals) (pointWidth * answer .normals)
           (omega (arith, normals-long m z, normals-counted m z)) (omega (arith, normals-fewer m z, r .normals, w .normals));
     }

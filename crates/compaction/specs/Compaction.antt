@@ -9,6 +9,7 @@ use lib.Dec.{eqb}
 use lib.Ieee.{Float}
 use Rattle.lists.specs.Lists.{only, joined, each}
 use Rattle.lists.specs.FirstUses.{firstUses, place}
+use Rattle.mesh.specs.Limits.{pointWidth, texelWidth}
 use Rattle.mesh.specs.Mesh.{Mesh, meshOf, Corner, position, texture, normal, missing, cornersIn, positionCount, textureCount, normalCount}
 use Rattle.mesh.specs.Table.{meshNumber, firstOf, when, lent, short, after}
 use Rattle.compaction.specs.declared.Compacted.{Compacted}
@@ -43,7 +44,7 @@ usedTextures m = usesOf (map texture (cornersIn (m .corners)))
 unfoldable pub usedNormals : Mesh → List ℕ
 usedNormals m = usesOf (map normal (cornersIn (m .corners)))
 
--- a corner, each of its three numbers renumbered by its own column
+-- a corner, each of its numbers renumbered by its own column
 unfoldable pub renumbered : Mesh → Corner → Corner
 renumbered m c =
     renumber (usedPositions m) (position c)
@@ -55,9 +56,9 @@ renumbered m c =
 unfoldable pub compacted : Mesh → Mesh
 compacted m =
     meshOf
-    (entries 3 (m .positions) (usedPositions m))
-    (entries 2 (m .textures) (usedTextures m))
-    (entries 3 (m .normals) (usedNormals m))
+    (entries pointWidth (m .positions) (usedPositions m))
+    (entries texelWidth (m .textures) (usedTextures m))
+    (entries pointWidth (m .normals) (usedNormals m))
     (joined (map (renumbered m) (cornersIn (m .corners))))
     (m .sizes)
 

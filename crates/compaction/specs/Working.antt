@@ -8,7 +8,7 @@ use lib.Seq.{sets}
 use lib.Ieee.{Float}
 use Rattle.lists.specs.Lists.{some, has, joined}
 use Rattle.lists.specs.FirstUses.{place}
-use Rattle.mesh.specs.Limits.{width, entryLimit}
+use Rattle.mesh.specs.Limits.{pointWidth, texelWidth, width, entryLimit}
 use Rattle.mesh.specs.Mesh.{Corner, missing, cornersIn}
 use Rattle.mesh.specs.Table.{beyondUnlessMissing}
 use Rattle.compaction.specs.Compaction.{usesOf, renumber, entries, Result}
@@ -28,15 +28,15 @@ usesTo q cs k = usesOf (take k (column q cs))
 
 -- an entry of a list lies within it, w numbers wide
 pub record Entry (l : List Float) (w i : ℕ) : Type 0 where
-  pub least : 2 ≤ w
-  pub most : w ≤ 3
+  pub least : texelWidth ≤ w
+  pub most : w ≤ pointWidth
   pub within : i * w + w ≤ length l
 
 -- a list of entries of width w, into which column q of the corners points
 pub record Pointed (attrs : List Float) (w : ℕ) (cs : List ℕ) (q : ℕ) : Type 0 where
-  pub least : 2 ≤ w
-  pub most : w ≤ 3
-  pub is-column : q < 3
+  pub least : texelWidth ≤ w
+  pub most : w ≤ pointWidth
+  pub is-column : q < width
   pub count : ℕ
   pub whole : count * w ≡ length attrs
   pub few : count ≤ entryLimit
@@ -78,9 +78,9 @@ newCorner cs c =
 
 -- what the loop over the corners rests on
 pub record Ready (p t n : List Float) (cs : List ℕ) (before : Result) : Type 0 where
-  pub positions : Pointed p 3 cs 0
-  pub textures : Pointed t 2 cs 1
-  pub normals : Pointed n 3 cs 2
+  pub positions : Pointed p pointWidth cs 0
+  pub textures : Pointed t texelWidth cs 1
+  pub normals : Pointed n pointWidth cs 2
   pub corner-room : length cs ≤ length (before .corners)
   pub position-room : length p ≤ length (before .positions)
   pub texture-room : length t ≤ length (before .textures)
@@ -93,9 +93,9 @@ pub record Done (p t n : List Float) (cs : List ℕ) (before afterwards : Result
   pub texture-count : answer .textures ≡ length (usesOf (column 1 cs))
   pub normal-count : answer .normals ≡ length (usesOf (column 2 cs))
   pub corners : afterwards .corners ≡ sets (before .corners) 0 (joined (map (newCorner cs) (cornersIn cs)))
-  pub positions : afterwards .positions ≡ sets (before .positions) 0 (entries 3 p (usesOf (column 0 cs)))
-  pub textures : afterwards .textures ≡ sets (before .textures) 0 (entries 2 t (usesOf (column 1 cs)))
-  pub normals : afterwards .normals ≡ sets (before .normals) 0 (entries 3 n (usesOf (column 2 cs)))
+  pub positions : afterwards .positions ≡ sets (before .positions) 0 (entries pointWidth p (usesOf (column 0 cs)))
+  pub textures : afterwards .textures ≡ sets (before .textures) 0 (entries texelWidth t (usesOf (column 1 cs)))
+  pub normals : afterwards .normals ≡ sets (before .normals) 0 (entries pointWidth n (usesOf (column 2 cs)))
 
 -- a refusal: its number, and counts of 0
 pub record Refused (answer : Compacted) (number : ℕ) : Type 0 where

@@ -10,6 +10,8 @@ ghost use Rattle.mesh.specs.Mesh.{meshOf};
 ghost use Rattle.compaction.specs.Compaction as want;
 ghost use Rattle.compaction.specs.Working.{Entry, Before, Taken, Ready, Done, Refused};
 use mesh::MISSING;
+use mesh::POINT_WIDTH;
+use mesh::TEXEL_WIDTH;
 
 // The number returned, and how many positions, texture points and normals the new lists hold.
 pub struct Compacted {
@@ -104,9 +106,9 @@ pub fn compact(
     let mut n: u32 = 0;
     let mut k: usize = 0;
     while k < count {
-        p = take_in(positions, 3, corners, k, 0, &mut pmap, p, ps, cs);
-        t = take_in(textures, 2, corners, k, 1, &mut tmap, t, ts, cs);
-        n = take_in(normals, 3, corners, k, 2, &mut nmap, n, ns, cs);
+        p = take_in(positions, POINT_WIDTH, corners, k, 0, &mut pmap, p, ps, cs);
+        t = take_in(textures, TEXEL_WIDTH, corners, k, 1, &mut tmap, t, ts, cs);
+        n = take_in(normals, POINT_WIDTH, corners, k, 2, &mut nmap, n, ns, cs);
         k += 1;
     }
     Compacted {
@@ -161,7 +163,7 @@ fn put_entry(from: &[f64], w: usize, i: usize, to: &mut [f64], j: usize)
     let b = j * w;
     to[b] = from[a];
     to[b + 1] = from[a + 1];
-    if w == 3 {
+    if w == POINT_WIDTH {
         to[b + 2] = from[a + 2];
     }
 }

@@ -13,7 +13,7 @@ use Rattle.mesh.specs.Mesh.{Mesh, faces, rings}
 use Rattle.mesh.specs.Table.{meshNumber, when, lent, short, after}
 use Rattle.mesh.proofs.Numbers.{first-is, first-on, row-given}
 pub use Rattle.mesh.proofs.Edges.{edged}
-use Rattle.edges.specs.Edges.{edgesOf, Verdict, verdict, hems}
+use Rattle.verdicts.specs.Edges.{edgesOf, Verdict, verdict, hems}
 use Rattle.edges.specs.Answers.{verdictOf, Answer, answerOf, judged, meshEdgesOf, start, end, hemNumber, hemsIn, HemAnswer, Hemmed}
 use Rattle.edges.specs.declared.ShellCondition.{ShellCondition}
 use Rattle.edges.specs.declared.Judged.{Judged}

@@ -13,11 +13,12 @@ use Rattle.uses.specs.Uses.{Gathered}
 use Rattle.uses.proofs.Sides.{uses-inside}
 use Rattle.uses.proofs.Reading.{useAt}
 use Rattle.uses.proofs.Gathering.{uses-order}
-use Rattle.edges.specs.Edges.{Edge, keys, edgesOf, Irregular, Regular, Oriented, Closed, verdict, hems}
+use Rattle.verdicts.specs.Edges.{Edge, keys, edgesOf, Irregular, Regular, Oriented, Closed, verdict, hems}
 use Rattle.edges.specs.Answers.{verdictOf, start, end, Hemmed}
-use Rattle.edges.specs.Runs.{Edged, Put, startAt, endAt, lastOdd, tallied, tallyOf, named}
+use Rattle.scans.specs.Runs.{Put, startAt, endAt, lastOdd, tallied, tallyOf}
+use Rattle.edges.specs.Runs.{Edged, named}
 use Rattle.edges.specs.declared.ShellCondition.{ShellCondition}
-use Rattle.edges.specs.declared.Tally.{Tally}
+use Rattle.scans.specs.declared.Tally.{Tally}
 use Rattle.edges.proofs.Grouped.{groupAt, sorted-uses}
 use Rattle.edges.proofs.Judging.{judged-uses}
 use Rattle.edges.proofs.LastUses.{hem-uses, start-is, end-is}

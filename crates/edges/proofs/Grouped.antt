@@ -22,10 +22,10 @@ use Rattle.uses.specs.Uses.{keyAt}
 use Rattle.mesh.proofs.Edges.{key-below}
 use Rattle.uses.proofs.Sides.{inside}
 use Rattle.uses.proofs.Reading.{useAt, lowers, highers, key-at}
-use Rattle.edges.specs.Edges.{Edge, same, key, keys, uses}
-use Rattle.edges.proofs.SameEdge.{same-true, same-refl}
-use Rattle.edges.proofs.Ascending.{Above, Asc, keys-asc, keys-member}
-use Rattle.edges.proofs.EachEdge.{above-append, within, each-part}
+use Rattle.verdicts.specs.Edges.{Edge, same, key, keys, uses}
+use Rattle.verdicts.proofs.SameEdge.{same-true, same-refl}
+use Rattle.verdicts.proofs.Ascending.{Above, Asc, keys-asc, keys-member}
+use Rattle.verdicts.proofs.EachEdge.{above-append, within, each-part}
 
 -- ---- all pairs of positions
 

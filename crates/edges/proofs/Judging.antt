@@ -14,12 +14,12 @@ use Rattle.lists.proofs.Bools.{by-cases, or-left, or-right}
 use Rattle.lists.proofs.Cases.{iff}
 use Rattle.lists.proofs.Counting.{clash, or-either, some-less, count-map, count-none}
 use Rattle.lists.proofs.Mapping.{count-only, count-cong}
-use Rattle.edges.specs.Edges.{Edge, same, flip, key, keys, uses, runs, thrice, alike, once}
+use Rattle.verdicts.specs.Edges.{Edge, same, flip, key, keys, uses, runs, thrice, alike, once}
 use Rattle.uses.specs.Uses.{downOf}
-use Rattle.edges.specs.Runs.{tallyOf, tallied}
-use Rattle.edges.proofs.SameEdge.{same-true, found}
-use Rattle.edges.proofs.Ascending.{keys-asc}
-use Rattle.edges.proofs.Keys.{key-order, key-or-flip, some-keys}
+use Rattle.scans.specs.Runs.{tallyOf, tallied}
+use Rattle.verdicts.proofs.SameEdge.{same-true, found}
+use Rattle.verdicts.proofs.Ascending.{keys-asc}
+use Rattle.verdicts.proofs.Keys.{key-order, key-or-flip, some-keys}
 use Rattle.edges.proofs.Scans.{up, down, twoAlike, tally-each, keyed-only}
 use Rattle.uses.proofs.Reading.{useAt, lowers, highers, downs, down-at}
 use Rattle.edges.proofs.Grouped.{groupAt, group-uses, group-length}

@@ -8,9 +8,9 @@ use lib.Dec.{leb, eqb}
 use Rattle.lists.specs.Lists.{keepIf, only, each, lastOf, span}
 use Rattle.lists.proofs.Buckets.{each-cong, length-only}
 use Rattle.lists.proofs.Mapping.{map-each, map-last, each-only}
-use Rattle.edges.specs.Edges.{Edge, same, flip, key, keys, uses, odd, lastOr, hems}
-use Rattle.edges.specs.Runs.{lastOdd, startAt, endAt}
-use Rattle.edges.proofs.Ascending.{keys-asc}
+use Rattle.verdicts.specs.Edges.{Edge, same, flip, key, keys, uses, odd, lastOr, hems}
+use Rattle.scans.specs.Runs.{lastOdd, startAt, endAt}
+use Rattle.verdicts.proofs.Ascending.{keys-asc}
 use Rattle.edges.proofs.Scans.{oddLast, odd-each, keyed-only}
 use Rattle.uses.proofs.Reading.{useAt, lowers, highers, downs, lower-at, higher-at, down-at}
 use Rattle.edges.proofs.Grouped.{groupAt, group-uses, group-length}

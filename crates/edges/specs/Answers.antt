@@ -7,18 +7,15 @@ use Prim.Native.Nat.{ℕ, _/_}
 use lib.ListN.{length}
 use lib.Seq.{sets}
 use Rattle.mesh.specs.Limits.{width}
-use Rattle.mesh.specs.Mesh.{Mesh, faces}
+use Rattle.mesh.specs.Mesh.{Mesh}
 use Rattle.mesh.specs.Table.{meshNumber, when, firstOf, lent, short, after}
-use Rattle.edges.specs.Edges.{Edge, edgesOf, Verdict, verdict, hems}
+use Rattle.verdicts.specs.Edges.{Edge, Verdict, verdict, hems}
+pub use Rattle.verdicts.specs.Edges.{meshEdgesOf, start, end}
 use Rattle.edges.specs.declared.ShellCondition.{ShellCondition}
 use Rattle.edges.specs.declared.Judged.{Judged}
 use Rattle.edges.specs.declared.Judged.the-variants.{Found, Refused}
 use Rattle.edges.specs.declared.HemEdges.{HemEdges}
 use Rattle.edges.specs.declared.Hems.{Hems}
-
--- the edges of a mesh
-abbrev pub meshEdgesOf : Mesh → List Edge
-meshEdgesOf m = edgesOf (faces m)
 
 -- the verdict that each case stands for
 unfoldable pub verdictOf : ShellCondition → Verdict
@@ -39,13 +36,6 @@ answerOf (Refused n) = record { number = n; verdict = none }
 -- a verdict is answered only with 0
 unfoldable pub judged : Mesh → Answer
 judged m = record { number = meshNumber m; verdict = after (meshNumber m) (some (verdict (meshEdgesOf m))) none }
-
--- where an edge starts and where it ends
-abbrev pub start : Edge → ℕ
-start e = e .0
-
-abbrev pub end : Edge → ℕ
-end e = e .1
 
 -- the number of `hem_edges`: 0 to 5, and 9 where a list is shorter than one number per corner
 unfoldable pub hemNumber : Mesh → ℕ → ℕ → ℕ
@@ -71,6 +61,6 @@ pub record HemAnswer (m : Mesh) (before afterwards : HemLists) (answer : HemEdge
 -- what `hems_of` answers and leaves
 pub record Hemmed (es : List Edge) (starts ends starts′ ends′ : List ℕ) (r : Hems) : Type 0 where
   pub count : r .count ≡ length (hems es)
-  pub verdict : verdictOf (r .verdict) ≡ Rattle.edges.specs.Edges.verdict es
+  pub verdict : verdictOf (r .verdict) ≡ Rattle.verdicts.specs.Edges.verdict es
   pub starting : starts′ ≡ sets starts 0 (map start (hems es))
   pub ending : ends′ ≡ sets ends 0 (map end (hems es))

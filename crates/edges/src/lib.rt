@@ -1,8 +1,8 @@
 // Verdict and hem edges of a mesh (document 01, 'Edges, verdict and wires').
 //
 // Crate uses writes down the uses of all edges and sorts them, so that the uses of one edge stand together, the last one last, and
-// the edges ascend. One scan over them counts each edge's uses for the verdict (counting.rt), another writes the last use of each
-// edge with an odd number of uses: the hem edges (writing.rt).
+// the edges ascend. Of crate scans, one scan over them counts each edge's uses for the verdict, another writes the last use of each
+// edge with an odd number of uses: the hem edges.
 //
 // `shell_condition` and `hem_edges` check the mesh; `verdict_of` and `hems_of` are for crates that have checked it.
 ghost use mathlib.Core.Path.{_≡_};
@@ -12,12 +12,10 @@ ghost use Rattle.mesh.specs.Limits.{width};
 ghost use Rattle.mesh.specs.Mesh.{meshOf, rings};
 ghost use Rattle.mesh.specs.Edges.{edgesOf, Edged};
 ghost use Rattle.uses.specs.Uses.{Gatherable};
-ghost use Rattle.edges.specs.Edges.{verdict};
+ghost use Rattle.verdicts.specs.Edges.{verdict};
 ghost use Rattle.edges.specs.Answers.{answerOf, judged, verdictOf, hemsIn, HemAnswer, Hemmed};
-ghost use Rattle.edges.specs.Runs.{HemRows};
-
-mod counting;
-mod writing;
+ghost use Rattle.edges.specs.Runs.{named, HemRows};
+use scans::Tally;
 
 // The four verdicts.
 pub enum ShellCondition {
@@ -43,23 +41,6 @@ pub struct HemEdges {
 pub struct Hems {
     pub count: usize,
     pub verdict: ShellCondition,
-}
-
-// What a scan over the sorted uses has seen: how many uses of the present edge run up and how many down, and whether an edge
-// that is passed was used three times or more, twice in the same direction, exactly once.
-struct Tally {
-    ups: usize,
-    downs: usize,
-    thrice: bool,
-    alike: bool,
-    once: bool,
-}
-
-// Where a scan stands that writes the hem edges: whether an odd number of the present edge's uses is passed, and how many hem
-// edges are written.
-struct Place {
-    odd: bool,
-    count: usize,
 }
 
 // The verdict of a mesh. Numbers 0 to 5.
@@ -205,7 +186,7 @@ fn judge(
         first,
         order,
     );
-    counting::name_of(counting::tally_uses(lowers, highers, downs, order))
+    name_of(scans::counting::tally_uses(lowers, highers, downs, order))
 }
 
 // The hem edges and the verdict, in rows that are lent for the columns and the order of the uses.
@@ -237,10 +218,26 @@ fn hem(
         first,
         order,
     );
-    let verdict = counting::name_of(counting::tally_uses(lowers, highers, downs, order));
-    let count = writing::put_hems(lowers, highers, downs, order, starts, ends);
+    let verdict = name_of(scans::counting::tally_uses(lowers, highers, downs, order));
+    let count = scans::writing::put_hems(lowers, highers, downs, order, starts, ends);
     Hems {
         count: count,
         verdict: verdict,
     }
+}
+
+// The verdict by what was seen.
+fn name_of(t: Tally) -> ShellCondition
+    ensures { λ r. ⌜ verdictOf r ≡ named t ⌝ }
+{
+    if t.thrice {
+        return ShellCondition::Irregular;
+    }
+    if t.alike {
+        return ShellCondition::Regular;
+    }
+    if t.once {
+        return ShellCondition::Oriented;
+    }
+    ShellCondition::Closed
 }

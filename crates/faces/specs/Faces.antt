@@ -27,7 +27,7 @@ facesOf c s = record { corners = c; sizes = s }
 abbrev pub bare : List ℕ → List ℕ → Mesh
 bare c s = meshOf [] [] [] c s
 
--- 3: a face has more than 32 corners; one of fewer than three is no fault, since it is dropped
+-- 3: a face has more corners than the limit; one of fewer than three is no fault, since it is dropped
 unfoldable pub tooLarge : List ℕ → Bool
 tooLarge s = some (ltb ringLimit) s
 

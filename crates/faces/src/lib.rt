@@ -73,7 +73,7 @@ fn faces_number(corners: &[u32], sizes: &[u32]) -> u32
     0
 }
 
-// Row 1: there are more corner numbers than limit times width, or over 1,365 face sizes.
+// Row 1: there are more corner numbers than limit times width, or more face sizes than the limit.
 fn over_limits(corners: &[u32], sizes: &[u32]) -> bool
     ensures { λ r. ⌜ r ≡ table.overLimits (want.bare (now (corners .entry)) (now (sizes .entry))) ⌝ }
 {
@@ -94,7 +94,7 @@ fn uneven(corners: &[u32], sizes: &[u32]) -> bool
     mesh::WIDTH * mesh::offset(sizes, sizes.len()) != corners.len()
 }
 
-// Row 3: a face has more than 32 corners. One of fewer than three is no fault; it is dropped.
+// Row 3: a face has more corners than the limit. One of fewer than three is no fault; it is dropped.
 fn too_large(sizes: &[u32]) -> bool
     ensures { λ r. ⌜ r ≡ want.tooLarge (now (sizes .entry)) ⌝ }
 {

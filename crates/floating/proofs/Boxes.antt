@@ -5,7 +5,7 @@ use Prim.Native.Nat.{ℕ, zero, suc, _+_, _*_, _/_, _%_, _≤_, _<_}
 use native.Mathlib.Nat.{not-suc-le-zero}
 use native.Mathlib.Omega.{arith}
 use native.Mathlib.Numerals.{add-one}
-use lib.ListN.{length, getD, take, drop, set, length-map, length-append, drop-of-length-le, List·getD-map}
+use lib.ListN.{length, getD, take, drop, length-map, length-append, drop-of-length-le, List·getD-map}
 use lib.Seq.{sets, length-sets, drop-cons, take-suc, take-all, length-take-le}
 use lib.Ieee.{Float, nan}
 use Rattle.lists.specs.Lists.{each}
@@ -15,13 +15,6 @@ use Rattle.floating.specs.Points.{point, coordinates, pointAt, pointsOf,
 use Rattle.floating.specs.Scaling.{scaledOf, axes3, around, boxWith, boxFrom, boxOf, centre, divisor, scaledIn, scaledList}
 use Rattle.floating.specs.declared.Point.{Point}
 use Rattle.floating.specs.declared.Bounds.{Bounds}
-
--- three stores one after the other
-pub put-three : (p : Point) (l : List Float) (a : ℕ) → set (set (set l a (p .x)) (a + 1) (p .y)) (a + 2) (p .z) ≡ sets l a (coordinates p)
-put-three p l a =
-    let e : a + 1 ≡ suc a = omega arith in
-    let f : a + 2 ≡ suc (suc a) = omega arith in
-    rw (e, f)
 
 -- ---- the points of a flat list
 

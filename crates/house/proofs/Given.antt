@@ -5,11 +5,13 @@ use Prim.Native.Nat.{ℕ}
 use native.Mathlib.Omega.{arith}
 use lib.ListN.{length, length-map}
 use Rattle.mesh.specs.Mesh.{Ring, position, rings}
+use Rattle.mesh.specs.Listed.{Listed}
 use Rattle.edges.specs.Edges.{Edge, edgesOf, Verdict, Irregular, Regular, verdict, hems}
 use Rattle.tracing.proofs.Tables.{startsOf, endsOf, pairs-of}
 use Rattle.tracing.proofs.HemLists.{hem-count, hem-lists}
 use mathlib.Core.Bool.{Bool, true, false}
 use Rattle.tracing.specs.Hems.{pairs, Balanced}
+use Rattle.tracing.specs.declared.Wires.{Wires}
 use Rattle.tracing.proofs.Balance.{hems-balanced}
 use Rattle.house.specs.House.{houseWires}
 use Rattle.house.specs.Answers.{wired, HouseOf, HouseFound, HouseDone}
@@ -57,10 +59,10 @@ module _ {cs s : List ℕ} {n : ℕ} {flat lengths ss zs : List ℕ} where
 
 -- what is answered for the two lists and the verdict is answered for the edges
 pub house-done :
-    {v : Verdict} {ss zs flat lengths flat′ lengths′ : List ℕ} {number numbers wires : ℕ} (es : List Edge) → v ≡ verdict es
-    → ss ≡ startsOf (hems es) → zs ≡ endsOf (hems es) → HouseFound v (pairs ss zs) flat lengths flat′ lengths′ number numbers wires
-    → HouseDone es flat lengths flat′ lengths′ number numbers wires
-house-done {v} {ss} {zs} {flat} {lengths} {flat′} {lengths′} {number} {numbers} {wires} es e a b d =
+    {v : Verdict} {ss zs : List ℕ} {before afterwards : Listed} {answer : Wires} (es : List Edge) → v ≡ verdict es
+    → ss ≡ startsOf (hems es) → zs ≡ endsOf (hems es) → HouseFound v (pairs ss zs) before afterwards answer
+    → HouseDone es before afterwards answer
+house-done {v} {ss} {zs} {before} {afterwards} {answer} es e a b d =
     let q : pairs ss zs ≡ hems es = ap₂ pairs a b ∙ pairs-of (hems es) in
-    subst (λ (u : Verdict). HouseFound u (hems es) flat lengths flat′ lengths′ number numbers wires) e
-    (subst (λ (h : List Edge). HouseFound v h flat lengths flat′ lengths′ number numbers wires) q d)
+    subst (λ (u : Verdict). HouseFound u (hems es) before afterwards answer) e
+    (subst (λ (h : List Edge). HouseFound v h before afterwards answer) q d)

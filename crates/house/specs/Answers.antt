@@ -4,7 +4,7 @@ use mathlib.Core.List.{List, [], _∷_}
 use Prim.Native.Nat.{ℕ, _≤_}
 use lib.ListN.{length}
 use Rattle.mesh.specs.Mesh.{Mesh, faces}
-use Rattle.mesh.specs.Listed.{Listed, listedOf}
+use Rattle.mesh.specs.Listed.{Listed}
 use Rattle.mesh.specs.Table.{meshNumber, when, firstOf, lent, short}
 use Rattle.edges.specs.Runs.{Edged}
 use Rattle.edges.specs.Edges.{Edge, edgesOf, Verdict, Irregular, Regular, Oriented, Closed, verdict, hems}
@@ -42,15 +42,8 @@ pub record HouseOf (corners sizes : List ℕ) (positions : ℕ) (flat lengths : 
   pub wires : cornerCount corners ≤ length lengths
 
 -- what they answer and leave: 10, or the wires of the hem edges, by the verdict v that was found with them
-abbrev pub HouseFound : Verdict → List Edge → List ℕ → List ℕ → List ℕ → List ℕ → ℕ → ℕ → ℕ → Type 0
-HouseFound v hem flat lengths flat′ lengths′ number numbers wires =
-    Answered
-    (when (not (wired v)) 10)
-    (houseWires hem)
-    (listedOf flat lengths)
-    (listedOf flat′ lengths′)
-    (record { number = number; flat = numbers; wires = wires })
+abbrev pub HouseFound : Verdict → List Edge → Listed → Listed → Wires → Type 0
+HouseFound v hem before afterwards answer = Answered (when (not (wired v)) 10) (houseWires hem) before afterwards answer
 
-abbrev pub HouseDone : List Edge → List ℕ → List ℕ → List ℕ → List ℕ → ℕ → ℕ → ℕ → Type 0
-HouseDone es flat lengths flat′ lengths′ number numbers wires =
-    HouseFound (verdict es) (hems es) flat lengths flat′ lengths′ number numbers wires
+abbrev pub HouseDone : List Edge → Listed → Listed → Wires → Type 0
+HouseDone es before afterwards answer = HouseFound (verdict es) (hems es) before afterwards answer

@@ -45,7 +45,13 @@ pub fn house_wires(
     if lengths.len() < room {
         return tracing::refused(9);
     }
-    house_of(corners, sizes, positions.len() / 3, flat, lengths)
+    house_of(
+        corners,
+        sizes,
+        positions.len() / mesh::POINT_WIDTH,
+        flat,
+        lengths,
+    )
 }
 
 // The house wires of a mesh that is accepted, with so many positions, where its verdict allows them.
@@ -58,8 +64,9 @@ pub fn house_of(
 ) -> Wires
     requires { ⌜ HouseOf (now corners) (now sizes) positions (now flat) (now lengths) ⌝ }
     ensures { λ r. ⌜ HouseDone (edgesOf (rings (now (sizes .entry)) (now (corners .entry))))
-        (now (flat .entry)) (now (lengths .entry)) (now (flat .exit)) (now (lengths .exit))
-        (r .number) (r .flat) (r .wires) ⌝ }
+        (listedOf (now (flat .entry)) (now (lengths .entry)))
+        (listedOf (now (flat .exit)) (now (lengths .exit)))
+        r ⌝ }
 {
     let mut starts = [0u32; mesh::CORNERS];
     let mut ends = [0u32; mesh::CORNERS];
@@ -80,8 +87,9 @@ pub fn house_from(
 ) -> Wires
     requires { ⌜ Foundable (verdictOf verdict) (now starts) (now ends) (now flat) (now lengths) ⌝ }
     ensures { λ r. ⌜ HouseFound (verdictOf verdict) (pairs (now (starts .entry)) (now (ends .entry)))
-        (now (flat .entry)) (now (lengths .entry)) (now (flat .exit)) (now (lengths .exit))
-        (r .number) (r .flat) (r .wires) ⌝ }
+        (listedOf (now (flat .entry)) (now (lengths .entry)))
+        (listedOf (now (flat .exit)) (now (lengths .exit)))
+        r ⌝ }
 {
     if !is_wired(verdict) {
         return tracing::refused(10);

@@ -1,4 +1,3 @@
-pub mod Using
 pub mod Sorted
 pub mod Marking
 pub mod Valid

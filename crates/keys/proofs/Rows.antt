@@ -11,8 +11,8 @@ use Rattle.lists.proofs.Buckets.{length-front}
 use Rattle.mesh.specs.Limits.{width, cornerLimit, cornerNumbers}
 use Rattle.mesh.specs.Mesh.{Ring, rings}
 use Rattle.mesh.specs.Edges.{ringEdges}
-use Rattle.keys.specs.Keys.{keyOf, faceKeys, Use, usesFrom, useFaces, noUse, FirstOf, FirstUses}
-use Rattle.keys.specs.Columns.{Keyable, fewUses, FewRoom, chosen, entryOf, column, faceUses, Digits}
+use Rattle.columns.specs.Keys.{keyOf, faceKeys, Use, usesFrom, useFaces, noUse, FirstOf, FirstUses}
+use Rattle.columns.specs.Columns.{Keyable, fewUses, FewRoom, chosen, entryOf, column, faceUses, Digits}
 use Rattle.keys.specs.Firsts.{KeyColumns, Plain, TwoRows, Marked}
 use Rattle.keys.proofs.Valid.{goodKey, uses-good, faces-good, key-columns, key-plain, same-key, uses-corners}
 

@@ -19,9 +19,9 @@ use Rattle.mesh.proofs.Faces.{sizes-back}
 use Rattle.mesh.proofs.Accepted.{Accepted, Found}
 use Rattle.mesh.specs.Edges.{runEdges, ringEdges}
 use Rattle.mesh.proofs.Edges.{length-ring}
-use Rattle.keys.specs.Keys.{Key, pairKey, keyOf, sameKey, faceKeys, Use, usesFrom, noUse}
+use Rattle.columns.specs.Keys.{Key, pairKey, keyOf, sameKey, faceKeys, Use, usesFrom, noUse}
 use Rattle.sorting.specs.Sorting.{keyLimit}
-use Rattle.keys.specs.Columns.{Keyable, normalDigit, chosen, entryOf, faceUses}
+use Rattle.columns.specs.Columns.{Keyable, normalDigit, chosen, entryOf, faceUses}
 use Rattle.keys.specs.Firsts.{sameUse, KeyColumns, Plain}
 
 -- a position, and a normal, as an accepted mesh has them

@@ -5,10 +5,9 @@
 // of it is linear: no use is looked for.
 ghost use mathlib.Core.Path.{_≡_};
 ghost use Rattle.mesh.specs.Mesh.{rings};
-ghost use Rattle.keys.specs.Keys.{usesFrom, useFaces, FirstUses};
-ghost use Rattle.keys.specs.Columns.{ColumnRoom, FirstRoom, FewRoom, KeyRows};
+ghost use Rattle.columns.specs.Keys.{usesFrom, useFaces, FirstUses};
+ghost use Rattle.columns.specs.Columns.{ColumnRoom, FirstRoom, FewRoom, KeyRows};
 
-mod columns;
 mod firsts;
 
 // So many uses count as few.

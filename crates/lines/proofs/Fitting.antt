@@ -7,6 +7,7 @@ use Prim.Native.String.{String}
 use native.Mathlib.Omega.{arith}
 use lib.ListN.{length, getD, take, drop, length-append, take-append-drop}
 use Rattle.lists.specs.Lists.{each}
+use Rattle.mesh.specs.Limits.{largest}
 use Rattle.edges.specs.Edges.{Verdict, Irregular, Regular, Oriented, Closed}
 use Rattle.edges.specs.Answers.{verdictOf}
 use Rattle.lists.specs.Putting.{Room, Written}
@@ -23,9 +24,13 @@ use Rattle.lines.specs.Working.{wiresBy, foundBy, Ready, Sheeted}
 pub sheeted : {text out out′ : List ℕ} {n : ℕ} → Room text out 0 → Written text out out′ 0 n → Sheeted text out out′ n
 sheeted r w = record { text-is = w .is; length-is = omega (arith, w .next-is); fits = omega (arith, w .next-is, r .fits) }
 
+-- how many numbers a list of 32 bits can tell apart
+abbrev values : ℕ
+values = largest + 1
+
 -- numbers of 32 bits
 abbrev Small : List ℕ → Type 0
-Small ns = (i : ℕ) → getD ns i 0 < 4294967296
+Small ns = (i : ℕ) → getD ns i 0 < values
 
 small-take : (n : ℕ) (l : List ℕ) → Small l → Small (take n l)
 small-take zero l h i = omega arith
@@ -83,20 +88,20 @@ lines-long (suc n) s flat h = omega arith
 
 -- counts of 32 bits
 pub record Narrow (f : Findings) : Type 0 where
-  pub positions : f .positions < 4294967296
-  pub textures : f .textures < 4294967296
-  pub normals : f .normals < 4294967296
-  pub faces : f .faces < 4294967296
-  pub panels : f .panels < 4294967296
+  pub positions : f .positions < values
+  pub textures : f .textures < values
+  pub normals : f .normals < values
+  pub faces : f .faces < values
+  pub panels : f .panels < values
 
-four-small : (p t n f : ℕ) → p < 4294967296 → t < 4294967296 → n < 4294967296 → f < 4294967296 → Small (p ∷ t ∷ n ∷ f ∷ [])
+four-small : (p t n f : ℕ) → p < values → t < values → n < values → f < values → Small (p ∷ t ∷ n ∷ f ∷ [])
 four-small p t n f a b c d zero = a
 four-small p t n f a b c d (suc zero) = b
 four-small p t n f a b c d (suc (suc zero)) = c
 four-small p t n f a b c d (suc (suc (suc zero))) = d
 four-small p t n f a b c d (suc (suc (suc (suc i)))) = omega arith
 
-one-small : (k : ℕ) → k < 4294967296 → Small (k ∷ [])
+one-small : (k : ℕ) → k < values → Small (k ∷ [])
 one-small k h zero = h
 one-small k h (suc i) = omega arith
 
@@ -126,7 +131,7 @@ sheet-room f flat lengths out n h r =
           );
     }
 
-pub refusal-room : (n : ℕ) (out : List ℕ) → n < 4294967296 → sheetRoom ≤ length out → Room (refusal n) out 0
+pub refusal-room : (n : ℕ) (out : List ℕ) → n < values → sheetRoom ≤ length out → Room (refusal n) out 0
 unfolding refusal
 refusal-room n out h r = record { fits = omega (arith, line-long "refused" (n ∷ []) (one-small n h)) }
 

@@ -41,13 +41,13 @@ module _ (flat lengths o : List ℕ) (at : ℕ) where
       rw (here o′ to from k h n)
       (listing-room [] hemLine (parts lengths flat) o at o′ to k (rw (length-parts lengths flat) h) (w .room) (n .listing))
 
-  pub hemming-turns : (o′ o″ : List ℕ) (to next from k : ℕ) → k < length lengths → Hemming flat lengths o o′ at to from k
-      → Written (hemLine (take (from + getD lengths k 0 - from) (drop from flat))) o′ o″ to next
-      → Hemming flat lengths o o″ at next (from + getD lengths k 0) (k + 1)
-  hemming-turns o′ o″ to next from k h n w = record {
+  pub hemming-turns : (o′ o″ : List ℕ) (to next from end k : ℕ) → k < length lengths → end ≡ from + getD lengths k 0
+      → Hemming flat lengths o o′ at to from k → Written (hemLine (take (from + getD lengths k 0 - from) (drop from flat))) o′ o″ to next
+      → Hemming flat lengths o o″ at next end (k + 1)
+  hemming-turns o′ o″ to next from end k h e n w = record {
     listing =
         listing-turns [] hemLine (parts lengths flat) o at o′ o″ to next k (rw (length-parts lengths flat) h) (n .listing) (rw (here o′ to from k h n) at w);
-    offset = omega (arith, n .offset, sum-step lengths k h);
+    offset = omega (arith, e, n .offset, sum-step lengths k h);
   }
 
   pub hemming-ends : (o′ : List ℕ) (to from k : ℕ) → length lengths ≤ k → Hemming flat lengths o o′ at to from k

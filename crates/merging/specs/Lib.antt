@@ -1,7 +1,5 @@
--- the rules, which a caller cites
-pub mod Centre
-pub mod Merging
-pub mod Nearest
-pub mod Promises
--- steps of the code, which a caller does not need
-pub mod Working
+-- the rules, as crate together has them
+pub use Rattle.together.specs.Centre
+pub use Rattle.together.specs.Merging
+pub use Rattle.together.specs.Nearest
+pub use Rattle.together.specs.Promises

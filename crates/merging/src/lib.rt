@@ -1,35 +1,25 @@
 // Merging: `put_together_same_attrs` gives near positions, texture points and normals one index each.
 //
-// The Rust's `create_blocks`, `create_adjacency` and `create_components` are the crate `nearby`; its `centralize` is here, and so
-// is what is done for each of the three lists.
+// The Rust's `create_blocks`, `create_adjacency` and `create_components` are the crate `nearby`, and its `centralize` is the crate
+// `centring`; what is done for each of the three lists is here.
 ghost use mathlib.Core.Path.{_≡_};
-ghost use mathlib.Core.Bool.{Bool, true, false, _||_};
-ghost use mathlib.Core.List.{List, [], _∷_, map};
-ghost use Prim.Native.Nat.{ℕ, _+_, _*_, _/_, _≤_, _<_};
+ghost use mathlib.Core.Bool.{true, false, _||_};
+ghost use mathlib.Core.List.{map};
+ghost use Prim.Native.Nat.{ℕ, _/_, _≤_, _<_};
 ghost use lib.ListN.{length, getD};
-ghost use lib.Seq.{slice, sets};
-ghost use lib.Ieee.{Float};
+ghost use lib.Seq.{sets};
 ghost use Rattle.lists.specs.Lists.{some, joined};
 ghost use Rattle.mesh.specs.Mesh.{meshOf, missing, cornersIn};
 ghost use Rattle.floating.specs.Limits.{boundless, distant};
-ghost use Rattle.floating.specs.Points.{leading};
 ghost use Rattle.floating.specs.Scaling.{scaledList};
 ghost use Rattle.nearby.specs.Pairs.{comparedPairs};
 ghost use Rattle.nearby.specs.Walk.{groups};
-ghost use Rattle.nearby.specs.Engine.{nearBy, Listed, laidOut};
-ghost use Rattle.merging.specs.Centre as centre;
-ghost use Rattle.merging.specs.Merging.{mergeNumber, mergedTo, unlessMissing, PutTogether};
-ghost use Rattle.merging.specs.Working.{Grouped, InGroups, Sent, Mergeable, Settled, Scalable, Indexed, sentCorner};
-use floating::Point;
+ghost use Rattle.nearby.specs.Engine.{nearBy, Listed};
+ghost use Rattle.together.specs.Centre as centre;
+ghost use Rattle.together.specs.Merging.{mergeNumber, mergedTo, unlessMissing, PutTogether};
+ghost use Rattle.together.specs.Working.{Mergeable, Settled, Scalable, Indexed, sentCorner};
 use mesh::MISSING;
-
-// The number, and how many pairs were compared among positions, texture points and normals.
-pub struct Merged {
-    pub number: u32,
-    pub positions: usize,
-    pub textures: usize,
-    pub normals: usize,
-}
+pub use together::Merged;
 
 // Takes the mesh in five lists and a tolerance, and lends `out` for the new corners, which needs the room of the corners; the
 // attribute lists and the face sizes don't change. Answers 0 and how many pairs were compared in each list; or 1 to 5 as the mesh
@@ -228,92 +218,7 @@ fn sent(map: &[u32], i: u32) -> u32
     map[i as usize]
 }
 
-// ---- a group, at the places from `from` to below `to` of `order`
-
-// Its centre: the sum from 0.0 in walk order divided by the count.
-fn group_centre(s: &[f64], w: usize, n: usize, order: &[usize], from: usize, to: usize) -> Point
-    requires { ⌜ Grouped w n (now s) (now order) from to ⌝ }
-    ensures { λ r. ⌜ leading w r ≡ centre.centreOf w (now (s .entry)) (slice from to (now (order .entry))) ⌝ }
-{
-    let mut sum = Point {
-        x: 0.0,
-        y: 0.0,
-        z: 0.0,
-    };
-    let mut k = from;
-    while k < to {
-        sum = floating::plus(sum, floating::attr_at(s, w, order[k]));
-        k += 1;
-    }
-    floating::over(sum, std::num::nearest_u64_to_f64((to - from) as u64))
-}
-
-// Its representative: the first in walk order with the smallest squared distance to the centre.
-fn representative(s: &[f64], w: usize, n: usize, order: &[usize], from: usize, to: usize) -> usize
-    requires { ⌜ Grouped w n (now s) (now order) from to ⌝ }
-    ensures { λ r. ⌜ (r ≡ centre.representative w (now (s .entry)) (slice from to (now (order .entry)))) × (r < n) ⌝ }
-{
-    let c = group_centre(s, w, n, order, from, to);
-    let mut rep = order[from];
-    let mut least = floating::distance2(w, floating::attr_at(s, w, rep), c);
-    let mut k = from + 1;
-    while k < to {
-        let i = order[k];
-        let d = floating::distance2(w, floating::attr_at(s, w, i), c);
-        if d < least {
-            least = d;
-            rep = i;
-        }
-        k += 1;
-    }
-    rep
-}
-
-// Each of its points is sent to the representative.
-fn centralize(
-    s: &[f64],
-    w: usize,
-    n: usize,
-    order: &[usize],
-    from: usize,
-    to: usize,
-    map: &mut [u32],
-)
-    requires { ⌜ (Grouped w n (now s) (now order) from to) × (n ≤ length (now map)) ⌝ }
-    ensures { λ _. ⌜ Sent w n (now (s .entry)) (slice from to (now (order .entry))) (now (map .entry)) (now (map .exit)) ⌝ }
-{
-    let rep = representative(s, w, n, order, from, to) as u32;
-    let mut k = from;
-    while k < to {
-        map[order[k]] = rep;
-        k += 1;
-    }
-}
-
 // ---- one list
-
-// Each point of the first `count` groups is sent to the representative of its group.
-fn centralize_groups(
-    s: &[f64],
-    w: usize,
-    n: usize,
-    order: &[usize],
-    ends: &[usize],
-    count: usize,
-    map: &mut [u32],
-)
-    requires { ⌜ (InGroups w n (now s) (now order) (now ends) count) × (n ≤ length (now map)) ⌝ }
-    ensures { λ _. ⌜ Settled n (centre.sentTo w (now (s .entry)) (laidOut (now (order .entry)) (now (ends .entry)) count)) (now (map .entry)) (now (map .exit)) ⌝ }
-{
-    let mut from: usize = 0;
-    let mut k: usize = 0;
-    while k < count {
-        let to = ends[k];
-        centralize(s, w, n, order, from, to, map);
-        from = to;
-        k += 1;
-    }
-}
 
 // The groups of n points are those that the engine finds.
 fn merge_groups(s: &[f64], w: usize, t: f64, cells: &[u64], n: usize, map: &mut [u32])
@@ -323,7 +228,7 @@ fn merge_groups(s: &[f64], w: usize, t: f64, cells: &[u64], n: usize, map: &mut 
     let mut order = [0usize; mesh::ENTRIES];
     let mut ends = [0usize; mesh::ENTRIES];
     let count = nearby::create_components(s, w, t, cells, n, &mut order, &mut ends);
-    centralize_groups(s, w, n, &order, &ends, count, map);
+    centring::centralize_groups(s, w, n, &order, &ends, count, map);
 }
 
 // The Rust's `sub_put_together_same_attrs`: where each of the n points of one list goes, to `map`, and how many pairs were compared.

@@ -9,7 +9,7 @@ use borrow.Author.Tests.{ltb-false, leb-false, eqb-true, not-false, le-ltb, lt-l
 use Rattle.lists.specs.Lists.{sum}
 use Rattle.lists.proofs.Bools.{or-false-left, or-false-right, or-neither, by-cases}
 use Rattle.lists.proofs.Parts.{some-false-at, some-none}
-use Rattle.mesh.specs.Limits.{width, ringLimit, faceLimit, pointNumbers, texelNumbers, cornerNumbers}
+use Rattle.mesh.specs.Limits.{pointWidth, texelWidth, width, leastRing, ringLimit, faceLimit, pointNumbers, texelNumbers, cornerNumbers}
 use Rattle.mesh.specs.Mesh.{Mesh, cornersIn, missing, positionCount, textureCount, normalCount}
 use Rattle.mesh.specs.Table.{overLimits, uneven, misfit, outside, ungrouped, astray, astrayAt, beyondUnlessMissing, kind, falls, meshNumber}
 use Rattle.mesh.specs.Face.{Sound}
@@ -51,27 +51,27 @@ within-back m w = rw (le-ltb _ _ (w .positions), le-ltb _ _ (w .textures), le-lt
 -- ---- row 2: every list is whole, and the sizes add up
 
 pub record Even (m : Mesh) : Type 0 where
-  pub positions : length (m .positions) % 3 ≡ 0
-  pub textures : length (m .textures) % 2 ≡ 0
-  pub normals : length (m .normals) % 3 ≡ 0
+  pub positions : length (m .positions) % pointWidth ≡ 0
+  pub textures : length (m .textures) % texelWidth ≡ 0
+  pub normals : length (m .normals) % pointWidth ≡ 0
   pub corners : length (m .corners) % width ≡ 0
   pub adds : width * sum (m .sizes) ≡ length (m .corners)
 
 pub even : (m : Mesh) → uneven m ≡ false → Even m
 unfolding uneven
 even m h =
-    let a = eqb (length (m .positions) % 3) 0 in
-    let b = eqb (length (m .textures) % 2) 0 in
-    let c = eqb (length (m .normals) % 3) 0 in
+    let a = eqb (length (m .positions) % pointWidth) 0 in
+    let b = eqb (length (m .textures) % texelWidth) 0 in
+    let c = eqb (length (m .normals) % pointWidth) 0 in
     let d = eqb (length (m .corners) % width) 0 in
     let e = eqb (width * sum (m .sizes)) (length (m .corners)) in
     let h3 : (not a || not b || not c || not d) ≡ false = or-false-left (not a || not b || not c || not d) (not e) h in
     let h2 : (not a || not b || not c) ≡ false = or-false-left (not a || not b || not c) (not d) h3 in
     let h1 : (not a || not b) ≡ false = or-false-left (not a || not b) (not c) h2 in
     record {
-      positions = eqb-true (length (m .positions) % 3) 0 (not-false a (or-false-left (not a) (not b) h1));
-      textures = eqb-true (length (m .textures) % 2) 0 (not-false b (or-false-right (not a) (not b) h1));
-      normals = eqb-true (length (m .normals) % 3) 0 (not-false c (or-false-right (not a || not b) (not c) h2));
+      positions = eqb-true (length (m .positions) % pointWidth) 0 (not-false a (or-false-left (not a) (not b) h1));
+      textures = eqb-true (length (m .textures) % texelWidth) 0 (not-false b (or-false-right (not a) (not b) h1));
+      normals = eqb-true (length (m .normals) % pointWidth) 0 (not-false c (or-false-right (not a || not b) (not c) h2));
       corners = eqb-true (length (m .corners) % width) 0 (not-false d (or-false-right (not a || not b || not c) (not d) h3));
       adds = eqb-true (width * sum (m .sizes)) (length (m .corners)) (not-false e (or-false-right (not a || not b || not c || not d) (not e) h));
     }
@@ -86,19 +86,22 @@ sound m s = record { few = within m (s .within) .sizes; fits = within m (s .with
 
 -- ---- row 3: every size lies from 3 to 32
 
-pub size-least : (m : Mesh) → misfit m ≡ false → (k : ℕ) → k < length (m .sizes) → 3 ≤ getD (m .sizes) k 0
+pub size-least : (m : Mesh) → misfit m ≡ false → (k : ℕ) → k < length (m .sizes) → leastRing ≤ getD (m .sizes) k 0
 unfolding misfit
 size-least m h k l =
-    let n = getD (m .sizes) k 0 in ltb-false n 3 (or-false-left (ltb n 3) (ltb ringLimit n) (some-false-at outside 0 (m .sizes) k h l))
+    let n = getD (m .sizes) k 0 in ltb-false n leastRing (or-false-left (ltb n leastRing) (ltb ringLimit n) (some-false-at outside 0 (m .sizes) k h l))
 
 pub size-most : (m : Mesh) → misfit m ≡ false → (k : ℕ) → k < length (m .sizes) → getD (m .sizes) k 0 ≤ ringLimit
 unfolding misfit
 size-most m h k l =
-    let n = getD (m .sizes) k 0 in ltb-false ringLimit n (or-false-right (ltb n 3) (ltb ringLimit n) (some-false-at outside 0 (m .sizes) k h l))
+    let n = getD (m .sizes) k 0 in ltb-false ringLimit n (or-false-right (ltb n leastRing) (ltb ringLimit n) (some-false-at outside 0 (m .sizes) k h l))
 
-pub sizes-back : (m : Mesh) → ((k : ℕ) → k < length (m .sizes) → (3 ≤ getD (m .sizes) k 0) × (getD (m .sizes) k 0 ≤ ringLimit)) → misfit m ≡ false
+pub sizes-back : (m : Mesh) → ((k : ℕ) → k < length (m .sizes) → (leastRing ≤ getD (m .sizes) k 0) × (getD (m .sizes) k 0 ≤ ringLimit)) → misfit m ≡ false
 unfolding misfit
-sizes-back m f = some-none outside 0 (m .sizes) (λ k l. let n = getD (m .sizes) k 0 in or-neither (ltb n 3) (ltb ringLimit n) (le-ltb n 3 (f k l .0)) (le-ltb ringLimit n (f k l .1)))
+sizes-back m f =
+    some-none outside 0 (m .sizes)
+    (λ k l.
+    let n = getD (m .sizes) k 0 in or-neither (ltb n leastRing) (ltb ringLimit n) (le-ltb n leastRing (f k l .0)) (le-ltb ringLimit n (f k l .1)))
 
 -- ---- row 5: every index is missing or below its count
 
@@ -156,7 +159,7 @@ pub record Accepted (m : Mesh) : Type 0 where
   pub limits : Within m
   pub whole : Even m
   pub sound : Sound (m .corners) (m .sizes)
-  pub least : (k : ℕ) → k < length (m .sizes) → 3 ≤ getD (m .sizes) k 0
+  pub least : (k : ℕ) → k < length (m .sizes) → leastRing ≤ getD (m .sizes) k 0
   pub most : (k : ℕ) → k < length (m .sizes) → getD (m .sizes) k 0 ≤ ringLimit
   pub grouped : falls (map kind (m .sizes)) ≡ false
   pub corner : (k : ℕ) → k < length (m .corners) / width → Found m k

@@ -8,7 +8,7 @@ use lib.Seq.{sets}
 use lib.Ieee.{Float}
 use Rattle.lists.specs.Putting.{Front}
 use Rattle.lists.proofs.Fronts.{front}
-use Rattle.mesh.specs.Limits.{width, faceLimit, pointNumbers, texelNumbers, cornerNumbers}
+use Rattle.mesh.specs.Limits.{pointWidth, texelWidth, width, faceLimit, pointNumbers, texelNumbers, cornerNumbers}
 use Rattle.mesh.specs.Mesh.{Mesh, positionCount, textureCount, normalCount}
 use Rattle.mesh.specs.Table.{meshNumber}
 use Rattle.mesh.proofs.Accepted.{Accepted, accepted}
@@ -20,17 +20,17 @@ module _ (m : Mesh) (ok : meshNumber m ≡ 0) where
 
   pub front-positions :
       (l : List Float) {l′ : List Float} {k : ℕ} → length l ≡ pointNumbers → l′ ≡ sets l 0 (m .positions) → k ≡ positionCount m
-      → Front l′ (m .positions) (3 * k)
+      → Front l′ (m .positions) (pointWidth * k)
   front-positions l f e n = front l e (omega (arith, n, a .whole .positions)) (omega (arith, n, f, a .limits .positions))
 
   pub front-textures :
       (l : List Float) {l′ : List Float} {k : ℕ} → length l ≡ texelNumbers → l′ ≡ sets l 0 (m .textures) → k ≡ textureCount m
-      → Front l′ (m .textures) (2 * k)
+      → Front l′ (m .textures) (texelWidth * k)
   front-textures l f e n = front l e (omega (arith, n, a .whole .textures)) (omega (arith, n, f, a .limits .textures))
 
   pub front-normals :
       (l : List Float) {l′ : List Float} {k : ℕ} → length l ≡ pointNumbers → l′ ≡ sets l 0 (m .normals) → k ≡ normalCount m
-      → Front l′ (m .normals) (3 * k)
+      → Front l′ (m .normals) (pointWidth * k)
   front-normals l f e n = front l e (omega (arith, n, a .whole .normals)) (omega (arith, n, f, a .limits .normals))
 
   pub front-corners :

@@ -11,7 +11,7 @@ use lib.Dec.{ltb, eqb}
 use borrow.Author.Tests.{le-ltb, le-leb, eqb-true, eqb-false}
 use Rattle.lists.proofs.Bools.{by-cases, or-left}
 use Rattle.lists.proofs.Parts.{sum-step, some-true-at, Gathering, gather-begins, gather-turns, gather-ends}
-use Rattle.mesh.specs.Limits.{width}
+use Rattle.mesh.specs.Limits.{width, largest}
 use Rattle.mesh.specs.Mesh.{Mesh, Corner, position, texture, normal, cornersIn, cornerAt, positionCount, textureCount, normalCount}
 use Rattle.mesh.specs.Table.{kind, falls, beyond, beyondUnlessMissing, astray, astrayAt}
 use Rattle.mesh.specs.Face.{offsetOf}
@@ -22,9 +22,9 @@ use Rattle.mesh.proofs.Corners.{length-cornersIn, getD-cornersIn}
 pub record Adding (s : List ℕ) (k t i : ℕ) : Type 0 where
   pub within : i ≤ k
   pub adds : t ≡ offsetOf s i
-  pub small : t ≤ 4294967295 * i
+  pub small : t ≤ largest * i
 
-pub adding-turns : (s : List ℕ) (k t i : ℕ) → i < k → k ≤ length s → getD s i 0 < 4294967296 → Adding s k t i → Adding s k (t + getD s i 0) (i + 1)
+pub adding-turns : (s : List ℕ) (k t i : ℕ) → i < k → k ≤ length s → getD s i 0 ≤ largest → Adding s k t i → Adding s k (t + getD s i 0) (i + 1)
 adding-turns s k t i h l f a = record {
   within = omega arith;
   adds = let e : offsetOf s (i + 1) ≡ offsetOf s i + getD s i 0 = sum-step s i (omega arith) in omega (arith, a .adds);

@@ -14,7 +14,7 @@ use Rattle.mesh.specs.Table.{shapeNumber}
 abbrev pub offsetOf : List ℕ → ℕ → ℕ
 offsetOf s k = sum (take k s)
 
--- the corners of face k: three numbers for each, behind those of the faces before it
+-- the corners of face k, behind those of the faces before it
 unfoldable pub faceOf : List ℕ → List ℕ → ℕ → List ℕ
 faceOf cs s k = take (width * getD s k 0) (drop (width * offsetOf s k) cs)
 

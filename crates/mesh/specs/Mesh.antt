@@ -3,7 +3,7 @@ use Prim.Native.Nat.{ℕ, zero, suc, _+_, _*_, _/_}
 use mathlib.Core.List.{List, [], _∷_}
 use lib.ListN.{length, getD, take, drop}
 use lib.Ieee.{Float}
-use Rattle.mesh.specs.Limits.{width}
+use Rattle.mesh.specs.Limits.{pointWidth, texelWidth, width, largest}
 
 -- positions, texture points and normals as flat lists of coordinates; one flat list of corners, one list of face sizes
 pub record Mesh : Type 0 where
@@ -18,9 +18,9 @@ meshOf p t n c s = record { positions = p; textures = t; normals = n; corners = 
 
 -- a texture or normal index that means missing
 abbrev pub missing : ℕ
-missing = 4294967295
+missing = largest
 
--- a corner is three numbers: position, texture, normal
+-- a corner is its numbers: position, texture, normal
 abbrev pub Corner : Type 0
 Corner = List ℕ
 
@@ -60,10 +60,10 @@ faces m = rings (m .sizes) (m .corners)
 
 -- how many positions, texture points and normals there are
 abbrev pub positionCount : Mesh → ℕ
-positionCount m = length (m .positions) / 3
+positionCount m = length (m .positions) / pointWidth
 
 abbrev pub textureCount : Mesh → ℕ
-textureCount m = length (m .textures) / 2
+textureCount m = length (m .textures) / texelWidth
 
 abbrev pub normalCount : Mesh → ℕ
-normalCount m = length (m .normals) / 3
+normalCount m = length (m .normals) / pointWidth

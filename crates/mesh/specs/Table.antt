@@ -6,7 +6,7 @@ use mathlib.Core.List.{List, [], _∷_, map}
 use lib.ListN.{length}
 use lib.Dec.{ltb, leb, eqb}
 use Rattle.lists.specs.Lists.{some, sum}
-use Rattle.mesh.specs.Limits.{width, ringLimit, entryLimit, cornerLimit, faceLimit}
+use Rattle.mesh.specs.Limits.{pointWidth, texelWidth, width, leastRing, ringLimit, entryLimit, cornerLimit, faceLimit}
 use Rattle.mesh.specs.Mesh.{Mesh, Corner, position, texture, normal, missing, cornersIn, positionCount, textureCount, normalCount}
 
 -- a row of the table: its number where its rule says so, else 0
@@ -20,27 +20,27 @@ firstOf [] = 0
 firstOf (zero ∷ ns) = firstOf ns
 firstOf (suc n ∷ ns) = suc n
 
--- 1: a list holds more numbers than limit times width, or there are over 1,365 face sizes
+-- 1: a list holds more numbers than limit times width, or there are more face sizes than the limit
 unfoldable pub overLimits : Mesh → Bool
 overLimits m =
-    ltb (entryLimit * 3) (length (m .positions))
-    || ltb (entryLimit * 2) (length (m .textures))
-    || ltb (entryLimit * 3) (length (m .normals))
+    ltb (entryLimit * pointWidth) (length (m .positions))
+    || ltb (entryLimit * texelWidth) (length (m .textures))
+    || ltb (entryLimit * pointWidth) (length (m .normals))
     || ltb (cornerLimit * width) (length (m .corners))
     || ltb faceLimit (length (m .sizes))
 
 -- 2: a list's length is no multiple of its width, or the sizes don't add up to the corners
 unfoldable pub uneven : Mesh → Bool
 uneven m =
-    not (eqb (length (m .positions) % 3) 0)
-    || not (eqb (length (m .textures) % 2) 0)
-    || not (eqb (length (m .normals) % 3) 0)
+    not (eqb (length (m .positions) % pointWidth) 0)
+    || not (eqb (length (m .textures) % texelWidth) 0)
+    || not (eqb (length (m .normals) % pointWidth) 0)
     || not (eqb (length (m .corners) % width) 0)
     || not (eqb (width * sum (m .sizes)) (length (m .corners)))
 
--- 3: a face size lies outside 3 to 32
+-- 3: a face size lies outside the limits
 abbrev pub outside : ℕ → Bool
-outside n = ltb n 3 || ltb ringLimit n
+outside n = ltb n leastRing || ltb ringLimit n
 
 unfoldable pub misfit : Mesh → Bool
 misfit m = some outside (m .sizes)

@@ -1,7 +1,7 @@
 // The mesh: five lent lists, the number that they earn, and the corners of a face.
 //
 // A mesh comes as five lists: positions and normals, three coordinates each; texture points, two each; corners, three numbers
-// each (position, texture, normal; 4,294,967,295 for a missing texture or normal); and the sizes of the faces. `number` says
+// each (position, texture, normal; `MISSING` for a missing texture or normal); and the sizes of the faces. `number` says
 // which row of the table of numbers returned they earn first, 0 where none; every call on a mesh begins with it. `face` and
 // `face_at` hand back the corners of one face as a part of the list of corners.
 ghost use mathlib.Core.Path.{_≡_};
@@ -9,16 +9,22 @@ ghost use mathlib.Core.List.{map};
 ghost use Prim.Native.Nat.{ℕ, _+_, _*_, _-_, _<_, _≤_, _/_, _%_};
 ghost use lib.ListN.{length, getD, take, drop};
 ghost use Rattle.lists.specs.Lists.{some, sum};
-ghost use Rattle.mesh.specs.Limits.{width, faceLimit, cornerNumbers};
+ghost use Rattle.mesh.specs.Limits.{width, largest, faceLimit, cornerNumbers};
 ghost use Rattle.mesh.specs.Mesh.{meshOf, cornersIn, cornerAt};
 ghost use Rattle.mesh.specs.Table as table;
 ghost use Rattle.mesh.specs.Face as part;
 ghost use Rattle.mesh.specs.Working.{narrow, strays};
 
-// The mark of a missing texture or normal.
-pub const MISSING: u32 = 4294967295;
+// The largest number that a list of corners or of sizes can hold; and the mark of a missing texture or normal, which is that number.
+pub const LARGEST: u32 = 4294967295;
 
-// How many numbers a corner has: position, texture, normal.
+pub const MISSING: u32 = LARGEST;
+
+// How many numbers a position or normal has, a texture point, and a corner (position, texture, normal).
+pub const POINT_WIDTH: usize = 3;
+
+pub const TEXEL_WIDTH: usize = 2;
+
 pub const WIDTH: usize = 3;
 
 // The fewest and the most corners that a face may have.
@@ -34,9 +40,9 @@ pub const CORNERS: usize = 4096;
 pub const FACES: usize = 1365;
 
 // How many numbers they have: positions or normals, texture points, corners.
-pub const POINT_NUMBERS: usize = 3 * ENTRIES;
+pub const POINT_NUMBERS: usize = POINT_WIDTH * ENTRIES;
 
-pub const TEXEL_NUMBERS: usize = 2 * ENTRIES;
+pub const TEXEL_NUMBERS: usize = TEXEL_WIDTH * ENTRIES;
 
 pub const CORNER_NUMBERS: usize = WIDTH * CORNERS;
 
@@ -104,7 +110,7 @@ pub fn corner_at(corners: &[u32], k: usize) -> [u32; WIDTH]
 // How many corners stand before face k.
 pub fn offset(sizes: &[u32], k: usize) -> usize
     requires { ⌜ (k ≤ length (now sizes)) × (length (now sizes) ≤ faceLimit) ⌝ }
-    ensures { λ r. ⌜ (r ≡ part.offsetOf (now (sizes .entry)) k) × (r ≤ 4294967295 * k) ⌝ }
+    ensures { λ r. ⌜ (r ≡ part.offsetOf (now (sizes .entry)) k) × (r ≤ largest * k) ⌝ }
 {
     let mut t: usize = 0;
     let mut i: usize = 0;
@@ -140,7 +146,7 @@ fn shape_number(
     0
 }
 
-// Row 1: a list holds more numbers than limit times width, or there are over 1,365 face sizes.
+// Row 1: a list holds more numbers than limit times width, or there are more face sizes than the limit.
 fn over_limits(
     positions: &[f64],
     textures: &[f64],
@@ -176,13 +182,13 @@ fn uneven(
     requires { ⌜ length (now sizes) ≤ faceLimit ⌝ }
     ensures { λ r. ⌜ r ≡ table.uneven (meshOf (now (positions .entry)) (now (textures .entry)) (now (normals .entry)) (now (corners .entry)) (now (sizes .entry))) ⌝ }
 {
-    if positions.len() % 3 != 0 {
+    if positions.len() % POINT_WIDTH != 0 {
         return true;
     }
-    if textures.len() % 2 != 0 {
+    if textures.len() % TEXEL_WIDTH != 0 {
         return true;
     }
-    if normals.len() % 3 != 0 {
+    if normals.len() % POINT_WIDTH != 0 {
         return true;
     }
     if corners.len() % WIDTH != 0 {
@@ -191,7 +197,7 @@ fn uneven(
     WIDTH * offset(sizes, sizes.len()) != corners.len()
 }
 
-// Row 3: a face size lies outside 3 to 32.
+// Row 3: a face size lies outside the limits.
 fn misfit(sizes: &[u32]) -> bool
     ensures { λ r. ⌜ r ≡ some table.outside (now (sizes .entry)) ⌝ }
 {
@@ -208,7 +214,7 @@ fn misfit(sizes: &[u32]) -> bool
 fn is_outside(n: u32) -> bool
     ensures { λ r. ⌜ r ≡ table.outside n ⌝ }
 {
-    if n < 3 {
+    if (n as usize) < LEAST_RING {
         return true;
     }
     RING < n as usize
@@ -254,14 +260,14 @@ pub fn astray(
     requires { ⌜ length (now corners) % width ≡ 0 ⌝ }
     ensures { λ r. ⌜ r ≡ table.astray (meshOf (now (positions .entry)) (now (textures .entry)) (now (normals .entry)) (now (corners .entry)) (now (sizes .entry))) ⌝ }
 {
-    let p = positions.len() / 3;
+    let p = positions.len() / POINT_WIDTH;
     let count = corners.len() / WIDTH;
     if p == 0 {
         return count != 0;
     }
     let last = narrowed(p - 1);
-    let t = narrowed(textures.len() / 2);
-    let n = narrowed(normals.len() / 3);
+    let t = narrowed(textures.len() / TEXEL_WIDTH);
+    let n = narrowed(normals.len() / POINT_WIDTH);
     let mut found = false;
     let mut k: usize = 0;
     while k < count {

@@ -1,4 +1,4 @@
--- The cells of two points, axis by axis, at a width of 2 or 3. Assumes nothing.
+-- The cells of two points, axis by axis, at the width of a texture point or of a position. Assumes nothing.
 use mathlib.Core.Path.{_≡_, sym, ap, _∙_, subst}
 use mathlib.Core.Bool.{Bool, true, false, _&&_, and-true}
 use mathlib.Core.List.{List, [], _∷_}
@@ -8,6 +8,7 @@ use lib.Dec.{eqb, leb}
 use lib.ListN.{length, getD}
 use borrow.Author.Tests.{eqb-true, eqb-false, le-leb, lt-leb}
 use Rattle.lists.proofs.Bools.{by-cases}
+use Rattle.mesh.specs.Limits.{pointWidth, texelWidth}
 use Rattle.floating.specs.Cells.{beside, besides}
 use Rattle.floating.specs.Points.{row}
 use Rattle.floating.proofs.Rows.{row-fits, row-two, row-three, three}
@@ -37,8 +38,8 @@ module _ (w n : ℕ) (cells : List ℕ) (g : Points w n cells) (i j : ℕ) (p : 
   abbrev third : Bool
   third = beside (c (w * i + 2)) (c (w * j + 2))
 
-  -- a width of 2 has two axes, a width of 3 three
-  at-two : w ≡ 2 → besideAt w cells i j ≡ (first && (second && true))
+  -- a texture point has two axes, a position or normal three
+  at-two : w ≡ texelWidth → besideAt w cells i j ≡ (first && (second && true))
   unfolding besideAt
   at-two e =
       subst (λ (k : ℕ). besides (row k cells i) (row k cells j) ≡ (beside (c (k * i)) (c (k * j)) && (beside (c (k * i + 1)) (c (k * j + 1)) && true))) (sym e)
@@ -47,7 +48,7 @@ module _ (w n : ℕ) (cells : List ℕ) (g : Points w n cells) (i j : ℕ) (p : 
         row-two 0 cells j (subst (λ (k : ℕ). k * j + k ≤ length cells) e (spot w n cells g j q)),
       ))
 
-  at-three : w ≡ 3 → besideAt w cells i j ≡ (first && (second && (third && true)))
+  at-three : w ≡ pointWidth → besideAt w cells i j ≡ (first && (second && (third && true)))
   unfolding besideAt
   at-three e =
       subst
@@ -59,11 +60,11 @@ module _ (w n : ℕ) (cells : List ℕ) (g : Points w n cells) (i j : ℕ) (p : 
         row-three 0 cells j (subst (λ (k : ℕ). k * j + k ≤ length cells) e (spot w n cells g j q)),
       ))
 
-  either : (x : Bool) → (w ≡ 2 → besideAt w cells i j ≡ x) → (w ≡ 3 → besideAt w cells i j ≡ x) → x ≡ besideAt w cells i j
+  either : (x : Bool) → (w ≡ texelWidth → besideAt w cells i j ≡ x) → (w ≡ pointWidth → besideAt w cells i j ≡ x) → x ≡ besideAt w cells i j
   either x f h =
-      by-cases (eqb w 2)
-      (λ e. sym (f (eqb-true w 2 e)))
-      (λ e. sym (h (three w (eqb-false w 2 e) (g .least) (g .most))))
+      by-cases (eqb w texelWidth)
+      (λ e. sym (f (eqb-true w texelWidth e)))
+      (λ e. sym (h (three w (eqb-false w texelWidth e) (g .least) (g .most))))
 
   pub apart-first : first ≡ false → false ≡ besideAt w cells i j
   apart-first e = either false (λ k. at-two k ∙ rw e) (λ k. at-three k ∙ rw e)
@@ -71,8 +72,8 @@ module _ (w n : ℕ) (cells : List ℕ) (g : Points w n cells) (i j : ℕ) (p : 
   pub apart-second : first ≡ true → second ≡ false → false ≡ besideAt w cells i j
   apart-second d e = either false (λ k. at-two k ∙ rw (d, e)) (λ k. at-three k ∙ rw (d, e))
 
-  pub both-two : first ≡ true → second ≡ true → w ≡ 2 → true ≡ besideAt w cells i j
+  pub both-two : first ≡ true → second ≡ true → w ≡ texelWidth → true ≡ besideAt w cells i j
   both-two d e k = sym (at-two k ∙ rw (d, e))
 
-  pub by-third : first ≡ true → second ≡ true → (w ≡ 2 → ⊥) → third ≡ besideAt w cells i j
+  pub by-third : first ≡ true → second ≡ true → (w ≡ texelWidth → ⊥) → third ≡ besideAt w cells i j
   by-third d e k = sym (at-three (three w k (g .least) (g .most)) ∙ rw (d, e) (and-true third))

@@ -9,7 +9,7 @@ use lib.Seq.{slice}
 use lib.Ieee.{Float}
 use Rattle.lists.specs.Lists.{has, joined}
 use Rattle.lists.specs.Numbers.{countBelow}
-use Rattle.mesh.specs.Limits.{entryLimit}
+use Rattle.mesh.specs.Limits.{pointWidth, texelWidth, entryLimit}
 use Rattle.floating.specs.Points.{row}
 use Rattle.floating.specs.Cells.{cell, place, placeMost, besides}
 use Rattle.floating.specs.Near.{below}
@@ -33,8 +33,8 @@ pub record Small (cells : List ℕ) : Type 0 where
 
 -- n points of width w, with their cells
 pub record Points (w n : ℕ) (cells : List ℕ) : Type 0 where
-  pub least : 2 ≤ w
-  pub most : w ≤ 3
+  pub least : texelWidth ≤ w
+  pub most : w ≤ pointWidth
   pub few : n ≤ entryLimit
   pub long : w * n ≡ length cells
   pub small : Small cells

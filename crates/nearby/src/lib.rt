@@ -60,7 +60,7 @@ fn is_beside_at(cells: &[u64], w: usize, n: usize, i: usize, j: usize) -> bool
     if !is_beside(cells, a + 1, b + 1) {
         return false;
     }
-    if w == 2 {
+    if w == mesh::TEXEL_WIDTH {
         return true;
     }
     is_beside(cells, a + 2, b + 2)

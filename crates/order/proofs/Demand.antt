@@ -8,6 +8,7 @@ use Prim.Native.Nat.{ℕ, _<_, _≤_}
 use native.Mathlib.Omega.{arith}
 use lib.ListN.{length, getD}
 use Rattle.lists.proofs.Alike.{Alike}
+use Rattle.mesh.specs.Limits.{leastRing}
 use Rattle.mesh.specs.Mesh.{Mesh, Ring, position, rings, faces}
 use Rattle.mesh.specs.Table.{meshNumber}
 use Rattle.mesh.proofs.Faces.{length-rings, getD-rings, length-face}
@@ -76,7 +77,7 @@ accepted-full m e x l =
     let d : x < length (m .sizes) = omega arith in
     let c : length (getD (rings (m .sizes) (m .corners)) x []) ≡ getD (m .sizes) x 0 =
     ap length (getD-rings (m .sizes) (m .corners) x d) ∙ length-face (m .corners) (m .sizes) (a .sound) x d in
-    let t : 3 ≤ getD (m .sizes) x 0 = a .least x d in
+    let t : leastRing ≤ getD (m .sizes) x 0 = a .least x d in
     omega arith
 
 -- of two accepted meshes

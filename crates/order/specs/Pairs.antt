@@ -7,6 +7,7 @@ use lib.ListN.{length, replicate}
 use lib.Ieee.{Float, fin}
 use lib.IntN.{pos}
 use Rattle.lists.specs.Lists.{each}
+use Rattle.mesh.specs.Limits.{pointWidth}
 use Rattle.mesh.specs.Mesh.{Mesh, Corner, meshOf, missing}
 
 -- a corner by its position: texture and normal are missing
@@ -17,9 +18,9 @@ bare p = p ∷ missing ∷ missing ∷ []
 abbrev pub facing : ℕ → ℕ → Corner
 facing k p = p ∷ missing ∷ k ∷ []
 
--- n entries of three coordinates, which all are the origin
+-- n points, which all are the origin
 abbrev pub origins : ℕ → List Float
-origins n = replicate (3 * n) (fin false 0 (pos 0))
+origins n = replicate (pointWidth * n) (fin false 0 (pos 0))
 
 -- the mesh of these faces over n positions
 abbrev pub plain : ℕ → List (List ℕ) → Mesh

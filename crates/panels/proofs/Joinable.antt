@@ -9,6 +9,7 @@ use lib.Dec.{ltb}
 use lib.ListN.{length, getD, length-map}
 use borrow.Author.Tests.{lt-ltb, ltb-true}
 use Rattle.lists.specs.Lists.{every, each}
+use Rattle.lists.specs.Putting.{Written}
 use Rattle.lists.proofs.Bools.{and-both, and-left, and-right}
 use Rattle.lists.proofs.Parts.{every-append}
 use Rattle.mesh.specs.Limits.{width, cornerNumbers}
@@ -19,7 +20,7 @@ use Rattle.keys.proofs.Valid.{uses-corners}
 use Rattle.keys.proofs.Rows.{use-faces}
 use Rattle.searching.specs.Joins.{joinNumbers, flatJoin, flatJoins}
 use Rattle.panels.specs.Panels.{firstFace, joinOf, joinsFrom, joins}
-use Rattle.panels.specs.Joins.{joinsBy, Joinable, Wrote}
+use Rattle.panels.specs.Joins.{joinsBy, Joinable}
 use Rattle.panels.proofs.Recording.{joins-are}
 
 -- ---- first uses and faces make the joins of the rules
@@ -45,9 +46,9 @@ module _ (normals : Bool) (cs s : List ℕ) (k : Keyable cs s) (firsts face : Li
         room = omega arith;
       }
 
-  pub joins-done : (out out′ : List ℕ) (j : ℕ) → Wrote (joinsBy face firsts (length firsts)) out 0 out′ j → Wrote (flatJoins (joins normals (rings s cs))) out 0 out′ j
+  pub joins-done : (out out′ : List ℕ) (j : ℕ) → Written (joinsBy face firsts (length firsts)) out out′ 0 j → Written (flatJoins (joins normals (rings s cs))) out out′ 0 j
   joins-done out out′ j w =
-      subst (λ (t : List ℕ). Wrote t out 0 out′ j)
+      subst (λ (t : List ℕ). Written t out out′ 0 j)
       (ap₂ (λ (t : List ℕ) (u : ℕ). joinsBy t firsts u) face-is (r .long) ∙ joins-are uses firsts r)
       w
 

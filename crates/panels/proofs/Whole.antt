@@ -11,9 +11,9 @@ use lib.Seq.{sets, length-take-le}
 use borrow.Author.Tests.{ltb-true}
 use Rattle.lists.specs.Lists.{joined, sum}
 use Rattle.lists.proofs.Parts.{every-at}
-use Rattle.lists.specs.Putting.{Front}
+use Rattle.lists.specs.Putting.{Front, Written}
 use Rattle.lists.proofs.Fronts.{front}
-use Rattle.mesh.specs.Limits.{width, cornerLimit}
+use Rattle.mesh.specs.Limits.{width, leastRing, cornerLimit}
 use Rattle.mesh.specs.Mesh.{Mesh, Ring, rings, faces}
 use Rattle.mesh.specs.Listed.{listedOf}
 use Rattle.mesh.specs.Table.{meshNumber}
@@ -30,7 +30,6 @@ use Rattle.searching.specs.Rows.{Divisible}
 use Rattle.searching.proofs.Nearby.{joins-back}
 use Rattle.panels.specs.Panels.{joins, panels}
 use Rattle.panels.specs.Contract.{PanelsAnswer}
-use Rattle.panels.specs.Joins.{Wrote}
 use Rattle.panels.specs.Rows.{PanelRoom, JoinRoom}
 use Rattle.panels.proofs.Joinable.{joins-below, uses-below, joins-few}
 use Rattle.panels.proofs.Refusing.{number-0}
@@ -64,9 +63,9 @@ module _ (normals : Bool) (cs s flat lengths : List ℕ) (k : PanelRoom cs s fla
       let d : length fs ≡ length s = faces-count in
       omega arith
 
-  module _ (row row′ : List ℕ) (n : ℕ) (w : Wrote flatRow row 0 row′ n) (h : joinNumbers ≤ length row) where
+  module _ (row row′ : List ℕ) (n : ℕ) (w : Written flatRow row row′ 0 n) (h : joinNumbers ≤ length row) where
     row-within : n ≤ joinNumbers
-    row-within = let b : n ≡ 0 + length flatRow = w .behind in let c : length flatRow ≤ joinNumbers = row-few in omega arith
+    row-within = let b : n ≡ 0 + length flatRow = w .next-is in let c : length flatRow ≤ joinNumbers = row-few in omega arith
 
     pub row-inside : length row′ ≡ length row → n ≤ length row′
     row-inside g = let b : n ≤ joinNumbers = row-within in omega arith
@@ -76,7 +75,7 @@ module _ (normals : Bool) (cs s flat lengths : List ℕ) (k : PanelRoom cs s fla
 
     row-is : take n row′ ≡ flatRow
     row-is =
-        let f : Front row′ flatRow n = front row (w .written) (omega (arith, w .behind)) (omega (arith, w .behind, row-few)) in
+        let f : Front row′ flatRow n = front row (w .is) (omega (arith, w .next-is)) (omega (arith, w .next-is, row-few)) in
         f .is
 
     pub row-divides : Divisible (take n row′) (length s) flat lengths
@@ -109,10 +108,10 @@ whole-row = le-of-eq (sym (length-replicate {A = ℕ} joinNumbers 0))
 
 -- ---- an accepted mesh with room
 
-pub sizes-count : (s : List ℕ) → ((k : ℕ) → k < length s → 3 ≤ getD s k 0) → length s ≤ sum s
+pub sizes-count : (s : List ℕ) → ((k : ℕ) → k < length s → leastRing ≤ getD s k 0) → length s ≤ sum s
 sizes-count [] h = omega arith
 sizes-count (n ∷ s) h =
-    let a : 3 ≤ n = h 0 (omega arith) in
+    let a : leastRing ≤ n = h 0 (omega arith) in
     let b : length s ≤ sum s = sizes-count s (λ k u. h (suc k) (omega arith)) in
     omega arith
 

@@ -5,7 +5,6 @@ use mathlib.Core.List.{List, [], _∷_}
 use Prim.Native.Nat.{ℕ, _+_, _*_, _≤_, _<_}
 use lib.Dec.{eqb}
 use lib.ListN.{length, getD}
-use lib.Seq.{sets}
 use Rattle.lists.specs.Lists.{each, span}
 use Rattle.mesh.specs.Limits.{cornerLimit}
 use Rattle.searching.specs.Joins.{joinNumbers}
@@ -17,7 +16,7 @@ joinAt faces firsts u = cond (eqb (getD firsts u 0) u) [] (getD faces u 0 ∷ ge
 unfoldable pub joinsBy : List ℕ → List ℕ → ℕ → List ℕ
 joinsBy faces firsts u = each (joinAt faces firsts) (span 0 u)
 
--- a face and a first use for each of at most 4,096 uses, and room for two numbers for each
+-- a face and a first use for each of no more uses than corners, and room for two numbers for each
 pub record Joinable (faces firsts out : List ℕ) : Type 0 where
   pub few : length firsts ≤ cornerLimit
   pub faces-long : length faces ≡ length firsts
@@ -31,8 +30,3 @@ pub record JoinableAt (faces firsts : List ℕ) (u : ℕ) (out : List ℕ) (m : 
   pub faces-long : length faces ≡ length firsts
   pub named : getD firsts u 0 < length firsts
   pub room : m + 2 ≤ length out
-
--- `new` is written to `out` from m on, and r is behind it
-pub record Wrote (new out : List ℕ) (m : ℕ) (out′ : List ℕ) (r : ℕ) : Type 0 where
-  pub behind : r ≡ m + length new
-  pub written : out′ ≡ sets out m new

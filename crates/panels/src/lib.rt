@@ -13,7 +13,7 @@ ghost use Rattle.searching.specs.Joins.{flatJoins};
 ghost use Rattle.searching.specs.Walk.{Parted};
 ghost use Rattle.panels.specs.Panels.{joins, panels};
 ghost use Rattle.panels.specs.Contract.{PanelsAnswer, refusedBy};
-ghost use Rattle.panels.specs.Joins.{Wrote};
+ghost use Rattle.lists.specs.Putting.{Written};
 ghost use Rattle.panels.specs.Rows.{PanelRoom, JoinRoom, JoinRows};
 
 mod joins;
@@ -98,7 +98,7 @@ pub fn components_of(
 // The joins of a mesh, flat, in the order they are recorded: how many numbers they are.
 fn find_joins(corners: &[u32], sizes: &[u32], normals: bool, out: &mut [u32]) -> usize
     requires { ⌜ JoinRoom (now corners) (now sizes) (now out) ⌝ }
-    ensures { λ r. ⌜ Wrote (flatJoins (joins normals (rings (now (sizes .entry)) (now (corners .entry))))) (now (out .entry)) 0 (now (out .exit)) r ⌝ }
+    ensures { λ r. ⌜ Written (flatJoins (joins normals (rings (now (sizes .entry)) (now (corners .entry))))) (now (out .entry)) (now (out .exit)) 0 r ⌝ }
 {
     let mut firsts = [0u32; mesh::CORNERS];
     let mut faces = [0u32; mesh::CORNERS];
@@ -123,7 +123,7 @@ fn record_joins(
     out: &mut [u32],
 ) -> usize
     requires { ⌜ JoinRows (now corners) (now sizes) (now firsts) (now faces) (now out) ⌝ }
-    ensures { λ r. ⌜ Wrote (flatJoins (joins normals (rings (now (sizes .entry)) (now (corners .entry))))) (now (out .entry)) 0 (now (out .exit)) r ⌝ }
+    ensures { λ r. ⌜ Written (flatJoins (joins normals (rings (now (sizes .entry)) (now (corners .entry))))) (now (out .entry)) (now (out .exit)) 0 r ⌝ }
 {
     keys::first_uses(corners, sizes, normals, firsts);
     keys::put_faces(corners, sizes, faces);

@@ -1,3 +1,4 @@
+pub mod Replacing
 pub mod Lasts
 pub mod Numbering
 pub mod PortedTables

@@ -44,7 +44,13 @@ pub fn extract_boundaries(
     if lengths.len() < room {
         return tracing::refused(9);
     }
-    let done = ported_of(corners, sizes, positions.len() / 3, flat, lengths);
+    let done = ported_of(
+        corners,
+        sizes,
+        positions.len() / mesh::POINT_WIDTH,
+        flat,
+        lengths,
+    );
     Wires {
         number: 0,
         flat: done.flat,

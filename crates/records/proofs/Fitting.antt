@@ -9,13 +9,12 @@ use lib.Dec.{ltb, eqb}
 use borrow.Author.Tests.{ltb-false, not-false, eqb-true}
 use Rattle.lists.specs.Lists.{every}
 use Rattle.floating.specs.Limits.{finite}
-use Rattle.mesh.specs.Limits.{ringLimit}
 use Rattle.mesh.specs.Table.{when, firstOf}
 use Rattle.mesh.proofs.Numbers.{first-head, first-tail, when-not}
 use Rattle.records.specs.declared.Record.{Record}
 use Rattle.records.specs.declared.Record.the-variants.{Position, Texture, Normal, Face, Refused}
 use Rattle.little.specs.Little.{byte, half}
-use Rattle.records.specs.Lengths.{headerLength, pointLength, texelLength, faceLength, lastKind}
+use Rattle.records.specs.Lengths.{headerLength, pointLength, texelLength, faceLength, byteFaceLimit, lastKind}
 use Rattle.records.specs.Records.{valuesOf, endOf, Placed, lengthFits, unless, pointFrom, texelFrom, attribute, faceFrom, bodyFrom, recordFrom}
 
 -- an answer at a place of a file of that size
@@ -40,15 +39,15 @@ unfolding faceFrom
 face-fits s at n h l =
     let b = at + headerLength in
     let c = byte s b in
-    let other = when (ltb ringLimit c) 3 ∷ [] in
+    let other = when (ltb byteFaceLimit c) 3 ∷ [] in
     unless-fits (length s) at (firstOf (when (not (eqb (faceLength c) n)) 12 ∷ other)) (Face (b + 1) c) h
     (λ e.
     let unlike = not (eqb (faceLength c) n) in
     let i : faceLength c ≡ n =
     eqb-true (faceLength c) n (not-false (eqb (faceLength c) n) (when-not unlike 11 (first-head (when unlike 12) other e))) in
-    let j : c ≤ ringLimit =
-    ltb-false ringLimit c (when-not (ltb ringLimit c) 2 (first-head (when (ltb ringLimit c) 3) [] (first-tail (when unlike 12) other e))) in
-    record { fits = omega arith; placed = (omega arith, j) })
+    let j : c ≤ byteFaceLimit =
+    ltb-false byteFaceLimit c (when-not (ltb byteFaceLimit c) 2 (first-head (when (ltb byteFaceLimit c) 3) [] (first-tail (when unlike 12) other e))) in
+    record { fits = omega arith; placed = (omega arith, omega (arith, j)) })
 
 body-fits :
     (s : List ℕ) (at n k : ℕ) → at ≤ length s → at + headerLength + n ≤ length s → lengthFits k n ≡ true

@@ -13,11 +13,10 @@ use borrow.Author.Tests.{eqb-true, eq-eqb, ne-eqb, lt-ltb, le-ltb}
 use Rattle.lists.specs.Lists.{every}
 use Rattle.lists.proofs.Bools.{and-right}
 use Rattle.floating.specs.Limits.{finite}
-use Rattle.mesh.specs.Limits.{ringLimit}
 use Rattle.records.specs.declared.Record.{Record}
 use Rattle.records.specs.declared.Record.the-variants.{Position, Texture, Normal, Face, End, Refused}
 use Rattle.little.specs.Little.{byte, half}
-use Rattle.records.specs.Lengths.{headerLength, cornerLength, pointLength, faceLength, countMost, lastKind}
+use Rattle.records.specs.Lengths.{headerLength, cornerLength, pointLength, faceLength, countMost, byteFaceLimit, lastKind}
 use Rattle.records.specs.Records.{numberOf, valuesOf, lengthFits, attribute, faceFrom, bodyFrom, recordFrom}
 use Rattle.records.proofs.Record.{the-type}
 
@@ -92,13 +91,13 @@ module _ (s : List ℕ) (b n c : ℕ) (e : c ≡ byte s b) where
   unfolding faceFrom
   face-unlike h = rw (← e, ne-eqb (faceLength c) n h)
 
-  pub face-many : faceLength c ≡ n → ringLimit < c → Refused 3 ≡ faceFrom s b n
+  pub face-many : faceLength c ≡ n → byteFaceLimit < c → Refused 3 ≡ faceFrom s b n
   unfolding faceFrom
-  face-many h l = rw (← e, eq-eqb (faceLength c) n h, lt-ltb ringLimit c l)
+  face-many h l = rw (← e, eq-eqb (faceLength c) n h, lt-ltb byteFaceLimit c l)
 
-  pub face-good : faceLength c ≡ n → c ≤ ringLimit → Face (b + 1) c ≡ faceFrom s b n
+  pub face-good : faceLength c ≡ n → c ≤ byteFaceLimit → Face (b + 1) c ≡ faceFrom s b n
   unfolding faceFrom
-  face-good h l = rw (← e, eq-eqb (faceLength c) n h, le-ltb ringLimit c l)
+  face-good h l = rw (← e, eq-eqb (faceLength c) n h, le-ltb byteFaceLimit c l)
 
 -- ---- a record, with n and k its length and its kind
 

@@ -9,6 +9,7 @@ use lib.ListN.{length, set, length-set}
 use lib.Seq.{sets}
 use Rattle.lists.specs.Lists.{joined, every}
 use Rattle.lists.proofs.Parts.{joined-append}
+use Rattle.lists.proofs.Stores.{three-stores}
 use Rattle.lists.proofs.Writing.{sets-append}
 use Rattle.mesh.specs.Limits.{width}
 use Rattle.mesh.specs.Mesh.{Corner, Ring}
@@ -51,10 +52,6 @@ pub record Ringing (s : List ℕ) (a n : ℕ) (o o' : List ℕ) (at k : ℕ) : T
 pub ringing-begins : (s : List ℕ) (a n : ℕ) (o : List ℕ) (at : ℕ) → Ringing s a n o o at 0
 ringing-begins s a n o at = record { within = omega arith; written = refl; long = refl }
 
--- three stores
-three : (l : List ℕ) (b x y z : ℕ) → set (set (set l b x) (b + 1) y) (b + 2) z ≡ sets l b (x ∷ y ∷ z ∷ [])
-three l b x y z = rw (add-one b, let e : b + 2 ≡ suc (suc b) = omega arith in e)
-
 pub ringing-turns :
     (s : List ℕ) (a n : ℕ) (o o' : List ℕ) (at k x y z : ℕ) → k < n
     → x ≡ word s (a + cornerLength * k) → y ≡ word s (a + cornerLength * k + 4) → z ≡ word s (a + cornerLength * k + 8)
@@ -66,7 +63,7 @@ ringing-turns s a n o o' at k x y z h ex ey ez r =
     record {
       within = omega arith;
       written =
-          three o' (width * (at + k)) x y z
+          three-stores o' (width * (at + k)) x y z
           ∙ ap (λ (j : ℕ). sets o' j (x ∷ y ∷ z ∷ [])) i
           ∙ ap (λ (l : List ℕ). sets l (width * at + length (joined (ringFrom s k a))) (x ∷ y ∷ z ∷ [])) (r .written)
           ∙ sym (sets-append o (width * at) (joined (ringFrom s k a)) (x ∷ y ∷ z ∷ []))

@@ -10,12 +10,11 @@ use borrow.Author.Tests.{not-false}
 use Rattle.lists.specs.Lists.{every}
 use Rattle.floating.specs.Limits.{finite}
 use Rattle.little.specs.Little.{byte, half}
-use Rattle.mesh.specs.Limits.{ringLimit}
 use Rattle.mesh.specs.Table.{when, firstOf}
 use Rattle.mesh.proofs.Numbers.{when-not}
 use Rattle.records.specs.declared.Record.{Record}
 use Rattle.records.specs.declared.Record.the-variants.{Position, Texture, Normal, Face}
-use Rattle.records.specs.Lengths.{headerLength, faceLength, lastKind}
+use Rattle.records.specs.Lengths.{headerLength, faceLength, byteFaceLimit, lastKind}
 use Rattle.records.specs.Records.{valuesOf, lengthFits, unless, pointFrom, texelFrom, attribute, faceFrom, bodyFrom, recordFrom}
 
 module _ (p : Float → Bool) where
@@ -31,7 +30,7 @@ module _ (p : Float → Bool) where
   pub face-passes : (s : List ℕ) (b n : ℕ) → every p (valuesOf (faceFrom s b n)) ≡ true
   unfolding faceFrom
   face-passes s b n =
-      unless-passes (firstOf (when (not (eqb (faceLength (byte s b)) n)) 12 ∷ when (ltb ringLimit (byte s b)) 3 ∷ [])) (Face (b + 1) (byte s b)) (λ e. refl)
+      unless-passes (firstOf (when (not (eqb (faceLength (byte s b)) n)) 12 ∷ when (ltb byteFaceLimit (byte s b)) 3 ∷ [])) (Face (b + 1) (byte s b)) (λ e. refl)
 
   pub record-passes :
       (s : List ℕ) → ((b n k : ℕ) → every p (valuesOf (bodyFrom s b n k)) ≡ true) → (at : ℕ) → every p (valuesOf (recordFrom s at)) ≡ true

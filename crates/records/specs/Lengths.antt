@@ -29,9 +29,12 @@ pointRecord = headerLength + pointLength
 abbrev pub texelRecord : ℕ
 texelRecord = headerLength + texelLength
 
--- the most corners that a byte can say
+-- the most corners that a byte can say, and the most that a face of kind 4 may have
 abbrev pub countMost : ℕ
 countMost = 255
+
+abbrev pub byteFaceLimit : ℕ
+byteFaceLimit = 32
 
 -- the last of the kinds, that of a face
 abbrev pub lastKind : ℕ

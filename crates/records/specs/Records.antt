@@ -15,7 +15,7 @@ use Rattle.floating.specs.declared.Point.{Point}
 use Rattle.floating.specs.declared.Texel.{Texel}
 use Rattle.floating.specs.Limits.{finite}
 use Rattle.floating.specs.Points.{point, texel, coordinates}
-use Rattle.records.specs.Lengths.{headerLength, coordinateLength, cornerLength, pointLength, texelLength, faceLength, pointRecord, texelRecord, countMost, lastKind}
+use Rattle.records.specs.Lengths.{headerLength, coordinateLength, cornerLength, pointLength, texelLength, faceLength, pointRecord, texelRecord, countMost, byteFaceLimit, lastKind}
 use Rattle.records.specs.declared.Record.{Record}
 use Rattle.records.specs.declared.Record.the-variants.{Position, Texture, Normal, Face, End, Refused}
 
@@ -67,7 +67,7 @@ attribute r = unless (when (not (every finite (valuesOf r))) 14) r
 -- a face: n unlike m gives 12, n over 32 gives 3; its first corner stands behind the byte n
 unfoldable pub faceFrom : List ℕ → ℕ → ℕ → Record
 faceFrom s b n =
-    unless (firstOf (when (not (eqb (faceLength (byte s b)) n)) 12 ∷ when (ltb ringLimit (byte s b)) 3 ∷ [])) (Face (b + 1) (byte s b))
+    unless (firstOf (when (not (eqb (faceLength (byte s b)) n)) 12 ∷ when (ltb byteFaceLimit (byte s b)) 3 ∷ [])) (Face (b + 1) (byte s b))
 
 -- the body of n bytes at b, by its kind
 unfoldable pub bodyFrom : List ℕ → ℕ → ℕ → ℕ → Record

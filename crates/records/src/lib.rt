@@ -18,6 +18,11 @@ ghost use Rattle.records.specs.declared.Record.the-variants.{Position, T
 use floating::Point;
 use floating::Texel;
 
+// The most corners that a byte can say, and the most that a face of kind 4 may have.
+const COUNT_MOST: usize = 255;
+
+const BYTE_FACE: usize = 32;
+
 // How many bytes a header has, a coordinate and a corner; the body of a position or a normal, of a texture point, and the longest of a face,
 // whose count is one byte.
 pub const HEADER_LENGTH: usize = 4;
@@ -30,7 +35,7 @@ const POINT_LENGTH: usize = 3 * COORDINATE_LENGTH;
 
 const TEXEL_LENGTH: usize = 2 * COORDINATE_LENGTH;
 
-const LONGEST_FACE: usize = 1 + CORNER_LENGTH * 255;
+const LONGEST_FACE: usize = 1 + CORNER_LENGTH * COUNT_MOST;
 
 // How many bytes the records have: that of a position or a normal, and that of a texture point.
 pub const POINT_RECORD: usize = HEADER_LENGTH + POINT_LENGTH;
@@ -152,7 +157,7 @@ fn face(s: &[u8], b: usize, n: usize) -> Record
     if 1 + CORNER_LENGTH * m != n {
         return Record::Refused(12);
     }
-    if mesh::RING < m {
+    if BYTE_FACE < m {
         return Record::Refused(3);
     }
     Record::Face(b + 1, count)

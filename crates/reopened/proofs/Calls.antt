@@ -7,6 +7,7 @@ use native.Mathlib.Omega.{arith}
 use lib.ListN.{length, take}
 use lib.Seq.{sets}
 use Rattle.lists.proofs.Copies.{take-written}
+use Rattle.lists.proofs.Fronts.{front}
 use Rattle.mesh.specs.Limits.{width}
 use Rattle.mesh.specs.Mesh.{Mesh, meshOf, positionCount, textureCount, normalCount}
 use Rattle.mesh.specs.Table.{meshNumber, short, after}
@@ -44,10 +45,6 @@ module _ {m : Mesh} {out out' : List ℕ} {saved : Saved} (w : PanelWritten m ou
 
 -- ---- what the reader hands over of a file that it takes
 
--- a result that was written to the front of a list stands there
-front : {A : Type 0} (l l' xs : List A) (k : ℕ) → l' ≡ sets l 0 xs → length xs ≡ k → k ≤ length l → take k l' ≡ xs
-front l l' xs k e n h = ap (take k) e ∙ take-written l xs k n h
-
 module _ (file : List ℕ) (lists lists' : Mesh) (answer : MeshRead) (ok : meshNumber (panelMesh file) ≡ 0) (room : short (roomOf lists) ≡ false)
     (r : PanelRead file lists lists' answer) (z : answer .number ≡ 0) where
   abbrev m : Mesh
@@ -71,13 +68,12 @@ module _ (file : List ℕ) (lists lists' : Mesh) (answer : MeshRead) (ok : meshN
       let ln : 3 * answer .normals ≤ length (lists .normals) = omega (arith, nn, a .limits .normals, full .normals) in
       let lc : width * answer .corners ≤ length (lists .corners) = omega (arith, nc, a .limits .corners, full .corners) in
       let lf : answer .faces ≤ length (lists .sizes) = omega (arith, nf, a .limits .sizes, full .sizes) in
-      rw (
-        front (lists .positions) (lists' .positions) (m .positions) (3 * answer .positions) (r .positions ∙ after-done _ _ _ z) np lp,
-        front (lists .textures) (lists' .textures) (m .textures) (2 * answer .textures) (r .textures ∙ after-done _ _ _ z) nt lt,
-        front (lists .normals) (lists' .normals) (m .normals) (3 * answer .normals) (r .normals ∙ after-done _ _ _ z) nn ln,
-        front (lists .corners) (lists' .corners) (m .corners) (width * answer .corners) (r .corners ∙ after-done _ _ _ z) nc lc,
-        front (lists .sizes) (lists' .sizes) (m .sizes) (answer .faces) (r .sizes ∙ after-done _ _ _ z) nf lf,
-      )
+      let p : take (3 * answer .positions) (lists' .positions) ≡ m .positions = front (lists .positions) (r .positions ∙ after-done _ _ _ z) np lp .is in
+      let t : take (2 * answer .textures) (lists' .textures) ≡ m .textures = front (lists .textures) (r .textures ∙ after-done _ _ _ z) nt lt .is in
+      let n : take (3 * answer .normals) (lists' .normals) ≡ m .normals = front (lists .normals) (r .normals ∙ after-done _ _ _ z) nn ln .is in
+      let c : take (width * answer .corners) (lists' .corners) ≡ m .corners = front (lists .corners) (r .corners ∙ after-done _ _ _ z) nc lc .is in
+      let f : take (answer .faces) (lists' .sizes) ≡ m .sizes = front (lists .sizes) (r .sizes ∙ after-done _ _ _ z) nf lf .is in
+      rw (p, t, n, c, f)
 
 -- ---- both calls
 

@@ -115,7 +115,8 @@ module _ (s : List ℕ) (at : ℕ) (p : Piece) (r : List ℕ) (w : sayable p ≡
   header-fits =
       let n = halfBytes (length (bodyOf p)) in
       let k = halfBytes (kindOf p) in
-      omega (arith, sym (length-drop at s) ∙ ap length header-stands, length-append n (k ++ (bodyOf p ++ r)), length-append k (bodyOf p ++ r), length-half (length (bodyOf p)), length-half (kindOf p))
+      let l : length s - at ≡ length (n ++ (k ++ (bodyOf p ++ r))) = sym (length-drop at s) ∙ ap length header-stands in
+      omega (arith, l, length-append n (k ++ (bodyOf p ++ r)), length-append k (bodyOf p ++ r), length-half (length (bodyOf p)), length-half (kindOf p))
 
   body-fits : lengthOf p ≤ length s - (at + 4)
   body-fits = omega (arith, sym (length-drop (at + 4) s) ∙ ap length body-stands, length-append (bodyOf p) r, length-body p w)

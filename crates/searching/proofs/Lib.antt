@@ -1,7 +1,4 @@
-pub mod Looking
-pub mod Parting
-pub mod Walking
-pub mod Nearby
-pub mod Popping
-pub mod Listed
-pub mod Rows
+-- Why the steps come to the rule, as crate connected has it.
+pub use Rattle.connected.proofs.Looking
+pub use Rattle.connected.proofs.Parting
+pub use Rattle.connected.proofs.Nearby

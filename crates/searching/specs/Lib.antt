@@ -1,6 +1,5 @@
--- what document 01 says of the search
-pub mod Search
--- the steps of the code
-pub mod Joins
-pub mod Walk
-pub mod Rows
+-- The rule of the search and the steps of the code, as crate connected has them.
+pub use Rattle.connected.specs.Search
+pub use Rattle.connected.specs.Joins
+pub use Rattle.connected.specs.Walk
+pub use Rattle.connected.specs.Rows

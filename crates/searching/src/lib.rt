@@ -4,8 +4,8 @@
 // (search.rt). All of it is linear: no face is looked for.
 ghost use mathlib.Core.Path.{_≡_};
 ghost use lib.ListN.{length};
-ghost use Rattle.searching.specs.Walk.{panelsBelow, Parted};
-ghost use Rattle.searching.specs.Rows.{Divisible, PartRows};
+ghost use Rattle.connected.specs.Walk.{panelsBelow, Parted};
+ghost use Rattle.connected.specs.Rows.{Divisible, PartRows};
 
 mod search;
 

@@ -5,9 +5,9 @@ ghost use mathlib.Core.Path.{_≡_};
 ghost use mathlib.Core.List.{List, [], _∷_};
 ghost use Prim.Native.Nat.{ℕ, _+_, _-_, _<_, _≤_};
 ghost use lib.ListN.{length, getD, take};
-ghost use Rattle.searching.specs.Search.{neighbours, look, searchFrom};
-ghost use Rattle.searching.specs.Joins.{joinsOf};
-ghost use Rattle.searching.specs.Walk as walk;
+ghost use Rattle.connected.specs.Search.{neighbours, look, searchFrom};
+ghost use Rattle.connected.specs.Joins.{joinsOf};
+ghost use Rattle.connected.specs.Walk as walk;
 
 // All panels, from the lowest face on. The entries of the joins stand by face in `order`, and end where `ends` says.
 pub fn list_panels(

@@ -16,6 +16,7 @@ use Rattle.lists.proofs.Fronts.{front}
 use Rattle.lists.proofs.Parts.{length-joined}
 use Rattle.mesh.specs.Limits.{width, cornerLimit, faceLimit}
 use Rattle.mesh.specs.Mesh.{Ring, rings}
+use Rattle.mesh.specs.Listed.{listedOf}
 use Rattle.mesh.specs.Table.{when}
 use Rattle.mesh.proofs.After.{after-done, after-refused, after-length}
 use Rattle.mesh.proofs.Faces.{length-rings}
@@ -101,8 +102,8 @@ module _ {p t n : ℕ} {c s starts ends flat lengths out : List ℕ} (room : Wir
 
       module _ {flat₂ lengths₂ : List ℕ} {number numbers wires : ℕ}
           (traced :
-          HouseFound (verdictOf (r .verdict)) (pairs (take (r .count) starts′) (take (r .count) ends′)) flat₁ lengths₁ flat₂ lengths₂ number
-          numbers wires) where
+          HouseFound (verdictOf (r .verdict)) (pairs (take (r .count) starts′) (take (r .count) ends′)) (listedOf flat₁ lengths₁)
+          (listedOf flat₂ lengths₂) (record { number = number; flat = numbers; wires = wires })) where
         abbrev ws : List (List ℕ)
         ws = houseWires (hems es)
 
@@ -110,7 +111,7 @@ module _ {p t n : ℕ} {c s starts ends flat lengths out : List ℕ} (room : Wir
         abbrev refusal : ℕ
         refusal = when (not (wired (verdict es))) 10
 
-        wired-by : HouseDone es flat₁ lengths₁ flat₂ lengths₂ number numbers wires
+        wired-by : HouseDone es (listedOf flat₁ lengths₁) (listedOf flat₂ lengths₂) (record { number = number; flat = numbers; wires = wires })
         wired-by = house-done es (hemmed .verdict) (front-starts .is) (front-ends .is) traced
 
         -- where the verdict allows house wires, they stand at the front of the lists, one number for each hem edge

@@ -40,7 +40,7 @@ module _ (n m : ℕ) (small : n ≤ entryLimit) (wide : cornerLimit ≤ m) (star
   pub free : (k : ℕ) → k < length starts → getD (blank m) k 0 ≡ nobody
   free k l = blank-at m k (omega (arith, h .few))
 
--- 2,048 positions and 4,096 edges are
+-- positions and edges at the limits are
 pub positions-few : entryLimit ≤ entryLimit
 positions-few = omega arith
 

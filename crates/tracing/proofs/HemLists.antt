@@ -63,7 +63,7 @@ module _ {cs s : List ℕ} {n : ℕ} (e : Edged cs s n) where
   hem-lists =
       edge-lists n (hems (edgesOf (rings s cs))) (e .few) hem-few (hems-every (inside n) (edgesOf (rings s cs)) (uses-inside cs s n e))
 
--- ---- the two lists that hold them, each in 4,096 numbers
+-- ---- the two lists that hold them, each with a number for every corner that a mesh may have
 
 module _
     {cs s : List ℕ} {n : ℕ} (e : Edged cs s n) {starts₀ ends₀ starts′ ends′ : List ℕ} {r : Hems}

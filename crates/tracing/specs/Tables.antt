@@ -7,7 +7,7 @@ use lib.Dec.{leb}
 use lib.ListN.{length, getD, set, replicate}
 use lib.Seq.{sets}
 use Rattle.lists.specs.Lists.{keepIf}
-use Rattle.mesh.specs.Limits.{entryLimit, cornerLimit}
+use Rattle.mesh.specs.Limits.{largest, entryLimit, cornerLimit}
 use Rattle.edges.specs.Edges.{Edge}
 use Rattle.tracing.specs.Hems.{pairs, EdgeLists}
 
@@ -32,7 +32,7 @@ pub record Linked (starts nexts firsts : List ℕ) : Type 0 where
   pub first : (s : ℕ) → s < length firsts → getD firsts s 0 < length starts → getD starts (getD firsts s 0) 0 ≡ s
   pub next : (k : ℕ) → k < length starts → getD firsts (getD starts k 0) 0 ≤ k → Next starts k (getD nexts k 0)
 
--- the hem edges and their tables, over at most 2,048 positions
+-- the hem edges and their tables, over no more positions than the limit
 pub record Stands (starts ends nexts firsts : List ℕ) : Type 0 where
   pub low : length firsts ≤ entryLimit
   pub edges : EdgeLists starts ends (length firsts)
@@ -45,7 +45,7 @@ pub record Startable (starts firsts : List ℕ) : Type 0 where
 
 -- the tables before any edge is in them
 abbrev pub nobody : ℕ
-nobody = 4294967295
+nobody = largest
 
 unfoldable pub blank : ℕ → List ℕ
 blank n = replicate n nobody

@@ -22,7 +22,7 @@ pub struct Traced {
 }
 
 // No hem edge's number: there is none, or none any more.
-pub const NOBODY: u32 = 4294967295;
+pub const NOBODY: u32 = mesh::LARGEST;
 
 // A refusal: each count beside it is 0.
 pub fn refused(number: u32) -> Wires

@@ -55,9 +55,9 @@ fn compact(c: &mut [u32], p: &mut [f64], t: &mut [f64], n: &mut [f64]) -> Compac
 
 // The sheet: the number, its length, and how many bytes at the front of the lent list are as they were.
 pub(crate) fn sheet_rooms() {
-    let mut less = [b'.'; 65535];
+    let mut less = [b'.'; sheet::ROOM - 1];
     printed(b"9 sheet, one byte short", &mut less);
-    let mut room = [b'.'; 65536];
+    let mut room = [b'.'; sheet::ROOM];
     printed(b"9 sheet with its room", &mut room);
 }
 

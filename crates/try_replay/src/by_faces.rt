@@ -4,7 +4,6 @@
 // `list` is the list of answers, `at` where the case's own words begin; then come the five lists of the mesh.
 use crate::cases;
 use crate::cases::Outcome;
-use crate::cases::Said;
 use crate::list;
 use crate::pairs;
 use crate::removal;
@@ -79,9 +78,8 @@ fn face(
     let k = list::long(list, at) as usize;
     let part = mesh::face(positions, textures, normals, corners, sizes, k);
     let start = list::count(list, list::plus(at, 3));
-    let said = cases::saying(0, start_of(part, start), part.len());
-    let found = cases::held(list, at, 2, said, cases::lists_from(at, 2));
-    cases::also(found, part_differs(part, corners, start))
+    let found = cases::answered(list, at, 2, 0, start_of(part, start), part.len(), 0);
+    cases::also(found, part_differs(part, corners, start), found.end)
 }
 
 // The start of a part: 0 where it is empty.
@@ -121,21 +119,22 @@ fn shell_condition(
     corners: &[u32],
     sizes: &[u32],
 ) -> Outcome {
-    let said = judged(positions, textures, normals, corners, sizes);
-    cases::held(list, at, 1, said, cases::lists_from(at, 1))
+    let answer = edges::shell_condition(positions, textures, normals, corners, sizes);
+    judged(list, at, answer)
 }
 
-fn judged(
-    positions: &[f64],
-    textures: &[f64],
-    normals: &[f64],
-    corners: &[u32],
-    sizes: &[u32],
-) -> Said {
-    let answer = edges::shell_condition(positions, textures, normals, corners, sizes);
+fn judged(list: &[u8], at: usize, answer: Judged) -> Outcome {
     match answer {
-        Judged::Found(condition) => cases::saying(0, verdict_number(condition), 0),
-        Judged::Refused(number) => cases::saying(number, NONE, 0),
+        Judged::Found(condition) => cases::answered(
+            list,
+            at,
+            1,
+            0,
+            verdict_number(condition),
+            0,
+            0,
+        ),
+        Judged::Refused(number) => cases::answered(list, at, 1, number, NONE, 0, 0),
     }
 }
 

@@ -1,9 +1,13 @@
-// Cases of the calls that lend bytes: the writer and the cleaner.
+// Cases of the calls that lend bytes: the writer and the cleaner. The room for a file is made in a function of its own, and lent to the one that asks.
 use crate::cases;
 use crate::cases::Outcome;
-use crate::cases::Said;
 use crate::lent;
-use crate::list;
+
+// The kind of the writer's records.
+pub const WRITING: u32 = 14;
+
+// How many counts each of them answers.
+const COUNTS: usize = 1;
 
 pub(crate) fn write_panel(
     list: &[u8],
@@ -14,38 +18,50 @@ pub(crate) fn write_panel(
     corners: &[u32],
     sizes: &[u32],
 ) -> Outcome {
-    let place = cases::lists_from(at, 1);
     let mut all = [0u8; crate::files::BYTES];
-    let out = lent::lend_bytes(&mut all, list::count(list, place));
-    let said = write(positions, textures, normals, corners, sizes, out);
-    let found = cases::held(list, at, 1, said, cases::after_bytes(list, place));
-    cases::also(found, lent::bytes_differ(out, list, place))
+    write(
+        list,
+        at,
+        positions,
+        textures,
+        normals,
+        corners,
+        sizes,
+        &mut all,
+    )
 }
 
-// Asks the product.
 fn write(
+    list: &[u8],
+    at: usize,
     positions: &[f64],
     textures: &[f64],
     normals: &[f64],
     corners: &[u32],
     sizes: &[u32],
-    out: &mut [u8],
-) -> Said {
-    let r = saving::write_panel(positions, textures, normals, corners, sizes, out);
-    cases::saying(r.number, r.length, 0)
+    all: &mut [u8],
+) -> Outcome {
+    let room = lent::rooms_of_words(list, at, COUNTS);
+    let r = saving::write_panel(
+        positions,
+        textures,
+        normals,
+        corners,
+        sizes,
+        lent::lend_bytes(all, room.first),
+    );
+    let said = cases::answered(list, at, COUNTS, r.number, r.length, 0, 0);
+    lent::hold_bytes(said, all, list)
 }
 
 pub(crate) fn clean_panel(list: &[u8], at: usize, file: &[u8]) -> Outcome {
-    let place = cases::lists_from(at, 1);
     let mut all = [0u8; crate::files::BYTES];
-    let out = lent::lend_bytes(&mut all, list::count(list, place));
-    let said = clean(file, out);
-    let found = cases::held(list, at, 1, said, cases::after_bytes(list, place));
-    cases::also(found, lent::bytes_differ(out, list, place))
+    clean(list, at, file, &mut all)
 }
 
-// Asks the product.
-fn clean(file: &[u8], out: &mut [u8]) -> Said {
-    let r = cleanfile::clean(file, out);
-    cases::saying(r.number, r.length, 0)
+fn clean(list: &[u8], at: usize, file: &[u8], all: &mut [u8]) -> Outcome {
+    let room = lent::rooms_of_words(list, at, COUNTS);
+    let r = cleanfile::clean(file, lent::lend_bytes(all, room.first));
+    let said = cases::answered(list, at, COUNTS, r.number, r.length, 0, 0);
+    lent::hold_bytes(said, all, list)
 }

@@ -18,7 +18,8 @@ pub struct Said {
     pub fifth: usize,
 }
 
-// How a case came out: the number that the product answered, whether anything was not as in the list, and where the case's words end.
+// How a case came out: the number that the product answered, whether anything was not as in the list, and up to where the case's words were
+// looked at.
 pub struct Outcome {
     pub number: u32,
     pub differs: bool,
@@ -43,28 +44,49 @@ pub(crate) fn after_bytes(list: &[u8], room: usize) -> usize {
     list::after_bytes(list, list::plus(room, 1))
 }
 
-pub(crate) fn either(a: bool, b: bool) -> bool {
+fn either(a: bool, b: bool) -> bool {
     if a {
         return true;
     }
     b
 }
 
-// What a call said, held to the case's number and its so many counts; `end` is where the case's words end.
-pub(crate) fn held(list: &[u8], at: usize, counts: usize, said: Said, end: usize) -> Outcome {
+// What a call said, held to the case's number and its so many counts; the words of its lent lists come next.
+pub(crate) fn held(list: &[u8], at: usize, counts: usize, said: Said) -> Outcome {
     Outcome {
         number: said.number,
         differs: said_differs(list, at, counts, said),
-        end: end,
+        end: lists_from(at, counts),
     }
 }
 
-// The same outcome, where a lent list was looked at too.
-pub(crate) fn also(found: Outcome, differs: bool) -> Outcome {
+// The same of a number and up to three counts.
+pub(crate) fn answered(
+    list: &[u8],
+    at: usize,
+    counts: usize,
+    number: u32,
+    first: usize,
+    second: usize,
+    third: usize,
+) -> Outcome {
+    let said = Said {
+        number: number,
+        first: first,
+        second: second,
+        third: third,
+        fourth: 0,
+        fifth: 0,
+    };
+    held(list, at, counts, said)
+}
+
+// The same outcome, where something more was looked at, up to `end`.
+pub(crate) fn also(found: Outcome, differs: bool, end: usize) -> Outcome {
     Outcome {
         number: found.number,
         differs: either(found.differs, differs),
-        end: found.end,
+        end: end,
     }
 }
 
@@ -94,20 +116,4 @@ fn count_differs(list: &[u8], at: usize, counts: usize, k: usize, count: usize) 
         return count != list::count(list, lists_from(at, k));
     }
     false
-}
-
-// A number and two counts, and a number and three.
-pub(crate) fn saying(number: u32, first: usize, second: usize) -> Said {
-    saying_three(number, first, second, 0)
-}
-
-pub(crate) fn saying_three(number: u32, first: usize, second: usize, third: usize) -> Said {
-    Said {
-        number: number,
-        first: first,
-        second: second,
-        third: third,
-        fourth: 0,
-        fifth: 0,
-    }
 }

@@ -1,4 +1,4 @@
-// Cases of the calls on panel files: the reader, the cleaner and the writer.
+// Cases of the calls on panel files: the reader and the cleaner. The room for the file is made in a function of its own.
 //
 // `list` is the list of answers, `at` where the case's own words begin, `subject` where the words of its panel file do.
 use crate::bytes;
@@ -9,8 +9,6 @@ use crate::reading;
 // The calls, by the kind of their records.
 pub const READING: u32 = 11;
 
-pub const WRITING: u32 = 14;
-
 pub const CLEANING: u32 = 15;
 
 // More than any file of the list has bytes, and than any room for one.
@@ -19,26 +17,24 @@ pub const BYTES: usize = 262144;
 // The reader and the cleaner: any other kind than the first is the cleaner.
 pub(crate) fn ask(list: &[u8], subject: usize, kind: u32, at: usize) -> Outcome {
     let mut all = [0u8; BYTES];
-    let n = length(list, subject);
-    copy_file(list, subject, &mut all);
-    let file = list::front_of_bytes(&all, n);
+    ask_in(list, subject, kind, at, &mut all)
+}
+
+fn ask_in(list: &[u8], subject: usize, kind: u32, at: usize, all: &mut [u8]) -> Outcome {
+    copy_file(list, subject, all);
+    ask_of(
+        list,
+        kind,
+        at,
+        list::front_of_bytes(all, length(list, subject)),
+    )
+}
+
+fn ask_of(list: &[u8], kind: u32, at: usize, file: &[u8]) -> Outcome {
     if kind == READING {
         return reading::read_panel(list, at, file);
     }
     bytes::clean_panel(list, at, file)
-}
-
-// The writer, of the five lists of a mesh.
-pub(crate) fn write_panel(
-    list: &[u8],
-    at: usize,
-    positions: &[f64],
-    textures: &[f64],
-    normals: &[f64],
-    corners: &[u32],
-    sizes: &[u32],
-) -> Outcome {
-    bytes::write_panel(list, at, positions, textures, normals, corners, sizes)
 }
 
 // ---- the file: some bytes, several times over, and then others

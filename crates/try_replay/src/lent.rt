@@ -1,5 +1,61 @@
 // Lent lists: filled with a pattern before a call, and held to the list's answer and to the pattern after it.
+use crate::cases;
+use crate::cases::Outcome;
 use crate::list;
+
+// The rooms of the lists that a call is lent.
+pub struct Rooms {
+    pub first: usize,
+    pub second: usize,
+    pub third: usize,
+    pub fourth: usize,
+    pub fifth: usize,
+}
+
+// The rooms of up to three lists of u32, or of one of bytes, behind so many counts.
+pub(crate) fn rooms_of_words(list: &[u8], at: usize, counts: usize) -> Rooms {
+    let first = cases::lists_from(at, counts);
+    let second = cases::after_words(list, first);
+    let third = cases::after_words(list, second);
+    Rooms {
+        first: list::count(list, first),
+        second: list::count(list, second),
+        third: list::count(list, third),
+        fourth: 0,
+        fifth: 0,
+    }
+}
+
+// Those of compaction: a list of u32, then three of f64.
+pub(crate) fn rooms_of_compaction(list: &[u8], at: usize) -> Rooms {
+    let first = cases::lists_from(at, 3);
+    let second = cases::after_words(list, first);
+    let third = cases::after_floats(list, second);
+    let fourth = cases::after_floats(list, third);
+    Rooms {
+        first: list::count(list, first),
+        second: list::count(list, second),
+        third: list::count(list, third),
+        fourth: list::count(list, fourth),
+        fifth: 0,
+    }
+}
+
+// Those of the reader: three lists of f64, then two of u32.
+pub(crate) fn rooms_of_reading(list: &[u8], at: usize) -> Rooms {
+    let first = cases::lists_from(at, 5);
+    let second = cases::after_floats(list, first);
+    let third = cases::after_floats(list, second);
+    let fourth = cases::after_floats(list, third);
+    let fifth = cases::after_words(list, fourth);
+    Rooms {
+        first: list::count(list, first),
+        second: list::count(list, second),
+        third: list::count(list, third),
+        fourth: list::count(list, fourth),
+        fifth: list::count(list, fifth),
+    }
+}
 
 // What is lent where a room of n is asked for: the front of `all`, or all of it where there is no more, filled with the pattern.
 pub(crate) fn lend(all: &mut [u32], n: usize) -> &mut [u32] {
@@ -58,15 +114,32 @@ fn fill_bytes(out: &mut [u8], n: usize) {
     }
 }
 
-// Whether a lent list is not as the list says at `room`: its room, what stands at its front, and the pattern behind that.
-pub(crate) fn words_differ(got: &[u32], list: &[u8], room: usize) -> bool {
+// The outcome so far, with the list that was lent next: `all` is what its room was taken from, and the list has its words where the outcome ends.
+pub(crate) fn hold(found: Outcome, all: &[u32], list: &[u8]) -> Outcome {
+    let differs = words_differ(all, list, found.end);
+    cases::also(found, differs, cases::after_words(list, found.end))
+}
+
+pub(crate) fn hold_floats(found: Outcome, all: &[f64], list: &[u8]) -> Outcome {
+    let differs = floats_differ(all, list, found.end);
+    cases::also(found, differs, cases::after_floats(list, found.end))
+}
+
+pub(crate) fn hold_bytes(found: Outcome, all: &[u8], list: &[u8]) -> Outcome {
+    let differs = bytes_differ(all, list, found.end);
+    cases::also(found, differs, cases::after_bytes(list, found.end))
+}
+
+// Whether a lent list is not as the list says at `room`: its room, what stands at its front, and the pattern behind that up to the room's end.
+fn words_differ(got: &[u32], list: &[u8], room: usize) -> bool {
     if is_unlike(got.len(), list, room) {
         return true;
     }
+    let end = list::lesser(list::count(list, room), got.len());
     let at = list::plus(room, 1);
     let n = list::count(list, at);
     let mut i = 0;
-    while i < got.len() {
+    while i < end {
         if got[i] != word_wanted(list, at, n, i) {
             return true;
         }
@@ -75,14 +148,15 @@ pub(crate) fn words_differ(got: &[u32], list: &[u8], room: usize) -> bool {
     false
 }
 
-pub(crate) fn floats_differ(got: &[f64], list: &[u8], room: usize) -> bool {
+fn floats_differ(got: &[f64], list: &[u8], room: usize) -> bool {
     if is_unlike(got.len(), list, room) {
         return true;
     }
+    let end = list::lesser(list::count(list, room), got.len());
     let at = list::plus(room, 1);
     let n = list::count(list, at);
     let mut i = 0;
-    while i < got.len() {
+    while i < end {
         if !is_same(got[i], float_wanted(list, at, n, i)) {
             return true;
         }
@@ -91,14 +165,15 @@ pub(crate) fn floats_differ(got: &[f64], list: &[u8], room: usize) -> bool {
     false
 }
 
-pub(crate) fn bytes_differ(got: &[u8], list: &[u8], room: usize) -> bool {
+fn bytes_differ(got: &[u8], list: &[u8], room: usize) -> bool {
     if is_unlike_bytes(got.len(), list, room) {
         return true;
     }
+    let end = list::lesser(list::count(list, room), got.len());
     let at = list::plus(room, 1);
     let n = list::count(list, at);
     let mut i = 0;
-    while i < got.len() {
+    while i < end {
         if got[i] != byte_wanted(list, at, n, i) {
             return true;
         }
@@ -107,22 +182,20 @@ pub(crate) fn bytes_differ(got: &[u8], list: &[u8], room: usize) -> bool {
     false
 }
 
-// Whether this is not the room that the list says, or the room has no place for what it says.
+// Whether there was no such room to lend, or the room has no place for what the list says.
 fn is_unlike(len: usize, list: &[u8], room: usize) -> bool {
-    if len != list::count(list, room) {
-        return true;
-    }
     if list::is_odd(list, list::plus(room, 1)) {
         return true;
     }
-    len < list::count(list, list::plus(room, 1))
+    is_unlike_bytes(len, list, room)
 }
 
 fn is_unlike_bytes(len: usize, list: &[u8], room: usize) -> bool {
-    if len != list::count(list, room) {
+    let lent = list::count(list, room);
+    if len < lent {
         return true;
     }
-    len < list::count(list, list::plus(room, 1))
+    lent < list::count(list, list::plus(room, 1))
 }
 
 // What must stand at place i of a lent list: number i of the answer, or the pattern behind the answer's n.

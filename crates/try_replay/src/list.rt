@@ -36,6 +36,11 @@ pub(crate) fn long(list: &[u8], at: usize) -> u64 {
     0
 }
 
+// The same, as the bits of an f64.
+pub(crate) fn float(list: &[u8], at: usize) -> f64 {
+    floating::of_bits(long(list, at))
+}
+
 // A place so many words on.
 pub(crate) fn plus(at: usize, n: usize) -> usize {
     if at < BEYOND {
@@ -87,7 +92,7 @@ pub(crate) fn word_in(list: &[u8], at: usize, i: usize) -> u32 {
 
 pub(crate) fn float_in(list: &[u8], at: usize, i: usize) -> f64 {
     let p = place(i, count(list, plus(at, 1)));
-    floating::of_bits(long(list, plus(plus(plus(at, 2), p), p)))
+    float(list, plus(plus(plus(at, 2), p), p))
 }
 
 // Reads a list of u32 to the front of `all`, as far as there is room, and answers it.

@@ -22,10 +22,15 @@ mod tally;
 use cases::Outcome;
 
 fn main() {
-    let mut list = [0u8; 524288];
-    let n = io::read_full(0, &mut list);
+    let mut all = [0u8; 524288];
+    run(&mut all);
+}
+
+// Reads the list, replays it and prints what came of it.
+fn run(all: &mut [u8]) {
+    let n = io::read_full(0, all);
     let mut counts = [0u32; tally::COUNTS];
-    let whole = replay(list::front_of_bytes(&list, n), &mut counts);
+    let whole = replay(list::front_of_bytes(all, n), &mut counts);
     tally::print(&counts);
     if !whole {
         io::write_all(1, b"the list is damaged\n");
@@ -73,5 +78,5 @@ fn is_subject(kind: u32) -> bool {
 fn outcome(list: &[u8], at: usize, next: usize, subject: usize, kind: u32) -> Outcome {
     let found = questions::ask(list, subject, kind, list::plus(at, 2));
     let elsewhere = found.end != next;
-    cases::also(found, elsewhere)
+    cases::also(found, elsewhere, next)
 }

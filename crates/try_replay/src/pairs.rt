@@ -1,7 +1,9 @@
-// Cases of the calls that lend two lists of u32: hem edges, wires of both kinds, panels, and faces in any order.
+// Cases of the calls that lend two lists of u32: hem edges, wires of both kinds, panels, and faces in any order. The lists that a call is
+// lent stand in the function that calls it.
+//
+// `list` is the list of answers, `at` where the case's own words begin; then come the five lists of the mesh.
 use crate::cases;
 use crate::cases::Outcome;
-use crate::cases::Said;
 use crate::lent;
 use crate::list;
 
@@ -14,7 +16,7 @@ const HOUSE: u32 = 9;
 
 const PUSH: u32 = 13;
 
-// A call by its kind; any other kind than these four is panels. Each lent list has a function that lends it and looks at it afterwards.
+// A call by its kind; any other kind than these four is panels.
 pub(crate) fn two_lists(
     list: &[u8],
     at: usize,
@@ -25,113 +27,142 @@ pub(crate) fn two_lists(
     corners: &[u32],
     sizes: &[u32],
 ) -> Outcome {
-    let place = cases::lists_from(at, counts_of(kind));
-    let mut all = [0u32; cases::ROOM];
-    let a = lent::lend(&mut all, list::count(list, place));
-    let found = second_list(
-        list,
-        at,
-        kind,
-        positions,
-        textures,
-        normals,
-        corners,
-        sizes,
-        a,
-    );
-    cases::also(found, lent::words_differ(a, list, place))
+    if kind == PUSH {
+        return push(list, at, corners, sizes);
+    }
+    if kind == HEMS {
+        return hem_edges(list, at, positions, textures, normals, corners, sizes);
+    }
+    if kind == PORTED {
+        return ported_wires(list, at, positions, textures, normals, corners, sizes);
+    }
+    if kind == HOUSE {
+        return house_wires(list, at, positions, textures, normals, corners, sizes);
+    }
+    components(list, at, positions, textures, normals, corners, sizes)
 }
 
-fn second_list(
+// Faces in any order.
+fn push(list: &[u8], at: usize, corners: &[u32], sizes: &[u32]) -> Outcome {
+    let room = lent::rooms_of_words(list, at, 2);
+    let mut a = [0u32; cases::ROOM];
+    let mut b = [0u32; cases::ROOM];
+    let r = faces::push(
+        corners,
+        sizes,
+        lent::lend(&mut a, room.first),
+        lent::lend(&mut b, room.second),
+    );
+    let said = cases::answered(list, at, 2, r.number, r.corners, r.faces, 0);
+    let with_a = lent::hold(said, &a, list);
+    lent::hold(with_a, &b, list)
+}
+
+// Hem edges.
+fn hem_edges(
     list: &[u8],
     at: usize,
-    kind: u32,
     positions: &[f64],
     textures: &[f64],
     normals: &[f64],
     corners: &[u32],
     sizes: &[u32],
-    a: &mut [u32],
 ) -> Outcome {
-    let counts = counts_of(kind);
-    let place = cases::after_words(list, cases::lists_from(at, counts));
-    let given = list::word(list, at);
-    let mut all = [0u32; cases::ROOM];
-    let b = lent::lend(&mut all, list::count(list, place));
-    let said = call_two(
-        kind,
-        given,
+    let room = lent::rooms_of_words(list, at, 1);
+    let mut a = [0u32; cases::ROOM];
+    let mut b = [0u32; cases::ROOM];
+    let r = edges::hem_edges(
         positions,
         textures,
         normals,
         corners,
         sizes,
-        a,
-        b,
+        lent::lend(&mut a, room.first),
+        lent::lend(&mut b, room.second),
     );
-    let found = cases::held(list, at, counts, said, cases::after_words(list, place));
-    cases::also(found, lent::words_differ(b, list, place))
+    let said = cases::answered(list, at, 1, r.number, r.count, 0, 0);
+    let with_a = lent::hold(said, &a, list);
+    lent::hold(with_a, &b, list)
 }
 
-// How many counts a call answers.
-fn counts_of(kind: u32) -> usize {
-    if kind == HEMS {
-        return 1;
-    }
-    2
-}
-
-// Asks the product: faces, edges, panels.
-fn call_two(
-    kind: u32,
-    given: u32,
+// Wires as the Rust has them.
+fn ported_wires(
+    list: &[u8],
+    at: usize,
     positions: &[f64],
     textures: &[f64],
     normals: &[f64],
     corners: &[u32],
     sizes: &[u32],
-    a: &mut [u32],
-    b: &mut [u32],
-) -> Said {
-    if kind == PUSH {
-        let r = faces::push(corners, sizes, a, b);
-        return cases::saying(r.number, r.corners, r.faces);
-    }
-    if kind <= HOUSE {
-        return along_hems(kind, positions, textures, normals, corners, sizes, a, b);
-    }
+) -> Outcome {
+    let room = lent::rooms_of_words(list, at, 2);
+    let mut a = [0u32; cases::ROOM];
+    let mut b = [0u32; cases::ROOM];
+    let r = ported::extract_boundaries(
+        positions,
+        textures,
+        normals,
+        corners,
+        sizes,
+        lent::lend(&mut a, room.first),
+        lent::lend(&mut b, room.second),
+    );
+    let said = cases::answered(list, at, 2, r.number, r.flat, r.wires, 0);
+    let with_a = lent::hold(said, &a, list);
+    lent::hold(with_a, &b, list)
+}
+
+// Wires by the house's order.
+fn house_wires(
+    list: &[u8],
+    at: usize,
+    positions: &[f64],
+    textures: &[f64],
+    normals: &[f64],
+    corners: &[u32],
+    sizes: &[u32],
+) -> Outcome {
+    let room = lent::rooms_of_words(list, at, 2);
+    let mut a = [0u32; cases::ROOM];
+    let mut b = [0u32; cases::ROOM];
+    let r = house::house_wires(
+        positions,
+        textures,
+        normals,
+        corners,
+        sizes,
+        lent::lend(&mut a, room.first),
+        lent::lend(&mut b, room.second),
+    );
+    let said = cases::answered(list, at, 2, r.number, r.flat, r.wires, 0);
+    let with_a = lent::hold(said, &a, list);
+    lent::hold(with_a, &b, list)
+}
+
+// Panels; the setting is given.
+fn components(
+    list: &[u8],
+    at: usize,
+    positions: &[f64],
+    textures: &[f64],
+    normals: &[f64],
+    corners: &[u32],
+    sizes: &[u32],
+) -> Outcome {
+    let room = lent::rooms_of_words(list, at, 2);
+    let mut a = [0u32; cases::ROOM];
+    let mut b = [0u32; cases::ROOM];
     let r = panels::components(
         positions,
         textures,
         normals,
         corners,
         sizes,
-        given != 0,
-        a,
-        b,
+        list::word(list, at) != 0,
+        lent::lend(&mut a, room.first),
+        lent::lend(&mut b, room.second),
     );
-    cases::saying(r.number, r.faces, r.panels)
-}
-
-// Hem edges and wires.
-fn along_hems(
-    kind: u32,
-    positions: &[f64],
-    textures: &[f64],
-    normals: &[f64],
-    corners: &[u32],
-    sizes: &[u32],
-    a: &mut [u32],
-    b: &mut [u32],
-) -> Said {
-    if kind == HEMS {
-        let r = edges::hem_edges(positions, textures, normals, corners, sizes, a, b);
-        return cases::saying(r.number, r.count, 0);
-    }
-    if kind == PORTED {
-        let r = ported::extract_boundaries(positions, textures, normals, corners, sizes, a, b);
-        return cases::saying(r.number, r.flat, r.wires);
-    }
-    let r = house::house_wires(positions, textures, normals, corners, sizes, a, b);
-    cases::saying(r.number, r.flat, r.wires)
+    let said = cases::answered(list, at, 2, r.number, r.faces, r.panels, 0);
+    let with_a = lent::hold(said, &a, list);
+    lent::hold(with_a, &b, list)
 }

@@ -1,6 +1,7 @@
 // One case: the mesh that it is about is read from the list, and the call is asked.
 use crate::attributes;
 use crate::by_faces;
+use crate::bytes;
 use crate::cases::Outcome;
 use crate::files;
 use crate::list;
@@ -96,8 +97,8 @@ fn ask_of(
     corners: &[u32],
     sizes: &[u32],
 ) -> Outcome {
-    if kind == files::WRITING {
-        return files::write_panel(list, at, positions, textures, normals, corners, sizes);
+    if kind == bytes::WRITING {
+        return bytes::write_panel(list, at, positions, textures, normals, corners, sizes);
     }
     if is_of_attributes(kind) {
         return attributes::ask(list, kind, at, positions, textures, normals, corners, sizes);

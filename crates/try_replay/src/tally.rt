@@ -76,18 +76,30 @@ fn double(n: u32) -> u64 {
     n as u64
 }
 
-// The lines of all calls, and one for all cases.
+// The lines of all calls, and one for all cases; some at a time, since what a function costs to prove grows faster than its calls.
 pub(crate) fn print(tally: &[u32]) {
+    print_first(tally);
+    print_by_faces(tally);
+    print_last(tally);
+}
+
+fn print_first(tally: &[u32]) {
     line(tally, 1, b"mesh_number");
     line(tally, 2, b"face");
     line(tally, 3, b"remove_unused_attrs");
     line(tally, 4, b"remove_degenerate_faces");
     line(tally, 5, b"put_together_same_attrs");
+}
+
+fn print_by_faces(tally: &[u32]) {
     line(tally, 6, b"shell_condition");
     line(tally, 7, b"hem_edges");
     line(tally, 8, b"extract_boundaries");
     line(tally, 9, b"house_wires");
     line(tally, 10, b"components");
+}
+
+fn print_last(tally: &[u32]) {
     line(tally, 11, b"read_panel");
     line(tally, 13, b"push");
     line(tally, 14, b"write_panel");

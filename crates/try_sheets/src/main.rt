@@ -28,8 +28,8 @@ fn one_file(i: usize) {
 
 // Its sheet. One byte more than a file may have is read, as `meshsheet` does.
 fn print_sheet(fd: i32) {
-    let mut file = [0u8; 65537];
-    let mut out = [0u8; 65536];
+    let mut file = [0u8; sheet::FILE + 1];
+    let mut out = [0u8; sheet::ROOM];
     let n = io::read_full(fd, &mut file[..]);
     let answer = sheet::sheet(&file[..n], &mut out[..]);
     let length = answer.length;

@@ -4,31 +4,34 @@ const LESS: usize = saving::FILE - 1;
 
 const LAST_COORDINATE: usize = mesh::POINT_NUMBERS - 1;
 
+const LAST_TEXTURE: usize = mesh::TEXEL_NUMBERS - 1;
+
 const LAST: usize = mesh::FACES - 1;
 
 fn main() {
     let mut less = [b'.'; LESS];
-    let refused = write(0.5, &mut less);
+    let refused = write(0.5, 0.5, &mut less);
     show(b"one byte short", refused, untouched(&less) as u64);
-    let broken = write(0.0 / 0.0, &mut less);
+    let broken = write(0.0 / 0.0, 0.5, &mut less);
     show(b"one byte short, a NaN", broken, untouched(&less) as u64);
     let mut file = [b'.'; saving::FILE];
-    let endless = write(-1.0 / 0.0, &mut file);
+    let endless = write(0.5, -1.0 / 0.0, &mut file);
     show(
-        b"with its room, an infinity",
+        b"with its room, a texture point at infinity",
         endless,
         untouched(&file) as u64,
     );
-    let written = write(0.5, &mut file);
+    let written = write(0.5, 0.5, &mut file);
     show(b"with its room", written, untouched(&file) as u64);
     read(&file);
 }
 
-// 1,364 triangles and a quadrangle are 4,096 corners. The last coordinate of positions and normals is x.
-fn write(x: f64, out: &mut [u8]) -> saving::Saved {
+// 1,364 triangles and a quadrangle are 4,096 corners. The last coordinate of positions and normals is x, that of texture points u.
+fn write(x: f64, u: f64, out: &mut [u8]) -> saving::Saved {
     let mut points = [0.5; mesh::POINT_NUMBERS];
     points[LAST_COORDINATE] = x;
-    let textures = [0.5; mesh::TEXEL_NUMBERS];
+    let mut textures = [0.5; mesh::TEXEL_NUMBERS];
+    textures[LAST_TEXTURE] = u;
     let corners = [0u32; mesh::CORNER_NUMBERS];
     let mut sizes = [3u32; mesh::FACES];
     sizes[LAST] = 4;

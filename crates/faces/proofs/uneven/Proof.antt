@@ -1,4 +1,4 @@
--- `faces::uneven` meets its contract; the sum of at most 1,365 sizes does not wrap. Assumes nothing.
+-- `faces::uneven` meets its contract; the sum of the sizes, no more than the limit, does not wrap. Assumes nothing.
 use mathlib.Core.Path.{_≡_, ap, _∙_}
 use mathlib.Core.Bool.{not}
 use Prim.Native.Nat.{ℕ, _*_}

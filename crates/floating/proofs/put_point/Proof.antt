@@ -4,7 +4,7 @@ use native.Mathlib.Omega.{arith}
 use lib.ListN.{length-set}
 use denote.Ref.{now}
 use borrow.Author.Needs.{needs}
-use Rattle.floating.proofs.Boxes.{put-three}
+use Rattle.lists.proofs.Stores.{three-stores}
 use Rattle.floating.proofs.put_point.Statement.{statement}
 use Rattle.floating.proofs.put_point.Tie as tie
 
@@ -39,7 +39,9 @@ same-length : tie.Need-same-length
 same-length c = search needs
 
 returns : tie.Need-returns
-returns c = put-three (c .args .p) (now (c .args .out)) (3 * c .args .i)
+returns c =
+    let p = c .args .p in
+    three-stores (now (c .args .out)) (3 * c .args .i) (p .x) (p .y) (p .z)
 
 pub put-point-spec : {M : Type 1} → statement M
 put-point-spec =

@@ -75,7 +75,8 @@ loop-again c =
     let loop-test = c .before .before .before .before .before .before .before .loop-test in
     let loop = c .before .before .before .before .before .before .before .before .loop in
     let put-hem = c .before .before .put-hem in
-    rw (wide .ensures) (hemming-turns _ _ _ _ _ _ _ _ _ _ (loop-test .taken) (loop .inv) (rw (wide .ensures) at (put-hem .ensures)))
+    hemming-turns _ _ _ _ _ _ _ _ _ _ _ (loop-test .taken) (omega (arith, wide .ensures)) (loop .inv)
+    (rw (wide .ensures) at (put-hem .ensures))
 
 same-length : tie.Need-same-length Inv-loop μ-loop
 same-length c = written-long _ _ _ _ _ (c .before .loop .inv .listing .put)

@@ -7,7 +7,8 @@ use denote.Ref.{now}
 use borrow.Author.Needs.{needs}
 use Rattle.mesh.specs.Limits.{entryLimit}
 use Rattle.mesh.specs.Mesh.{Mesh, meshOf}
-use Rattle.merging.proofs.Whole.{positions-ready, positions-few, textures-ready, normals-ready, corners-ready, accepted-call}
+use Rattle.together.proofs.Ready.{positions-ready, positions-few, textures-ready, normals-ready, corners-ready}
+use Rattle.together.proofs.Whole.{accepted-call}
 use Rattle.merging.proofs.merge.Statement.{statement}
 use Rattle.merging.proofs.merge.Tie as tie
 

@@ -6,7 +6,7 @@ use lib.ListN.{length-replicate}
 use denote.Ref.{now}
 use borrow.Author.Needs.{needs}
 use Rattle.mesh.specs.Limits.{entryLimit}
-use Rattle.merging.proofs.Settling.{settled-as}
+use Rattle.together.proofs.Settling.{settled-as}
 use Rattle.merging.proofs.merge_groups.Statement.{statement}
 use Rattle.merging.proofs.merge_groups.Tie as tie
 

@@ -7,7 +7,7 @@ use lib.ListN.{length, take, replicate, length-replicate}
 use denote.Ref.{now}
 use borrow.Author.Needs.{needs}
 use Rattle.mesh.specs.Limits.{pointNumbers}
-use Rattle.merging.proofs.OneList.{fits, cells-are, listed, pairs-are, settled-are}
+use Rattle.together.proofs.OneList.{fits, cells-are, listed, pairs-are, settled-are}
 use Rattle.nearby.specs.Engine.{cellsOf}
 use Rattle.merging.proofs.merge_list.Statement.{statement}
 use Rattle.merging.proofs.merge_list.Tie as tie

@@ -9,7 +9,7 @@ use denote.Ref.{now}
 use borrow.Author.Needs.{needs}
 use Rattle.mesh.specs.Limits.{pointNumbers}
 use Rattle.floating.specs.Scaling.{scaledList}
-use Rattle.merging.proofs.Scaling.{none-merged, whole, scaled-are, mergeable, merged-are}
+use Rattle.together.proofs.Scaling.{none-merged, whole, scaled-are, mergeable, merged-are}
 use Rattle.merging.proofs.merge_positions.Statement.{statement}
 use Rattle.merging.proofs.merge_positions.Tie as tie
 

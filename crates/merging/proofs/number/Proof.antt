@@ -3,8 +3,8 @@ use mathlib.Core.Path.{sym, _∙_}
 use denote.Ref.{now}
 use borrow.Author.Needs.{needs}
 use Rattle.mesh.specs.Mesh.{meshOf}
-use Rattle.merging.specs.Merging.{anyBoundless, anyDistant}
-use Rattle.merging.proofs.Numbers.{by-mesh, by-6, by-7, by-8, by-9, by-0}
+use Rattle.together.specs.Merging.{anyBoundless, anyDistant}
+use Rattle.together.proofs.Numbers.{by-mesh, by-6, by-7, by-8, by-9, by-0}
 use Rattle.merging.proofs.number.Statement.{statement}
 use Rattle.merging.proofs.number.Tie as tie
 

@@ -3,7 +3,7 @@ use mathlib.Core.Path.{sym, _∙_}
 use denote.Ref.{now}
 use borrow.Author.Needs.{needs}
 use Rattle.mesh.specs.Mesh.{meshOf}
-use Rattle.merging.proofs.Whole.{refused}
+use Rattle.together.proofs.Whole.{refused}
 use Rattle.merging.proofs.put_together_same_attrs.Statement.{statement}
 use Rattle.merging.proofs.put_together_same_attrs.Tie as tie
 

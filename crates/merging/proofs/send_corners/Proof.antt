@@ -5,7 +5,7 @@ use native.Mathlib.Omega.{arith}
 use lib.ListN.{length, length-set}
 use denote.Ref.{now}
 use Rattle.mesh.specs.Limits.{width}
-use Rattle.merging.proofs.Corners.{Writing, Inside, write-inside, write-begins, write-turns, write-ends}
+use Rattle.together.proofs.Corners.{Writing, Inside, write-inside, write-begins, write-turns, write-ends}
 use Rattle.merging.proofs.send_corners.Statement.{statement}
 use Rattle.merging.proofs.send_corners.Tie as tie
 

@@ -1,7 +1,7 @@
 -- `merging::sent` meets its contract, by the laws of `Corners`. Assumes nothing.
 use denote.Ref.{now}
 use borrow.Author.Needs.{needs}
-use Rattle.merging.proofs.Corners.{sent-missing, sent-other}
+use Rattle.together.proofs.Corners.{sent-missing, sent-other}
 use Rattle.merging.proofs.sent.Statement.{statement}
 use Rattle.merging.proofs.sent.Tie as tie
 

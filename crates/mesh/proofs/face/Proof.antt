@@ -29,10 +29,14 @@ offset-requires : tie.Need-offset-requires
 offset-requires c κs = (omega arith, sound _ (shaped _ (sym (c .before .shape-number .ensures) ∙ omega (arith, c .if2 .left))) .few)
 
 face-at-requires : tie.Need-face-at-requires
-face-at-requires c κs = record { sound = sound _ (shaped _ (sym (c .before .before .shape-number .ensures) ∙ c .before .if2 .left)); is-face = c .before .before .before .if1 .left; offset = c .offset .ensures .0 }
+face-at-requires c κs =
+    let shape = sym (c .before .before .shape-number .ensures) ∙ c .before .if2 .left in
+    record { sound = sound _ (shaped _ shape); is-face = c .before .before .before .if1 .left; offset = c .offset .ensures .0 }
 
 returns-3 : tie.Need-returns-3
-returns-3 c = c .face-at .ensures ∙ a-face _ _ (c .before .before .before .before .if1 .left) (sym (c .before .before .before .shape-number .ensures) ∙ c .before .before .if2 .left)
+returns-3 c =
+    let shape = sym (c .before .before .before .shape-number .ensures) ∙ c .before .before .if2 .left in
+    c .face-at .ensures ∙ a-face _ _ (c .before .before .before .before .if1 .left) shape
 
 pub face-spec : {M : Type 1} → statement M
 face-spec =

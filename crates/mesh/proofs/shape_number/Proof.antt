@@ -25,18 +25,34 @@ misfit-requires c κs = search needs
 
 returns-3 : tie.Need-returns-3
 unfolding shapeNumber misfit
-returns-3 c = rw (sym (c .before .before .before .before .before .over-limits .ensures) ∙ c .before .before .before .before .if1 .left, sym (c .before .before .before .uneven .ensures) ∙ c .before .before .if2 .left, sym (c .before .misfit .ensures) ∙ c .if3 .taken)
+returns-3 c =
+    let over = sym (c .before .before .before .before .before .over-limits .ensures) ∙ c .before .before .before .before .if1 .left in
+    let odd = sym (c .before .before .before .uneven .ensures) ∙ c .before .before .if2 .left in
+    let size = sym (c .before .misfit .ensures) ∙ c .if3 .taken in
+    rw (over, odd, size)
 
 ungrouped-requires : tie.Need-ungrouped-requires
 ungrouped-requires c κs = search needs
 
 returns-4 : tie.Need-returns-4
 unfolding shapeNumber misfit ungrouped
-returns-4 c = rw (sym (c .before .before .before .before .before .before .before .over-limits .ensures) ∙ c .before .before .before .before .before .before .if1 .left, sym (c .before .before .before .before .before .uneven .ensures) ∙ c .before .before .before .before .if2 .left, sym (c .before .before .before .misfit .ensures) ∙ c .before .before .if3 .left, sym (c .before .ungrouped .ensures) ∙ c .if4 .taken)
+returns-4 c =
+    let at = c .before .before .before .before .before .before in
+    let over = sym (at .before .over-limits .ensures) ∙ at .if1 .left in
+    let odd = sym (c .before .before .before .before .before .uneven .ensures) ∙ c .before .before .before .before .if2 .left in
+    let size = sym (c .before .before .before .misfit .ensures) ∙ c .before .before .if3 .left in
+    let group = sym (c .before .ungrouped .ensures) ∙ c .if4 .taken in
+    rw (over, odd, size, group)
 
 returns-5 : tie.Need-returns-5
 unfolding shapeNumber misfit ungrouped
-returns-5 c = rw (sym (c .before .before .before .before .before .before .before .over-limits .ensures) ∙ c .before .before .before .before .before .before .if1 .left, sym (c .before .before .before .before .before .uneven .ensures) ∙ c .before .before .before .before .if2 .left, sym (c .before .before .before .misfit .ensures) ∙ c .before .before .if3 .left, sym (c .before .ungrouped .ensures) ∙ c .if4 .left)
+returns-5 c =
+    let at = c .before .before .before .before .before .before in
+    let over = sym (at .before .over-limits .ensures) ∙ at .if1 .left in
+    let odd = sym (c .before .before .before .before .before .uneven .ensures) ∙ c .before .before .before .before .if2 .left in
+    let size = sym (c .before .before .before .misfit .ensures) ∙ c .before .before .if3 .left in
+    let group = sym (c .before .ungrouped .ensures) ∙ c .if4 .left in
+    rw (over, odd, size, group)
 
 pub shape-number-spec : {M : Type 1} → statement M
 shape-number-spec =

@@ -38,9 +38,13 @@ mul-result c = search needs
 returns-5 : tie.Need-returns-5
 unfolding uneven
 returns-5 c =
-    let e : c .offset .result ≡ sum (c .before .before .before .before .before .before .before .before .before .before .args .sizes .now) = c .offset .ensures .0 ∙ ap sum (take-length (c .before .before .before .before .before .before .before .before .before .before .args .sizes .now)) in
-    rw (eq-eqb _ _ (c .before .before .before .before .if1 .left), eq-eqb _ _ (c .before .before .before .if2 .left), eq-eqb _ _ (c .before .before .if3 .left), eq-eqb _ _ (c .before .if4 .left))
-    (ap (λ (n : ℕ). not (eqb (width * n) (length (c .before .before .before .before .before .before .before .before .before .before .args .corners .now)))) e)
+    let given = c .before .before .before .before .before .before .before .before .before .before .args in
+    let adds : c .offset .result ≡ sum (given .sizes .now) = c .offset .ensures .0 ∙ ap sum (take-length (given .sizes .now)) in
+    let positions = eq-eqb _ _ (c .before .before .before .before .if1 .left) in
+    let textures = eq-eqb _ _ (c .before .before .before .if2 .left) in
+    let normals = eq-eqb _ _ (c .before .before .if3 .left) in
+    let corners = eq-eqb _ _ (c .before .if4 .left) in
+    rw (positions, textures, normals, corners) (ap (λ (n : ℕ). not (eqb (width * n) (length (given .corners .now)))) adds)
 
 pub uneven-spec : {M : Type 1} → statement M
 uneven-spec =

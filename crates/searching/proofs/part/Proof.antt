@@ -1,6 +1,6 @@
 -- `searching::part` meets its contract: it is `part_in` with the fronts of rows of fixed length. Assumes nothing.
 use mathlib.Core.Path.{refl, sym}
-use Rattle.searching.proofs.Rows.{entry-row, face-row, clear-row, divisible-at, parted-at}
+use Rattle.connected.proofs.Rows.{entry-row, face-row, clear-row, divisible-at, parted-at}
 use borrow.Author.Needs.{needs}
 use Rattle.searching.proofs.part.Statement.{statement}
 use Rattle.searching.proofs.part.Tie as tie

@@ -1,5 +1,5 @@
 -- `searching::part_in` meets its contract: the entries are sorted by face, and then all is ready for the panels. Assumes nothing.
-use Rattle.searching.proofs.Rows.{entries-ready, panels-ready, parted-at}
+use Rattle.connected.proofs.Rows.{entries-ready, panels-ready, parted-at}
 use native.Mathlib.Omega.{arith}
 use borrow.Author.Needs.{needs}
 use Rattle.searching.proofs.part_in.Statement.{statement}

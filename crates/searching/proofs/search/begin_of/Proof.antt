@@ -1,5 +1,5 @@
 -- `searching::search::begin_of` meets its contract: by whether there is a face before. Assumes nothing.
-use Rattle.searching.proofs.Walking.{begin-zero, begin-suc}
+use Rattle.connected.proofs.Walking.{begin-zero, begin-suc}
 use borrow.Author.Needs.{needs}
 use Rattle.searching.proofs.search.begin_of.Statement.{statement}
 use Rattle.searching.proofs.search.begin_of.Tie as tie

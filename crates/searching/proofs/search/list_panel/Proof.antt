@@ -1,5 +1,5 @@
 -- `searching::search::list_panel` meets its contract: face i is in a panel, or its panel is listed behind those that are. Assumes nothing.
-use Rattle.searching.proofs.Listed.{panel-stays, panel-new, panel-grows}
+use Rattle.connected.proofs.Listed.{panel-stays, panel-new, panel-grows}
 use borrow.Author.Needs.{needs}
 use Rattle.searching.proofs.search.list_panel.Statement.{statement}
 use Rattle.searching.proofs.search.list_panel.Tie as tie

@@ -2,7 +2,7 @@
 use mathlib.Core.Path.{sym, ap, _∙_}
 use lib.ListN.{length-replicate, length}
 use Prim.Native.Nat.{_-_}
-use Rattle.searching.proofs.Listed.{PanellingOn, list-begins, list-turns, list-ends}
+use Rattle.connected.proofs.Listed.{PanellingOn, list-begins, list-turns, list-ends}
 use borrow.Author.Needs.{needs}
 use Rattle.searching.proofs.search.list_panels.Statement.{statement}
 use Rattle.searching.proofs.search.list_panels.Tie as tie

@@ -1,9 +1,9 @@
 -- `searching::search::look` meets its contract: after the entries before p, a look through what is left leads where the whole leads. Assumes nothing.
 use mathlib.Core.Path.{ap, _∙_}
-use Rattle.searching.specs.Walk.{otherEnd, stateOf}
+use Rattle.connected.specs.Walk.{otherEnd, stateOf}
 use Prim.Native.Nat.{_-_}
 use lib.ListN.{length}
-use Rattle.searching.proofs.Walking.{relisted, other-below, LookingOn, look-begins, look-turns, look-ends}
+use Rattle.connected.proofs.Walking.{relisted, other-below, LookingOn, look-begins, look-turns, look-ends}
 use borrow.Author.Needs.{needs}
 use native.Mathlib.Omega.{arith}
 use Rattle.searching.proofs.search.look.Statement.{statement}

@@ -1,5 +1,5 @@
 -- `searching::search::other_end` meets its contract: by which of the two faces of its join the entry is. Assumes nothing.
-use Rattle.searching.proofs.Walking.{other-even, other-odd}
+use Rattle.connected.proofs.Walking.{other-even, other-odd}
 use borrow.Author.Needs.{needs}
 use Rattle.searching.proofs.search.other_end.Statement.{statement}
 use Rattle.searching.proofs.search.other_end.Tie as tie

@@ -1,5 +1,5 @@
 -- `searching::search::pop` meets its contract: the face on top is one of the faces, and its part of the row stands for its neighbours. Assumes nothing.
-use Rattle.searching.proofs.Popping.{top-below, pop-looks, pop-steps}
+use Rattle.connected.proofs.Popping.{top-below, pop-looks, pop-steps}
 use native.Mathlib.Omega.{arith}
 use borrow.Author.Needs.{needs}
 use Rattle.searching.proofs.search.pop.Statement.{statement}

@@ -3,11 +3,11 @@
 use mathlib.Core.List.{[]}
 use Prim.Native.Nat.{_+_, _-_}
 use lib.ListN.{length, take}
-use Rattle.searching.specs.Search.{searchFrom}
-use Rattle.searching.specs.Joins.{joinsOf}
-use Rattle.searching.specs.Walk.{stackOf}
-use Rattle.searching.proofs.Walking.{relisted, restepped}
-use Rattle.searching.proofs.Popping.{SeekingOn, seek-begins, seek-falls, seek-turns, search-finds}
+use Rattle.connected.specs.Search.{searchFrom}
+use Rattle.connected.specs.Joins.{joinsOf}
+use Rattle.connected.specs.Walk.{stackOf}
+use Rattle.connected.proofs.Walking.{relisted, restepped}
+use Rattle.connected.proofs.Popping.{SeekingOn, seek-begins, seek-falls, seek-turns, search-finds}
 use borrow.Author.Needs.{needs}
 use native.Mathlib.Omega.{arith}
 use Rattle.searching.proofs.search.search.Statement.{statement}

@@ -1,5 +1,5 @@
 -- `searching::search::visit` meets its contract: by the mark of the face: it is listed, or it is listed and pushed now. Assumes nothing.
-use Rattle.searching.proofs.Walking.{skips-at, fits-at, pushes-at}
+use Rattle.connected.proofs.Walking.{skips-at, fits-at, pushes-at}
 use borrow.Author.Needs.{needs}
 use Rattle.searching.proofs.search.visit.Statement.{statement}
 use Rattle.searching.proofs.search.visit.Tie as tie

@@ -1,4 +1,4 @@
--- `try_faces::part_differs` is safe and ends: the measure is what is left of the part. Assumes nothing.
+-- `try_replay::by_faces::part_differs` is safe and ends: the measure is what is left of the part. Assumes nothing.
 use Prim.Native.Nat.{_-_}
 use lib.ListN.{length}
 use borrow.Author.Needs.{needs}

@@ -1,4 +1,4 @@
--- `try_answers::lent::fill` is safe and ends: the list keeps its length, which the end does not pass; the measure is what is left up to it. Assumes nothing.
+-- `try_replay::lent::fill` is safe and ends: the list keeps its length, which the end does not pass; the measure is what is left up to it. Assumes nothing.
 use mathlib.Core.Path.{_≡_}
 use Prim.Native.Nat.{_-_}
 use lib.ListN.{length}

@@ -1,15 +1,14 @@
--- `try_answers::lent::words_differ` is safe and ends: the measure is what is left of the lent list. Assumes nothing.
+-- `try_replay::lent::words_differ` is safe and ends: the room's end does not pass what it was taken from; the measure is what is left up to it. Assumes nothing.
 use Prim.Native.Nat.{_-_}
-use lib.ListN.{length}
 use borrow.Author.Needs.{needs}
 use Rattle.try_replay.proofs.lent.words_differ.Statement.{statement}
 use Rattle.try_replay.proofs.lent.words_differ.Tie as tie
 
 abbrev Inv-loop : tie.InvT-loop
-Inv-loop got list room at n i₀ i = Unit {0}
+Inv-loop got list room end at n i₀ i = Unit {0}
 
 abbrev μ-loop : tie.MeasureT-loop
-μ-loop got list room at n i₀ i = length got - i
+μ-loop got list room end at n i₀ i = end - i
 
 is-unlike-requires : tie.Need-is-unlike-requires Inv-loop μ-loop
 is-unlike-requires c κs = search needs
@@ -17,11 +16,17 @@ is-unlike-requires c κs = search needs
 returns : tie.Need-returns Inv-loop μ-loop
 returns c = search needs
 
+count-requires : tie.Need-count-requires Inv-loop μ-loop
+count-requires c κs = search needs
+
+lesser-requires : tie.Need-lesser-requires Inv-loop μ-loop
+lesser-requires c κs = search needs
+
 plus-requires : tie.Need-plus-requires Inv-loop μ-loop
 plus-requires c κs = search needs
 
-count-requires : tie.Need-count-requires Inv-loop μ-loop
-count-requires c κs = search needs
+count-requires-2 : tie.Need-count-requires-2 Inv-loop μ-loop
+count-requires-2 c κs = search needs
 
 loop-holds : tie.Need-loop-holds Inv-loop μ-loop
 loop-holds c = search needs
@@ -58,8 +63,10 @@ words-differ-spec =
     μ-loop
     is-unlike-requires
     returns
-    plus-requires
     count-requires
+    lesser-requires
+    plus-requires
+    count-requires-2
     loop-holds
     mul-if2
     shared-slice-read-if2

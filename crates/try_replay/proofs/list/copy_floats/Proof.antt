@@ -1,4 +1,4 @@
--- `try_answers::list::copy_floats` is safe and ends: as `copy_words`, for f64. Assumes nothing.
+-- `try_replay::list::copy_floats` is safe and ends: as `copy_words`, for f64. Assumes nothing.
 use mathlib.Core.Path.{_≡_}
 use Prim.Native.Nat.{_-_}
 use lib.ListN.{length}

@@ -1,0 +1,12 @@
+pub mod Centres
+pub mod Sending
+pub mod Settling
+pub mod OneList
+pub mod Numbers
+pub mod Corners
+pub mod Scaling
+pub mod Ready
+pub mod Whole
+pub mod Joined
+pub mod Nearest
+pub mod Representatives

@@ -1,0 +1,10 @@
+pub mod SameEdge
+pub mod Ascending
+pub mod HemUses
+pub mod OnlyHems
+pub mod Reordered
+pub mod Rings
+pub mod EachEdge
+pub mod Keys
+pub mod OfHems
+pub mod Closing
