@@ -18,15 +18,15 @@
 
    WHAT A CALL ANSWERS. A number of 'enum bh_number': 0 and the whole result, or the first number of the table that applies and
    nothing: then no lent list is touched, and each count is 0. On 0 the result stands at the front of each lent list, and the room
-   behind it is as it was. Calls check in ascending order of number, but that 14 comes before 9, and that those on a file have an order of
-   their own. Any call on a mesh may answer 1 to 5; what else it may answer stands with it. Coordinates that are not finite are a mesh's own
-   affair until it is merged (7) or written (14).
+   behind it is as it was. Calls check in ascending order of number, but that 14 comes before 9, and that smoothing and those on a file have
+   an order of their own. Any call on a mesh may answer 1 to 5; what else it may answer stands with it. Coordinates that are not finite are a mesh's own
+   affair until it is merged or smoothed (7) or written (14).
 
    MEMORY. No call allocates, and none keeps anything: there are no statics, so calls may run side by side, each with lists of its own to
    write; lists that are only read may be shared. A lent list need not be initialised. What a call needs beside its lists is stack, in KB
    of 1,024 bytes, measured on x86-64 by tools/measure_stack, which also holds these figures to the library; none is proved:
-     bh_clean_panel 604, bh_sheet 568, bh_components 200, bh_read_panel 192, bh_put_together_same_attrs 192, bh_extract_boundaries 164,
-     bh_house_wires 164, bh_shell_condition 104, bh_hem_edges 104, bh_remove_degenerate_faces 76, bh_remove_unused_attrs 32, bh_push 4,
+     bh_sheet 568, bh_clean_panel 556, bh_loop_subdivision 272, bh_components 200, bh_read_panel 192, bh_put_together_same_attrs 192,
+     bh_extract_boundaries 164, bh_house_wires 164, bh_shell_condition 104, bh_hem_edges 104, bh_remove_degenerate_faces 76, bh_remove_unused_attrs 32, bh_push 4,
      bh_write_panel 4, bh_mesh_number 4, bh_face 4
 
    What is promised is proved for every input: each call's contract stands in crates/barleyhinge/src/lib.rt. */
@@ -35,9 +35,9 @@
 
 /* The version of this interface. */
 #define BH_VERSION_MAJOR 0
-#define BH_VERSION_MINOR 5
+#define BH_VERSION_MINOR 6
 #define BH_VERSION_PATCH 0
-#define BH_VERSION "0.5.0"
+#define BH_VERSION "0.6.0"
 
 #include <stdbool.h>
 #include <stddef.h>
@@ -56,6 +56,7 @@ enum bh_limit {
     BH_MAX_CORNERS = 4096,
     BH_MAX_FACES = 1365,
     BH_MAX_FACE_CORNERS = 32,
+    BH_COSINES = 64,      /* values in a list of cosines, and the most neighbours of a position that is smoothed */
     BH_MAX_FILE = 65536,  /* bytes of a panel file that has a sheet; of a longer one the sheet is 'refused 1' */
     BH_SHEET_ROOM = 65536, /* bytes: room for every sheet */
     BH_FILE_ROOM = 211629  /* bytes: room for every panel file that a mesh can make, all of its lists at their limits */
@@ -64,7 +65,7 @@ enum bh_limit {
 /* The numbers that calls return. */
 enum bh_number {
     BH_DONE = 0,
-    BH_OVER_LIMIT = 1,      /* a list is over its limit */
+    BH_OVER_LIMIT = 1,      /* a list is over its limit, or would be in what smoothing gives */
     BH_MISFIT = 2,          /* a length is no multiple of its width, or the sizes don't add up to the corners */
     BH_FACE_SIZE = 3,       /* a face size lies outside 3 to 32 */
     BH_UNGROUPED = 4,       /* the sizes aren't grouped: triangles, quadrangles, larger faces */
@@ -73,11 +74,14 @@ enum bh_number {
     BH_COORDINATE = 7,      /* a coordinate is not finite, or its magnitude is above 2^60 */
     BH_QUOTIENT = 8,        /* a texture or normal coordinate divided by the tolerance has magnitude 2^53 or more */
     BH_ROOM = 9,            /* a lent list is shorter than its stated room */
-    BH_NO_HOUSE_WIRES = 10, /* house wires where the verdict is neither Oriented nor Closed */
+    BH_NO_HOUSE_WIRES = 10, /* house wires, or smoothing, where the verdict is neither Oriented nor Closed */
     BH_FILE_CUT = 11,       /* the file stops inside a record, or before its end record */
     BH_RECORD = 12,         /* a record's kind is unknown, or its length is wrong for its kind */
     BH_AFTER_END = 13,      /* bytes follow the end record */
-    BH_NOT_FINITE = 14      /* a coordinate in a file is not finite: not a number, or an infinity */
+    BH_NOT_FINITE = 14,     /* a coordinate in a file is not finite: not a number, or an infinity */
+    BH_NOT_TRIANGLE = 15,   /* smoothing: a face isn't a triangle */
+    BH_FOLDED_OR_UNUSED = 16, /* smoothing: a face is folded, or a position is in no face */
+    BH_UNFIT_COSINES = 17   /* smoothing: a cosine list isn't 64 long or holds a value not within -1 to 1, or a position has over 64 neighbours */
 };
 
 /* The verdicts, from the weakest to the strongest. */
@@ -101,11 +105,14 @@ static inline const char *bh_text(uint32_t number) {
     case BH_COORDINATE: return "a coordinate is not finite or too large";
     case BH_QUOTIENT: return "a coordinate is too large for the tolerance";
     case BH_ROOM: return "a lent list is too short";
-    case BH_NO_HOUSE_WIRES: return "house wires where the verdict is neither Oriented nor Closed";
+    case BH_NO_HOUSE_WIRES: return "the verdict is neither Oriented nor Closed";
     case BH_FILE_CUT: return "the file stops too early";
     case BH_RECORD: return "a record's kind is unknown, or its length is wrong";
     case BH_AFTER_END: return "bytes follow the end record";
     case BH_NOT_FINITE: return "a coordinate in a file is not finite";
+    case BH_NOT_TRIANGLE: return "a face isn't a triangle";
+    case BH_FOLDED_OR_UNUSED: return "a face is folded, or a position is in no face";
+    case BH_UNFIT_COSINES: return "a cosine list isn't 64 long or holds a value not within -1 to 1, or a position has over 64 neighbours";
     default: return "no number of the table";
     }
 }
@@ -209,6 +216,32 @@ uint32_t bh_put_together_same_attrs(
     size_t *positionpairs,
     size_t *texturepairs,
     size_t *normalpairs);
+
+/* Smoothing by Loop's method: four triangles for one, with new positions. Every face is a triangle, none is folded, every position is in
+   some face, and the verdict is Oriented or Closed. Old positions are moved and come first, then one new position for each edge, in the
+   order of the edges' first use. Old corners keep their texture point and normal; the corners on edges have neither (BH_MISSING).
+   'ones' are the cosines of pi/n and 'twos' those of 2*pi/n, for n from 1 to BH_COSINES: ones[n - 1] is cos(pi / n).
+   Lends 'newpositions', with room for 3 numbers for each position and each corner (positions_len + corners_len), 'newcorners', with room
+   for 4 * corners_len numbers, and 'newsizes', with room for 4 * sizes_len. Texture points and normals don't change and are not given back.
+   On 0: 3 numbers for each of '*positioncount' positions, 3 for each of '*cornercount' corners, and '*facecount' sizes: with the texture
+   points and normals that were given, an accepted mesh.
+   Answers, after 1 to 5 and in this order: 7 a position is not finite or too large; 15 a face is no triangle; 16 a face is folded or a
+   position is in no face; 10 the verdict is neither Oriented nor Closed; 17 a cosine list has not BH_COSINES values, each from -1 to 1, or a
+   position has more neighbours than that; 1 there are more than 341 faces, so that the result would be over a limit; 9. */
+uint32_t bh_loop_subdivision(
+    const double *positions, size_t positions_len,
+    const double *textures, size_t textures_len,
+    const double *normals, size_t normals_len,
+    const uint32_t *corners, size_t corners_len,
+    const uint32_t *sizes, size_t sizes_len,
+    const double *ones, size_t ones_len,
+    const double *twos, size_t twos_len,
+    double *newpositions, size_t newpositions_len,
+    uint32_t *newcorners, size_t newcorners_len,
+    uint32_t *newsizes, size_t newsizes_len,
+    size_t *positioncount,
+    size_t *cornercount,
+    size_t *facecount);
 
 /* The verdict, a number of 'enum bh_verdict', by counting every use of every edge. It is written only with 0. */
 uint32_t bh_shell_condition(

@@ -19,6 +19,7 @@ READING = "crates/panelfile/specs/Reading.antt"
 LINES = "crates/lines/specs/Lines.antt"
 PIECES = "crates/saving/specs/Pieces.antt"
 SAVING = "crates/saving/specs/Answer.antt"
+SMOOTHED = "crates/smoothed/specs/Refusals.antt"
 WRITER = "crates/saving/src/lib.rt"
 CLEANING = "crates/cleanfile/specs/Cleaning.antt"
 SHEET = "crates/sheet/specs/Sheet.antt"
@@ -26,6 +27,8 @@ SHEET_CONSTS = "crates/sheet/src/lib.rt"
 ANSWERS = "crates/answers/specs/Answers.antt"
 FACES = "crates/faces/specs/Faces.antt"
 FOLDED = "crates/folded/specs/Folded.antt"
+FOURFOLD = "crates/smoothed/specs/Smoothed.antt"
+SMOOTHABLE = "crates/smoothable/src/lib.rt"
 EDGES = "crates/edges/specs/Answers.antt"
 PANELS = "crates/panels/specs/Contract.antt"
 REPLAY = "crates/try_replay/src/tally.rt"
@@ -33,8 +36,7 @@ DAMAGED = "crates/try_damaged/src/main.rt"
 ORACLE = "oracle/judge/src/reading/numbers.rs"
 SOURCES = (
     LIMITS, CONSTS, MESH, TABLE, COMPACTION, MERGING, PORTED, HOUSE, RECORDS, READING, PIECES, SAVING, WRITER, CLEANING, LINES, SHEET, SHEET_CONSTS, ANSWERS,
-    FACES, FOLDED,
-    EDGES, PANELS, REPLAY, DAMAGED, ORACLE,
+    FACES, FOLDED, SMOOTHED, FOURFOLD, SMOOTHABLE, EDGES, PANELS, REPLAY, DAMAGED, ORACLE,
 )
 
 
@@ -51,6 +53,7 @@ LIMIT_PLACES = {
     "MAX_CORNERS": ((LIMITS, r"^cornerLimit = (\d+)$"), (CONSTS, r"const CORNERS: usize = (\d+);")),
     "MAX_FACES": ((LIMITS, r"^faceLimit = (\d+)$"), (CONSTS, r"const FACES: usize = (\d+);")),
     "MAX_FACE_CORNERS": ((LIMITS, r"^ringLimit = (\d+)$"), (CONSTS, r"const RING: usize = (\d+);")),
+    "COSINES": ((SMOOTHED, r"^cosineCount = (\d+)$"), (SMOOTHABLE, r"const COSINES: usize = (\d+);")),
     "MAX_FILE": ((SHEET, r"^fileLimit = (\d+)$"), (SHEET_CONSTS, r"const FILE: usize = (\d+);")),
     "SHEET_ROOM": ((LINES, r"^sheetRoom = (\d+)$"), (SHEET_CONSTS, r"const ROOM: usize = (\d+);")),
 }
@@ -74,9 +77,18 @@ NUMBER_ROWS = {
     ("RECORD", "Record"): (RECORDS, r"when \(ltb lastKind kind\) (\d+)"),
     ("AFTER_END", "AfterEnd"): (READING, r"when \(ltb \(x \.at\) \(length s\)\) (\d+)"),
     ("NOT_FINITE", "NotFinite"): (RECORDS, r"when \(not \(every finite \(valuesOf r\)\)\) (\d+)"),
+    ("NOT_TRIANGLE", "NotTriangle"): (SMOOTHED, r"when \(otherFace m\) (\d+)"),
+    ("FOLDED_OR_UNUSED", "FoldedOrUnused"): (SMOOTHED, r"when \(foldedOrIdle m\) (\d+)"),
+    ("UNFIT_COSINES", "UnfitCosines"): (SMOOTHED, r"when \(unfitCosines m ones twos\) (\d+)"),
 }
-# The writer's own row of a number that the reader gives too.
-WRITER_ROWS = {"NOT_FINITE": (SAVING, r"when \(not \(finiteMesh m\)\) (\d+)")}
+# The rows of other calls that give one of these numbers too, by a rule of their own.
+OTHER_ROWS = {
+    "NOT_FINITE": (SAVING, r"when \(not \(finiteMesh m\)\) (\d+)"),
+    "COORDINATE": (SMOOTHED, r"when \(boundlessPosition m\) (\d+)"),
+    "NO_HOUSE_WIRES": (SMOOTHED, r"when \(unoriented m\) (\d+)"),
+    "OVER_LIMIT": (SMOOTHED, r"when \(overLimits \(resultOf m ones twos\)\) (\d+)"),
+    "ROOM": (SMOOTHED, r"when \(tooShort m r\) (\d+)"),
+}
 # Where it is said how many numbers there are, 0 among them.
 COUNTS = {path: r"^(?:pub )?const NUMBERS: \w+ = (\d+);$" for path in (REPLAY, DAMAGED, ORACLE)}
 VERDICTS = ("Irregular", "Regular", "Oriented", "Closed")
@@ -87,6 +99,7 @@ ROOM_RULES = {
     "bh_remove_unused_attrs": (COMPACTION, "tooShort"),
     "bh_remove_degenerate_faces": (FOLDED, "tooShort"),
     "bh_put_together_same_attrs": (MERGING, "mergeNumber"),
+    "bh_loop_subdivision": (SMOOTHED, "tooShort"),
     "bh_hem_edges": (EDGES, "hemNumber"),
     "bh_extract_boundaries": (PORTED, "portedShort"),
     "bh_house_wires": (HOUSE, "houseShort"),
@@ -138,8 +151,8 @@ def numbers_of(texts):
     """The table: C name and wrapper's name, and the number."""
     numbers = {names: only_one(texts, *row) for names, row in NUMBER_ROWS.items()}
     for (name, _), number in numbers.items():
-        if name in WRITER_ROWS and only_one(texts, *WRITER_ROWS[name]) != number:
-            raise Unreadable(f"{name}: the reader and the writer differ")
+        if name in OTHER_ROWS and only_one(texts, *OTHER_ROWS[name]) != number:
+            raise Unreadable(f"{name}: two calls differ, by {OTHER_ROWS[name][0]}")
     return numbers
 
 
@@ -195,16 +208,21 @@ def rooms_of_rule(text, name):
         _, rest = term(behind)
         room, _ = term(rest)
         list_of = r"\b(?:length|cornerCount) \((?:m|given) \.(\w+)\)"
-        rooms.append(re.sub(list_of, lambda w: f"({w[1]} / width)" if "cornerCount" in w[0] else w[1], room))
+        rooms.append(counted(re.sub(list_of, lambda w: f"({w[1]} / width)" if "cornerCount" in w[0] else w[1], room)))
     return rooms
+
+
+def counted(words):
+    """The counts of a mesh's entries in this tool's words."""
+    counts = {"positionCount m": "(positions / 3)", "textureCount m": "(textures / 2)", "normalCount m": "(normals / 3)"}
+    for rule, count in counts.items():
+        words = words.replace(rule, count)
+    return words
 
 
 def file_length(texts):
     """How long the whole file of a mesh is, by the rules, in this tool's words."""
-    counts = {"positionCount m": "(positions / 3)", "textureCount m": "(textures / 2)", "normalCount m": "(normals / 3)"}
-    words = words_at(texts, PIECES, r"^fileLength m =\s+(.*)$")
-    for rule, count in counts.items():
-        words = words.replace(rule, count)
+    words = counted(words_at(texts, PIECES, r"^fileLength m =\s+(.*)$"))
     return re.sub(r"\blength \(m \.(\w+)\)", r"\1", words)
 
 

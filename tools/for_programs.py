@@ -1,11 +1,12 @@
-"""What the tests of ./meshsheet and of ./meshclean share: the script in a copy, over a stand-in for its program and for the kit, so that
-nothing is proved; and what is the same of both, how it reads, builds and runs.
+"""What the tests of ./meshsheet, ./meshclean and ./meshround share: the script in a copy, over a stand-in for its program and for the kit, so
+that nothing is proved; and what is the same of them, how they read, build and run, and how two of them write a panel file.
 
 A test module makes a class of each base here with its own `NAME`, `PROGRAM` (the stand-in, a shell script) and `GIVEN` (text that the
 stand-in takes, and gives back as it is).
 """
 import os
 import platform
+import pty
 import shutil
 import subprocess
 import tempfile
@@ -16,6 +17,9 @@ EXAMPLES = os.path.join(ROOT, "examples")
 with open(os.path.join(ROOT, "tools", "refusals.txt"), encoding="utf-8") as words:
     # The numbers that a file can earn.
     REFUSALS = [int(line.split(" ", 1)[0]) for line in words]
+# In the place of a program that writes a panel file: it gives back what it is given; what begins with 'refused' goes to standard error, as a
+# refusal does.
+WRITER = '#!/bin/bash\nread -r -N 7 word\n[ "$word" != refused ] || exec >&2\nprintf %s "$word"\nexec cat\n'
 # In the place of the kit: it takes its time, fails where another is at work, and puts the program there.
 KIT = """#!/bin/sh
 mkdir target/working || { echo 'rt: two at once'; exit 1; }
@@ -117,6 +121,57 @@ class Reads(Copy):
         for words in (("--what",), ("a", "b")):
             status, out, told = self.run_it(*words)
             self.assertEqual((status, out, told[:6]), (2, "", "usage:"))
+
+
+class Writes(Reads):
+    """A program that writes a panel file, `WHAT` it is called; of a refused file nothing."""
+
+    def test_bytes_that_are_no_text(self):
+        file = bytes(range(1, 256)) + bytes(300) + b"\n\n"
+        self.built("#!/bin/sh\nexec cat\n")
+        done = subprocess.run([self.script], input=file, capture_output=True, env=self.environment, timeout=60)
+        self.assertEqual((done.returncode, done.stdout, done.stderr), (0, file, b""))
+
+    def test_each_refusal_has_one_sentence_and_no_output(self):
+        for number in REFUSALS:
+            status, out, told = self.run_it(text=f"refused {number}\n")
+            self.assertEqual((status, out), (1, ""))
+            self.assertRegex(told, rf"^{self.NAME}: the file is refused \({number}\): [a-z][^\n]{{20,}}\n$")
+        self.assertIn("is this a panel file?", self.run_it(text="refused 12\n")[2])
+        self.assertIn("more than 211,629 bytes", self.run_it(text="refused 1\n")[2])
+
+    def test_a_file_that_is_cut_is_not_handed_out(self):
+        self.built("#!/bin/sh\nprintf half\necho unwritten >&2\n")
+        self.assertEqual(self.run_it()[:2], (2, ""))
+
+    def test_a_program_that_dies_halfway(self):
+        self.built("#!/bin/sh\nprintf half\nkill -SEGV $$\n")
+        self.assertEqual(self.run_it()[:2], (2, ""))
+
+    def test_a_file_that_cannot_be_written(self):
+        for to in ("/dev/full", "&-"):
+            status, _, told = self.shell(f'echo a file | "$0" >{to}')
+            self.assertEqual((status, told), (2, f"{self.NAME}: the {self.WHAT} could not be written\n"))
+
+    def test_a_program_that_writes_nothing(self):
+        self.assertEqual(self.run_it(text=""), (2, "", f"{self.NAME}: the program wrote no file\n"))
+
+    def test_nothing_is_left_behind(self):
+        self.environment["TMPDIR"] = os.path.join(self.top.name, "for a while")
+        os.mkdir(self.environment["TMPDIR"])
+        for text in (self.GIVEN, "refused 12\n", ""):
+            self.run_it(text=text)
+        self.assertEqual(os.listdir(self.environment["TMPDIR"]), [])
+        os.rmdir(self.environment["TMPDIR"])
+        self.assertEqual(self.run_it()[:2], (2, ""))
+
+    def test_a_terminal_gets_no_file(self):
+        ours, theirs = pty.openpty()
+        done = subprocess.run([self.script], input=b"x", stdout=theirs, stderr=subprocess.PIPE, env=self.environment, timeout=60)
+        os.close(theirs)
+        os.close(ours)
+        self.assertEqual(done.returncode, 2)
+        self.assertTrue(done.stderr.startswith(f"{self.NAME}: the {self.WHAT} is no text".encode()), done.stderr)
 
 
 class Builds(Copy):

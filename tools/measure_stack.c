@@ -26,6 +26,7 @@ struct mesh {
 static struct mesh mesh, made;
 static uint32_t origins[BH_MAX_FACES], flat[2 * BH_MAX_CORNERS], lengths[BH_MAX_CORNERS], verdict;
 static uint8_t file[LONGEST_FILE], text[BH_SHEET_ROOM], written[BH_FILE_ROOM];
+static double ones[BH_COSINES], twos[BH_COSINES];
 static size_t file_len, a, b, c;
 
 static void nothing(void) {}
@@ -41,6 +42,9 @@ static void compaction(void) {
 }
 static void removal(void) { bh_remove_degenerate_faces(LISTS, ROOM(made.corners), ROOM(made.sizes), ROOM(origins), &a, &b); }
 static void merging(void) { bh_put_together_same_attrs(LISTS, 0.125, ROOM(made.corners), &a, &b, &c); }
+static void smoothing(void) {
+    bh_loop_subdivision(LISTS, ROOM(ones), ROOM(twos), ROOM(made.positions), ROOM(made.corners), ROOM(made.sizes), &a, &b, &c);
+}
 static void condition(void) { bh_shell_condition(LISTS, &verdict); }
 static void hems(void) { bh_hem_edges(LISTS, ROOM(flat), ROOM(lengths), &a); }
 static void ported(void) { bh_extract_boundaries(LISTS, ROOM(flat), ROOM(lengths), &a, &b); }
@@ -56,6 +60,7 @@ static struct { const char *name; void (*call)(void); size_t deepest; } calls[] 
     {"bh_mesh_number", number, 0},       {"bh_face", face, 0},
     {"bh_push", push, 0},                {"bh_remove_unused_attrs", compaction, 0},
     {"bh_remove_degenerate_faces", removal, 0}, {"bh_put_together_same_attrs", merging, 0},
+    {"bh_loop_subdivision", smoothing, 0},
     {"bh_shell_condition", condition, 0}, {"bh_hem_edges", hems, 0},
     {"bh_extract_boundaries", ported, 0}, {"bh_house_wires", house, 0},
     {"bh_components", panels, 0},        {"bh_write_panel", writing, 0},

@@ -1,11 +1,15 @@
 # shellcheck shell=bash disable=SC2154
-# Sourced by ./meshsheet and ./meshclean, each of which runs a proved program of its own name. They set
+# Sourced by ./meshsheet, ./meshclean and ./meshround, each of which runs a proved program of its own name. They set
+#   home       the folder that they stand in
 #   name       the program's
 #   usage      the line of usage
-#   longest    how many bytes a file may have, as one says it
+#   help       what --help prints
+#   longest    how much a file may have of what goes by the program, as one says it
 # before, and then
+#   take_options WORDS   does what --help and --version ask for, and ends where the words are not those of the usage
 #   open_input [FILE]    makes the file, or standard input, what the program reads; before the folder changes
 #   make_ready           sets 'run' to the words that run the program, which is proved and built where it is not
+#   write_panel WHAT [FILE]    does the whole work of a program that writes a panel file, WHAT it is called
 #   refused NUMBER       says what a refusal means, and ends with 1
 #   fail WORDS           says that nothing could be read, run or written, and ends with 2
 #   version              prints the version
@@ -18,8 +22,18 @@ fail() {
     exit 2
 }
 
+take_options() {
+    case ${1:-} in
+        --help) echo "$help" && exit ;;
+        --version) version && exit ;;
+        -?*) echo "$usage" >&2 && exit 2 ;;
+    esac
+    [ $# -le 1 ] || { echo "$usage" >&2 && exit 2; }
+}
+
 # A folder and a closed standard input would read as a file that is cut.
 open_input() {
+    [ "${1:-}" != - ] || shift
     if [ $# -gt 0 ]; then
         [ -e "$1" ] || fail "there is no file ${1@Q}"
         [ -d "$1" ] || [ -r "$1" ] || fail "${1@Q} may not be read"
@@ -70,6 +84,25 @@ make_ready() {
     tools=$kit/on/$(uname -m)/toolchain
     [ -x "$tools/bin/qemu-x86_64" ] || fail "this is no x86-64 machine, and the Rattle kit that has the emulator is not here: no 'rt' on the path"
     run=("$tools/bin/qemu-x86_64" "$tools/lib/ld-linux-x86-64.so.2" --library-path "$tools/lib" "${run[@]}")
+}
+
+# Such a program always ends with status 0: on standard output it writes the file, or on standard error 'refused' and the number, or
+# 'unwritten'. What it writes is kept aside until it has ended.
+write_panel() {
+    local what=$1 told
+    [ ! -t 1 ] || fail "the $what is no text for a terminal: send it to a file with '>'"
+    open_input "${@:2}"
+    cd "$home"
+    make_ready
+    made=$(mktemp) || fail "there is no place for the $what"
+    trap 'rm -f "$made"' EXIT
+    told=$("${run[@]}" 2>&1 >"$made") || fail "the program did not end as it should"
+    if [[ $told =~ ^refused\ ([0-9]+) ]]; then
+        refused "${BASH_REMATCH[1]}"
+    fi
+    [ -z "$told" ] || fail "the $what could not be written"
+    [ -s "$made" ] || fail "the program wrote no file"
+    cat "$made" 2>/dev/null || fail "the $what could not be written"
 }
 
 refused() {

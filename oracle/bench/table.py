@@ -17,6 +17,7 @@ RATIOS = (
     ("verdict", ("shell_condition",), 1.0, ()),
     ("wires", ("hem_edges", "extract_boundaries", "house_wires"), 1.0, ()),
     ("panels", ("components",), 1.0, ()),
+    ("smoothing", ("loop_subdivision",), 1.0, ()),
     ("merging on spread points", ("put_together_same_attrs",), 3.0, (SPREAD,)),
 )
 GROWING = ("shell_condition", "hem_edges", "extract_boundaries", "house_wires", "components")

@@ -13,6 +13,7 @@ use Rattle.faces.specs.declared.Pushed.{Pushed}
 use Rattle.compaction.specs.declared.Compacted.{Compacted}
 use Rattle.folded.specs.declared.Removed.{Removed}
 use Rattle.together.specs.declared.Merged.{Merged}
+use Rattle.smoothing.specs.declared.Smoothed.{Smoothed}
 use Rattle.edges.specs.Edges.{Verdict}
 use Rattle.edges.specs.declared.HemEdges.{HemEdges}
 use Rattle.tracing.specs.declared.Wires.{Wires}
@@ -44,6 +45,10 @@ removedBy number c f = record { number = number; corners = c; faces = f }
 -- what merging answers: the number returned, and how many pairs were compared among positions, texture points and normals
 abbrev pub mergedBy : ℕ → ℕ → ℕ → ℕ → Merged
 mergedBy number p t n = record { number = number; positions = p; textures = t; normals = n }
+
+-- what smoothing answers: the number returned, and the counts of positions, corners and faces
+abbrev pub smoothedBy : ℕ → ℕ → ℕ → ℕ → Smoothed
+smoothedBy number p c f = record { number = number; positions = p; corners = c; faces = f }
 
 -- the verdicts by number, from the weakest to the strongest
 unfoldable pub verdictNumber : Verdict → ℕ

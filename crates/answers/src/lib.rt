@@ -12,6 +12,7 @@ use edges::ShellCondition;
 use faces::Pushed;
 use folded::Removed;
 use merging::Merged;
+use smoothing::Smoothed;
 use tracing::Wires;
 
 // The part of a face: where it starts in the list of corners, and how many numbers it is. An empty part starts at 0.
@@ -84,6 +85,21 @@ pub fn merged(
     *textures = pairs.textures;
     *normals = pairs.normals;
     pairs.number
+}
+
+// Smoothing: positions, corners and faces.
+pub fn smoothed(
+    rounded: Smoothed,
+    positions: &mut usize,
+    corners: &mut usize,
+    faces: &mut usize,
+) -> u32
+    ensures { λ r. ⌜ want.smoothedBy r (now (positions .exit)) (now (corners .exit)) (now (faces .exit)) ≡ rounded ⌝ }
+{
+    *positions = rounded.positions;
+    *corners = rounded.corners;
+    *faces = rounded.faces;
+    rounded.number
 }
 
 // A verdict, as a number.

@@ -13,6 +13,8 @@ ghost use Rattle.compaction.specs.Compaction as compacting;
 ghost use Rattle.folded.specs.Folded as folding;
 ghost use Rattle.edges.specs.Answers.{hemsIn, HemAnswer};
 ghost use Rattle.merging.specs.Merging.{PutTogether};
+ghost use Rattle.smoothed.specs.Refusals as smoothed;
+ghost use Rattle.smoothing.specs.Smoothing.{Smoothing};
 ghost use Rattle.ported.specs.Answers.{PortedAnswer};
 ghost use Rattle.house.specs.Answers.{HouseAnswer};
 ghost use Rattle.panels.specs.Contract.{PanelsAnswer};
@@ -178,6 +180,45 @@ pub extern "C" fn bh_put_together_same_attrs(
         newcorners,
     );
     answers::merged(merged, positionpairs, texturepairs, normalpairs)
+}
+
+// Smoothing by Loop's method: the new positions, corners and sizes, and how many positions, corners and faces they are.
+#[no_mangle]
+pub extern "C" fn bh_loop_subdivision(
+    positions: &[f64],
+    textures: &[f64],
+    normals: &[f64],
+    corners: &[u32],
+    sizes: &[u32],
+    ones: &[f64],
+    twos: &[f64],
+    newpositions: &mut [f64],
+    newcorners: &mut [u32],
+    newsizes: &mut [u32],
+    positioncount: &mut usize,
+    cornercount: &mut usize,
+    facecount: &mut usize,
+) -> u32
+    ensures { λ r. ⌜ Smoothing
+        (meshOf (now (positions .entry)) (now (textures .entry)) (now (normals .entry)) (now (corners .entry)) (now (sizes .entry)))
+        (now (ones .entry)) (now (twos .entry))
+        (smoothed.lists (now (newpositions .entry)) (now (newcorners .entry)) (now (newsizes .entry)))
+        (smoothed.lists (now (newpositions .exit)) (now (newcorners .exit)) (now (newsizes .exit)))
+        (answer.smoothedBy r (now (positioncount .exit)) (now (cornercount .exit)) (now (facecount .exit))) ⌝ }
+{
+    let made = smoothing::loop_subdivision(
+        positions,
+        textures,
+        normals,
+        corners,
+        sizes,
+        ones,
+        twos,
+        newpositions,
+        newcorners,
+        newsizes,
+    );
+    answers::smoothed(made, positioncount, cornercount, facecount)
 }
 
 // The verdict, by number: 0 Irregular, 1 Regular, 2 Oriented, 3 Closed. It is written only with 0.

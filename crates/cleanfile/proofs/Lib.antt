@@ -1,5 +1,2 @@
-pub mod Reading
-pub mod Folded
-pub mod Kept
-pub mod Compacting
+pub mod Answering
 pub mod Promised

@@ -11,12 +11,13 @@ use Rattle.mesh.specs.Face.{facePart}
 use Rattle.faces.specs.Faces.{facesOf}
 use Rattle.compaction.specs.Compaction as compaction
 use Rattle.folded.specs.Folded as removal
+use Rattle.smoothed.specs.Refusals as smoothed
 use Rattle.edges.specs.Answers.{answerOf, judged, hemsIn}
 use Rattle.edges.proofs.Answering.{answer-only}
 use Rattle.tracing.specs.Answers.{Answered}
 use Rattle.tracing.specs.declared.Wires.{Wires}
 use Rattle.determined.specs.Determined.{Call, Determined, _and_, done, equals, number, face, pushCall, compactionCall, removalCall}
-use Rattle.determined.specs.Determined.{mergingCall, verdictCall, hemCall, portedCall, houseCall, panelsCall, readCall, writeCall, cleanCall, sheetCall, AllDetermined}
+use Rattle.determined.specs.Determined.{mergingCall, smoothingCall, verdictCall, hemCall, portedCall, houseCall, panelsCall, readCall, writeCall, cleanCall, sheetCall, AllDetermined}
 
 -- ---- the general law
 
@@ -82,6 +83,17 @@ merging-determined g r q a b =
     let u : r .0 .normals ≡ q .0 .normals = cc in
     let c : r .1 ≡ q .1 = cc in
     λ i. (record { number = n i; positions = p i; textures = t i; normals = u i }, c i)
+
+smoothing-determined : Determined smoothingCall
+smoothing-determined g r q a b =
+    let n : r .0 .number ≡ q .0 .number = cc in
+    let p : r .0 .positions ≡ q .0 .positions = cc in
+    let c : r .0 .corners ≡ q .0 .corners = cc in
+    let f : r .0 .faces ≡ q .0 .faces = cc in
+    let x : r .1 .positions ≡ q .1 .positions = cc in
+    let y : r .1 .corners ≡ q .1 .corners = cc in
+    let z : r .1 .sizes ≡ q .1 .sizes = cc in
+    λ i. (record { number = n i; positions = p i; corners = c i; faces = f i }, smoothed.lists (x i) (y i) (z i))
 
 hem-determined : Determined hemCall
 hem-determined g r q a b =
@@ -169,6 +181,7 @@ all-determined =
     and compaction-determined
     and removal-determined
     and merging-determined
+    and smoothing-determined
     and verdict-determined
     and hem-determined
     and ported-determined

@@ -17,6 +17,7 @@ all-tied = record {
   compaction-tied = λ κs a r e h. h;
   removal-tied = λ κs a r e h. h;
   merging-tied = λ κs a r e h. h;
+  smoothing-tied = λ κs a r e h. h;
   verdict-tied = λ κs a r e h. h;
   hem-tied = λ κs a r e h. h;
   ported-tied = λ κs a r e h. h;

@@ -13,6 +13,9 @@ use Rattle.faces.specs.Faces.{Grouped}
 use Rattle.compaction.specs.Compaction.{Compaction}
 use Rattle.folded.specs.Folded.{Removal}
 use Rattle.merging.specs.Merging.{PutTogether}
+use Rattle.smoothed.specs.Refusals.{Result}
+use Rattle.smoothing.specs.declared.Smoothed.{Smoothed}
+use Rattle.smoothing.specs.Smoothing.{Smoothing}
 use Rattle.edges.specs.Answers.{answerOf, judged, HemAnswer}
 use Rattle.edges.specs.declared.Judged.{Judged}
 use Rattle.edges.specs.declared.HemEdges.{HemEdges}
@@ -83,6 +86,13 @@ removalCall = lending Removal
 abbrev pub mergingCall : Call
 mergingCall = lending (λ (g : Mesh × Float). PutTogether (g .0) (g .1))
 
+-- `smoothing::loop_subdivision`: a mesh and the two lists of cosines are given
+abbrev pub smoothingCall : Call
+smoothingCall =
+    lending
+    (λ (g : Mesh × List Float × List Float) (before afterwards : Result) (answer : Smoothed).
+    Smoothing (g .0) (g .1) (g .2) before afterwards answer)
+
 -- `edges::hem_edges`
 abbrev pub hemCall : Call
 hemCall = lending HemAnswer
@@ -122,6 +132,7 @@ calls =
     ∷ compactionCall
     ∷ removalCall
     ∷ mergingCall
+    ∷ smoothingCall
     ∷ verdictCall
     ∷ hemCall
     ∷ portedCall

@@ -1,5 +1,5 @@
 -- The list of the calls is no retelling: each contract, as the source of its function has it, says what the list says. The kit hands
--- out a contract as `Post`: lifetimes, arguments, answer, arguments afterwards. A weaker `ensures` in any of the fifteen sources is
+-- out a contract as `Post`: lifetimes, arguments, answer, arguments afterwards. A weaker `ensures` in any of the sixteen sources is
 -- refused here. Assumes nothing.
 use Prim.Native.Nat.{ℕ}
 use mathlib.Core.Path.{_≡_}
@@ -11,8 +11,9 @@ use Rattle.mesh.specs.Listed.{Listed, listedOf}
 use Rattle.faces.specs.Faces.{FaceLists, facesOf}
 use Rattle.compaction.specs.Compaction as compaction
 use Rattle.folded.specs.Folded as removal
+use Rattle.smoothed.specs.Refusals as smoothed
 use Rattle.edges.specs.Answers.{HemLists, hemsIn}
-use Rattle.determined.specs.Determined.{Call, number, face, pushCall, compactionCall, removalCall, mergingCall, verdictCall}
+use Rattle.determined.specs.Determined.{Call, number, face, pushCall, compactionCall, removalCall, mergingCall, smoothingCall, verdictCall}
 use Rattle.determined.specs.Determined.{hemCall, portedCall, houseCall, panelsCall, readCall, writeCall, cleanCall, sheetCall}
 use Rattle.mesh.proofs.number.Reads as mesh-number
 use Rattle.mesh.proofs.face.Reads as mesh-face
@@ -20,6 +21,7 @@ use Rattle.faces.proofs.push.Reads as push
 use Rattle.compaction.proofs.remove_unused_attrs.Reads as remove-unused-attrs
 use Rattle.folded.proofs.remove_degenerate_faces.Reads as remove-degenerate-faces
 use Rattle.merging.proofs.put_together_same_attrs.Reads as put-together-same-attrs
+use Rattle.smoothing.proofs.loop_subdivision.Reads as loop-subdivision
 use Rattle.edges.proofs.shell_condition.Reads as shell-condition
 use Rattle.edges.proofs.hem_edges.Reads as hem-edges
 use Rattle.ported.proofs.extract_boundaries.Reads as extract-boundaries
@@ -62,12 +64,15 @@ module _ {Rest : Type 0} where
   abbrev pub faceLists : Lends ℕ (Lends ℕ Rest) → FaceLists
   faceLists a = facesOf (now (a .0)) (now (a .1 .0))
 
-  -- the lists that compaction and removal lend
+  -- the lists that compaction, removal and smoothing lend
   abbrev pub compactedLists : Lends ℕ (Lends Float (Lends Float (Lends Float Rest))) → compaction.Result
   compactedLists a = compaction.resultOf (now (a .0)) (now (a .1 .0)) (now (a .1 .1 .0)) (now (a .1 .1 .1 .0))
 
   abbrev pub removedLists : Lends ℕ (Lends ℕ (Lends ℕ Rest)) → removal.Result
   removedLists a = removal.resultOf (now (a .0)) (now (a .1 .0)) (now (a .1 .1 .0))
+
+  abbrev pub smoothedLists : Lends Float (Lends ℕ (Lends ℕ Rest)) → smoothed.Result
+  smoothedLists a = smoothed.lists (now (a .0)) (now (a .1 .0)) (now (a .1 .1 .0))
 
 -- ---- the ties
 
@@ -82,7 +87,7 @@ abbrev pub OneResult :
 OneResult {K} {A} {R} {E} Post result =
     (κs : K) (a : A) (r q : R) (e f : E) → Post κs a r e → Post κs a q f → result r e ≡ result q f
 
--- the fifteen calls
+-- the sixteen calls
 pub record AllTied : Type 0 where
   pub number-tied : Tied mesh-number.Post number meshIn (λ r e. r)
   pub face-tied : Tied mesh-face.Post face (λ a. (meshIn a, rest a .0)) (λ r e. now r)
@@ -93,6 +98,10 @@ pub record AllTied : Type 0 where
       Tied remove-degenerate-faces.Post removalCall (λ a. (meshIn a, removedLists (rest a))) (λ r e. (r, removedLists (rest e)))
   pub merging-tied :
       Tied put-together-same-attrs.Post mergingCall (λ a. ((meshIn a, rest a .0), list (rest a .1))) (λ r e. (r, list (rest e .1)))
+  pub smoothing-tied :
+      Tied loop-subdivision.Post smoothingCall
+      (λ a. ((meshIn a, list (rest a), list (rest a .1)), smoothedLists (rest a .1 .1)))
+      (λ r e. (r, smoothedLists (rest e .1 .1)))
   pub verdict-tied : Tied shell-condition.Post verdictCall meshIn (λ r e. r)
   pub hem-tied : Tied hem-edges.Post hemCall (λ a. (meshIn a, hemLists (rest a))) (λ r e. (r, hemLists (rest e)))
   pub ported-tied : Tied extract-boundaries.Post portedCall (λ a. (meshIn a, listed (rest a))) (λ r e. (r, listed (rest e)))

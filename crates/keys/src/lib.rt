@@ -8,7 +8,7 @@ ghost use Rattle.mesh.specs.Mesh.{rings};
 ghost use Rattle.columns.specs.Keys.{usesFrom, useFaces, FirstUses};
 ghost use Rattle.columns.specs.Columns.{ColumnRoom, FirstRoom, FewRoom, KeyRows};
 
-mod firsts;
+pub mod firsts;
 
 // So many uses count as few.
 const FEW_USES: usize = 512;

@@ -12,23 +12,9 @@ fn main() {
     let answer = cleanfile::clean(&file[..n], &mut out[..]);
     let number = answer.number;
     if number != 0 {
-        refuse(number);
+        telling::refuse(number);
         return;
     }
     let length = answer.length;
-    hand_over(&out[..length]);
-}
-
-// The cleaned file, to its last byte; where that cannot be, `unwritten` goes to standard error.
-fn hand_over(file: &[u8]) {
-    if !io::write_all(1, file) {
-        io::write_all(2, b"unwritten\n");
-    }
-}
-
-// What is said of a refused file.
-fn refuse(number: u32) {
-    io::write_all(2, b"refused ");
-    io::print_decimal(2, number as u64);
-    io::write_all(2, b"\n");
+    telling::hand_over(&out[..length]);
 }

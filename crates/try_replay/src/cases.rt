@@ -8,6 +8,12 @@ use crate::list;
 // More than any room of the list for u32 or f64.
 pub const ROOM: usize = 12304;
 
+// What a case is about: where the words of its mesh or of its panel file begin, and where those of the cosines do.
+pub struct About {
+    pub subject: usize,
+    pub cosines: usize,
+}
+
 // What a call said: its number, and up to five counts; 0 for those that it has not.
 pub struct Said {
     pub number: u32,

@@ -41,6 +41,20 @@ pub(crate) fn rooms_of_compaction(list: &[u8], at: usize) -> Rooms {
     }
 }
 
+// Those of smoothing: a list of f64, then two of u32.
+pub(crate) fn rooms_of_smoothing(list: &[u8], at: usize) -> Rooms {
+    let first = cases::lists_from(at, 3);
+    let second = cases::after_floats(list, first);
+    let third = cases::after_words(list, second);
+    Rooms {
+        first: list::count(list, first),
+        second: list::count(list, second),
+        third: list::count(list, third),
+        fourth: 0,
+        fifth: 0,
+    }
+}
+
 // Those of the reader: three lists of f64, then two of u32.
 pub(crate) fn rooms_of_reading(list: &[u8], at: usize) -> Rooms {
     let first = cases::lists_from(at, 5);

@@ -5,7 +5,7 @@
 // The list was made by the oracle, from the Rust itself and from a second reading of document 01 (oracle/README.md); README.md has
 // its format, and how this program was seen to fail. Here the records are gone through; `list` reads the list, `lent` fills a list that is lent
 // and holds it to the answer afterwards, `cases` has what the cases of all calls share, `questions` puts a case to its call, by `by_faces`,
-// `attributes` and `files`, and `tally` counts how the cases came out.
+// `attributes`, `surfaces` and `files`, and `tally` counts how the cases came out.
 mod attributes;
 mod by_faces;
 mod bytes;
@@ -17,12 +17,14 @@ mod pairs;
 mod questions;
 mod reading;
 mod removal;
+mod surfaces;
 mod tally;
 
+use cases::About;
 use cases::Outcome;
 
 fn main() {
-    let mut all = [0u8; 524288];
+    let mut all = [0u8; 1048576];
     run(&mut all);
 }
 
@@ -41,7 +43,10 @@ fn run(all: &mut [u8]) {
 fn replay(list: &[u8], counts: &mut [u32]) -> bool {
     let end = list.len() / 4;
     let mut at = 0;
-    let mut subject = 0;
+    let mut about = About {
+        subject: 0,
+        cosines: 0,
+    };
     while at < end {
         let n = list::count(list, at);
         if n == 0 {
@@ -51,20 +56,30 @@ fn replay(list: &[u8], counts: &mut [u32]) -> bool {
             return false;
         }
         let next = at + n + 1;
-        subject = record(list, at, next, subject, counts);
+        about = record(list, at, next, about, counts);
         at = next;
     }
     list.len() % 4 == 0
 }
 
-// One record: a mesh or a panel file, which the cases after it are about, or a case. Answers where the words of the mesh or the file begin.
-fn record(list: &[u8], at: usize, next: usize, subject: usize, counts: &mut [u32]) -> usize {
+// One record: a mesh, a panel file or cosines, which the cases after it are about, or a case. Answers what the next record is about.
+fn record(list: &[u8], at: usize, next: usize, about: About, counts: &mut [u32]) -> About {
     let kind = list::word(list, list::plus(at, 1));
+    let place = list::plus(at, 2);
     if is_subject(kind) {
-        return list::plus(at, 2);
+        return About {
+            subject: place,
+            cosines: about.cosines,
+        };
     }
-    tally::add(counts, kind, outcome(list, at, next, subject, kind));
-    subject
+    if kind == surfaces::COSINES {
+        return About {
+            subject: about.subject,
+            cosines: place,
+        };
+    }
+    tally::add(counts, kind, outcome(list, place, next, about, kind));
+    about
 }
 
 fn is_subject(kind: u32) -> bool {
@@ -74,9 +89,9 @@ fn is_subject(kind: u32) -> bool {
     kind == questions::FILE
 }
 
-// How a case came out; it must end where the next record begins.
-fn outcome(list: &[u8], at: usize, next: usize, subject: usize, kind: u32) -> Outcome {
-    let found = questions::ask(list, subject, kind, list::plus(at, 2));
+// How a case came out whose own words begin at `at`; it must end where the next record begins.
+fn outcome(list: &[u8], at: usize, next: usize, about: About, kind: u32) -> Outcome {
+    let found = questions::ask(list, about, kind, at);
     let elsewhere = found.end != next;
     cases::also(found, elsewhere, next)
 }

@@ -3,10 +3,11 @@
 use crate::cases::Outcome;
 
 // How many numbers the table has, from 0 on.
-const NUMBERS: u32 = 15;
+const NUMBERS: u32 = 18;
 
-// A row for each kind of record; those of a mesh and of a panel file are no calls, so row 0 is for all of them, and row 12 stays empty.
-const ROWS: u32 = 16;
+// A row for each kind of record up to the last call's; those of a mesh and of a panel file are no calls, so row 0 is for all of them,
+// and row 12 stays empty.
+const ROWS: u32 = 17;
 
 // In a row stand the numbers, then the cases, then those that differed; and there it ends.
 const CASES: u32 = NUMBERS;
@@ -104,6 +105,7 @@ fn print_last(tally: &[u32]) {
     line(tally, 13, b"push");
     line(tally, 14, b"write_panel");
     line(tally, 15, b"clean_panel");
+    line(tally, 16, b"loop_subdivision");
     line(tally, 0, b"all");
 }
 

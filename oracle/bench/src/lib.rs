@@ -32,8 +32,11 @@ pub unsafe extern "C" fn bench(library: Library, _: Watch, argc: c_int, _: *cons
     0
 }
 
-/// What a call is measured on.
+/// What a call is measured on. Smoothing makes four triangles for one, so its corners are those of its result.
 fn cases(call: Call, corners: usize, is_short: bool) -> Vec<Case> {
+    if call == Call::LoopSubdivision {
+        return shapes::of_triangles(corners / 12);
+    }
     let mut cases = shapes::all(corners);
     if call == Call::PutTogetherSameAttrs {
         cases.push(shapes::spread_points(corners));

@@ -6,16 +6,19 @@ use comparer::{Asked, Library, Product};
 use judge::reading::numbers::stated_rooms;
 use judge::reading::sheet::FILE;
 use judge::reading::writing::write;
-use judge::{Call, Question};
+use judge::{rust, Call, Question};
 use std::time::Duration;
 
 /// How long a call takes; none where the library does not have it or it refuses, and no sheet of a file that is too long for one.
 pub fn time(library: &Library, call: Call, case: &Case) -> Option<Duration> {
+    let [ones, twos] = rust::cosines();
     let question = Question {
         mesh: case.mesh.clone(),
         face: case.mesh.sizes.len() - 1,
         tolerance: case.tolerance,
         use_normal: true,
+        ones,
+        twos,
         file: write(&case.mesh),
         rooms: stated_rooms(call, &case.mesh),
     };

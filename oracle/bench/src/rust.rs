@@ -7,7 +7,7 @@ use judge::rust::into_rust;
 use judge::Call;
 use std::time::Duration;
 use truck_meshalgo::analyzers::{boundary, Splitting, Topology};
-use truck_meshalgo::filters::OptimizingFilter;
+use truck_meshalgo::filters::{OptimizingFilter, Subdivision};
 use truck_polymesh::{Faces, PolygonMesh, StandardAttributes, StandardVertex};
 
 /// How long the Rust takes for what a call gives; none where it has nothing like it. For house wires it is its `extract_boundaries`.
@@ -39,6 +39,9 @@ pub fn time(call: Call, case: &Case) -> Option<Duration> {
         Call::ExtractBoundaries | Call::HouseWires => fastest(|| (), |()| mesh.extract_boundaries()),
         Call::Components => fastest(|| (), |()| mesh.components(true)),
         Call::Push => pushing(&mesh),
+        Call::LoopSubdivision => changed(&|mesh| {
+            mesh.loop_subdivision();
+        }),
         Call::Face | Call::ReadPanel | Call::WritePanel | Call::CleanPanel | Call::Sheet => return None,
     })
 }

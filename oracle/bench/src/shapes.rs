@@ -23,6 +23,18 @@ pub fn all(corners: usize) -> Vec<Case> {
     ]
 }
 
+/// What smoothing is measured on, each of so many triangles, or a few less.
+pub fn of_triangles(triangles: usize) -> Vec<Case> {
+    let case = |name, mesh| Case { name, mesh, tolerance: 1.0 };
+    let apart = (0..triangles as u32).map(|k| vec![3 * k, 3 * k + 1, 3 * k + 2]).collect();
+    vec![
+        case("tube of triangles", triangle_tube(triangles)),
+        case("ball of triangles", triangle_ball(triangles)),
+        case("sheet of triangles", triangle_sheet(triangles)),
+        case("triangles apart", mesh((0..3 * triangles).map(|i| circle(i, 3 * triangles, 0.5)).collect(), apart)),
+    ]
+}
+
 /// Points on a grid whose cells are far apart, half as many as there are corners in each list.
 pub fn spread_points(corners: usize) -> Case {
     let grid = |i: usize| [i % 16, i / 16 % 16, i / 256].map(|x| x as f64);
@@ -60,6 +72,57 @@ fn ball(corners: usize) -> Mesh {
         (0..around * rings).map(|i| circle(i % around, around, (i / around + 1) as f64 / (rings + 1) as f64)).collect();
     places.extend([[0.0, 0.0, 0.0], [0.0, 0.0, 1.0]]);
     mesh(places, faces)
+}
+
+/// Squares cut in two, so many in a row; the last row is not full.
+fn cut_squares(triangles: usize, wide: usize, at: impl Fn(usize, usize) -> u32) -> Vec<Vec<u32>> {
+    let half = |k: usize| {
+        let (x, y) = (k / 2 % wide, k / 2 / wide);
+        match k % 2 {
+            0 => vec![at(x, y), at(x + 1, y), at(x + 1, y + 1)],
+            _ => vec![at(x, y), at(x + 1, y + 1), at(x, y + 1)],
+        }
+    };
+    (0..triangles).map(half).collect()
+}
+
+/// Without the places that no face uses.
+fn used(places: Vec<[f64; 3]>, faces: Vec<Vec<u32>>) -> Mesh {
+    let mut used: Vec<u32> = faces.iter().flatten().copied().collect();
+    used.sort_unstable();
+    used.dedup();
+    let new = |old: &u32| used.binary_search(old).unwrap() as u32;
+    let faces = faces.iter().map(|face| face.iter().map(new).collect()).collect();
+    mesh(used.iter().map(|old| places[*old as usize]).collect(), faces)
+}
+
+/// As many around as it takes to be about as long as it is wide.
+fn triangle_tube(triangles: usize) -> Mesh {
+    let around = (3..).find(|around| 2 * around * around >= triangles).unwrap();
+    let faces = cut_squares(triangles, around, |x, y| (y * around + x % around) as u32);
+    let rows = triangles / (2 * around) + 2;
+    used((0..around * rows).map(|i| circle(i % around, around, (i / around) as f64 / rows as f64)).collect(), faces)
+}
+
+fn triangle_sheet(triangles: usize) -> Mesh {
+    let wide = (1..).find(|wide| 2 * wide * wide >= triangles).unwrap();
+    let faces = cut_squares(triangles, wide, |x, y| (y * (wide + 1) + x) as u32);
+    let rows = triangles / (2 * wide) + 2;
+    let place = |i: usize| [(i % (wide + 1)) as f64 / 7.0, (i / (wide + 1)) as f64 / 11.0, (i % 5) as f64 / 13.0];
+    used((0..(wide + 1) * rows).map(place).collect(), faces)
+}
+
+/// Rings of cut squares between two poles of triangles: closed. It has as many triangles as whole rings have.
+fn triangle_ball(triangles: usize) -> Mesh {
+    let around = (3..).find(|around| 2 * (around + 1) * (around + 1) > triangles).unwrap();
+    let rings = triangles / (2 * around);
+    let at = |x: usize, y: usize| (y * around + x % around) as u32;
+    let (south, north) = ((around * rings) as u32, (around * rings + 1) as u32);
+    let mut faces: Vec<Vec<u32>> = (0..around).map(|x| vec![at(x + 1, 0), at(x, 0), south]).collect();
+    faces.extend((0..around).map(|x| vec![at(x, rings - 1), at(x + 1, rings - 1), north]));
+    faces.extend(cut_squares(2 * around * (rings - 1), around, at));
+    let place = |i: usize| circle(i % around, around, (i / around + 1) as f64 / (rings + 1) as f64);
+    mesh((0..around * rings).map(place).chain([[0.0, 0.0, 0.0], [0.0, 0.0, 1.0]]).collect(), faces)
 }
 
 /// Faces of 3 to 8 corners anywhere, one in four of them folded, with texture points and normals anywhere and some missing.

@@ -64,13 +64,13 @@ fn clusters(random: &Random, count: usize, step: f64) -> Vec<f64> {
         .collect()
 }
 
-fn spread(random: &Random, count: usize) -> Vec<f64> {
+pub fn spread(random: &Random, count: usize) -> Vec<f64> {
     let scale = random.pick(&[0.01, 1.0, 1.0, 3.0, 1000.0, 2f64.powi(40)]);
     (0..count).map(|_| (random.unit() * 2.0 - 1.0) * scale).collect()
 }
 
 /// A finite number of a magnitude of at most 2^60.
-fn anything_ordinary(random: &Random) -> f64 {
+pub fn anything_ordinary(random: &Random) -> f64 {
     let exponent = random.within(0, 1023 + 59) as u64;
     let bits = random.bits();
     f64::from_bits(bits & 0x800f_ffff_ffff_ffff | exponent << 52)

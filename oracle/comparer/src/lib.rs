@@ -1,9 +1,10 @@
 //! The comparer: the product's C interface against the judge, mesh by mesh.
 //!
 //! `library` asks the product, with lent lists that are filled with a pattern (`lent`); `check` holds what came back to the judge's
-//! answer. `meshes`, `shapes`, `coordinates`, `damage`, `files` and `faults` make what is asked. A difference is made small by `shrink` and
-//! printed by `show`. What was written is read back by `round_trip`. `slips`, `wrong`, `wrong_broken` (over `one_by_one`), `wrong_files`,
-//! `wrong_merging` and `wrong_removal` show that the comparer can fail. What is public serves the lister too.
+//! answer. `meshes`, `shapes`, `surfaces`, `coordinates`, `damage`, `files` and `faults` make what is asked. A difference is made small by
+//! `shrink` and printed by `show`. What was written is read back by `round_trip`. `slips`, `wrong`, `wrong_broken` (over `one_by_one`), `wrong_files`,
+//! `wrong_merging`, `wrong_removal` and `wrong_smoothing` (over `wrong_points`) show that the comparer can fail. What is public
+//! serves the lister too.
 
 pub mod check;
 mod coordinates;
@@ -22,6 +23,7 @@ mod shapes;
 mod show;
 mod shrink;
 mod slips;
+pub mod surfaces;
 mod tally;
 #[cfg(test)]
 mod tests;
@@ -29,7 +31,9 @@ mod wrong;
 mod wrong_broken;
 mod wrong_files;
 mod wrong_merging;
+mod wrong_points;
 mod wrong_removal;
+mod wrong_smoothing;
 
 pub use library::{Asked, Library, Product, Watch};
 pub use random::Random;

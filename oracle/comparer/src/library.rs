@@ -58,6 +58,8 @@ pub struct Library {
     pub push: Option<
         unsafe extern "C" fn(*const u32, usize, *const u32, usize, *mut u32, usize, *mut u32, usize, *mut u64, *mut u64) -> u32,
     >,
+    pub loop_subdivision: on_mesh!(
+        *const f64, usize, *const f64, usize, *mut f64, usize, *mut u32, usize, *mut u32, usize, *mut u64, *mut u64, *mut u64 => u32),
 }
 
 /// What came back from the product.
@@ -139,13 +141,17 @@ impl Product for Library {
             Call::CleanPanel => self.clean_panel.is_some(),
             Call::Sheet => self.sheet.is_some(),
             Call::Push => self.push.is_some(),
+            Call::LoopSubdivision => self.loop_subdivision.is_some(),
         }
     }
 
     fn ask(&self, call: Call, question: &Question) -> Asked {
         let (lent, mut asked) = (question.clone(), Asked::before(call, question));
         self.put(call, &lent, &mut asked);
-        asked.input_kept = is_same(&lent.mesh, &question.mesh) && lent.file == question.file;
+        asked.input_kept = is_same(&lent.mesh, &question.mesh)
+            && lent.file == question.file
+            && same_bits(&lent.ones, &question.ones)
+            && same_bits(&lent.twos, &question.twos);
         asked
     }
 }
@@ -262,6 +268,27 @@ impl Library {
                 let (file, room) = asked.lists[0].bytes();
                 asked.number = on!(write_panel, file, room, counts);
             }
+            Call::LoopSubdivision => {
+                let (positions, positions_room) = asked.lists[0].floats();
+                let (corners, corners_room) = asked.lists[1].words();
+                let (sizes, sizes_room) = asked.lists[2].words();
+                asked.number = on!(
+                    loop_subdivision,
+                    question.ones.as_ptr(),
+                    question.ones.len(),
+                    question.twos.as_ptr(),
+                    question.twos.len(),
+                    positions,
+                    positions_room,
+                    corners,
+                    corners_room,
+                    sizes,
+                    sizes_room,
+                    counts,
+                    counts.add(1),
+                    counts.add(2)
+                );
+            }
             Call::ReadPanel | Call::CleanPanel | Call::Sheet => unreachable!(),
         }
     }
@@ -303,10 +330,13 @@ impl Library {
 
 /// Equal bit for bit.
 fn is_same(a: &Mesh, b: &Mesh) -> bool {
-    let bits = |list: &[f64], other: &[f64]| list.iter().map(|x| x.to_bits()).eq(other.iter().map(|x| x.to_bits()));
-    bits(&a.positions, &b.positions)
-        && bits(&a.textures, &b.textures)
-        && bits(&a.normals, &b.normals)
+    same_bits(&a.positions, &b.positions)
+        && same_bits(&a.textures, &b.textures)
+        && same_bits(&a.normals, &b.normals)
         && a.corners == b.corners
         && a.sizes == b.sizes
+}
+
+fn same_bits(list: &[f64], other: &[f64]) -> bool {
+    list.iter().map(|x| x.to_bits()).eq(other.iter().map(|x| x.to_bits()))
 }

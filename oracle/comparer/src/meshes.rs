@@ -128,7 +128,7 @@ fn with_unused(random: &Random, used: usize) -> usize {
 }
 
 /// The indices of one column, for every corner, and how many entries its list has.
-fn column(random: &Random, faces: &[Vec<u32>]) -> (usize, Vec<u32>) {
+pub fn column(random: &Random, faces: &[Vec<u32>]) -> (usize, Vec<u32>) {
     let corners: usize = faces.iter().map(|face| face.len()).sum();
     let (style, few) = (random.below(6), random.within(1, 4));
     let missing = random.pick(&[2, 5, 20, usize::MAX]);

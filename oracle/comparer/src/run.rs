@@ -6,7 +6,7 @@ use crate::meshes::{self, Case};
 use crate::options::{Options, USAGE};
 use crate::random::Random;
 use crate::tally::{grouped, Tally};
-use crate::{damage, files, show, shrink, slips};
+use crate::{damage, files, show, shrink, slips, surfaces};
 use judge::reading::numbers::stated_rooms;
 use judge::{Call, Question};
 use std::ffi::CString;
@@ -104,6 +104,8 @@ pub struct Subject {
     question: Question,
     /// The same with its faces in any order, for `push`.
     any_order: Question,
+    /// A surface of triangles, for smoothing.
+    surface: Question,
     is_small: bool,
 }
 
@@ -112,7 +114,7 @@ impl Subject {
     pub fn of(random: &Random, is_file: bool, index: u64) -> Subject {
         if is_file {
             let question = Question { file: files::random(random), ..Question::default() };
-            return Subject { question, any_order: Question::default(), is_small: false };
+            return Subject { question, any_order: Question::default(), surface: Question::default(), is_small: false };
         }
         let is_small = index < meshes::exhaustive_count();
         let Case { mut mesh, tolerance } = if is_small { meshes::exhaustive(index, random) } else { meshes::random(random) };
@@ -120,10 +122,12 @@ impl Subject {
             damage::coordinates(random, &mut mesh);
         }
         let any_order = Question { mesh: meshes::any_order(random, &mesh), ..Question::default() };
-        Subject { question: Question { mesh, tolerance, ..Question::default() }, any_order, is_small }
+        let question = Question { mesh, tolerance, ..Question::default() };
+        Subject { question, any_order, surface: Question::default(), is_small }
     }
 
-    /// The question that a call is asked. Merging takes long where there are many points, so it is not asked every time.
+    /// The question that a call is asked. Merging takes long where there are many points, so it is not asked every time. Smoothing takes few meshes
+    /// as they come, so it is asked of surfaces of its own, or of the small mesh.
     pub fn question(&mut self, random: &Random, call: Call) -> Option<&Question> {
         if call == Call::Push {
             let stated = stated_rooms(call, &self.any_order.mesh);
@@ -131,6 +135,10 @@ impl Subject {
             return Some(&self.any_order);
         }
         let mesh = &self.question.mesh;
+        if call == Call::LoopSubdivision {
+            self.surface = if self.is_small { surfaces::small(random, mesh) } else { surfaces::question(random) };
+            return Some(&self.surface);
+        }
         if call == Call::PutTogetherSameAttrs {
             let points = mesh.positions.len() / 3 + mesh.textures.len() / 2 + mesh.normals.len() / 3;
             if random.below(if self.is_small { 32 } else { 1 + points / 200 }) != 0 {

@@ -1,5 +1,6 @@
 //! A question in words.
 
+use judge::rust::has_its_cosines;
 use judge::{Call, Mesh, Question, MISSING};
 use std::fmt::Write;
 
@@ -20,6 +21,15 @@ pub fn question(call: Call, question: &Question) -> String {
     }
     if call == Call::Components {
         let _ = writeln!(text, "  normals setting {}", question.use_normal);
+    }
+    if call == Call::LoopSubdivision {
+        if has_its_cosines(question) {
+            text += "  cosines as the Rust has them\n";
+        } else {
+            for (name, list) in [("pi/n", &question.ones), ("2 pi/n", &question.twos)] {
+                let _ = writeln!(text, "  cosines of {name}, {}:{}", list.len(), entries(list, 1));
+            }
+        }
     }
     if !question.rooms.is_empty() {
         let _ = writeln!(text, "  rooms {:?}", question.rooms);

@@ -2,6 +2,7 @@
 
 use judge::mesh::Corner;
 use judge::reading::numbers::{mesh_number, stated_rooms};
+use judge::rust::{self, has_its_cosines};
 use judge::{Call, Mesh, Question, MISSING};
 use std::ops::Range;
 
@@ -31,6 +32,9 @@ pub fn shrink(call: Call, question: &Question, differs: &dyn Fn(&Question) -> bo
             shrinker.entries();
             shrinker.indices();
             shrinker.numbers();
+        }
+        if call == Call::LoopSubdivision {
+            shrinker.cosines();
         }
         shrinker.rooms();
         if shrinker.found == found {
@@ -249,6 +253,23 @@ impl Shrinker<'_> {
         }
     }
 
+    /// Takes the cosines that the Rust has, in one list or in both.
+    fn cosines(&mut self) {
+        if has_its_cosines(&self.best) {
+            return;
+        }
+        let [ones, twos] = rust::cosines();
+        let both = Question { ones: ones.clone(), twos: twos.clone(), ..self.best.clone() };
+        if self.attempt(both) {
+            return;
+        }
+        for other in [Question { ones, ..self.best.clone() }, Question { twos, ..self.best.clone() }] {
+            if !same_cosines(&other, &self.best) && self.attempt(other) {
+                return;
+            }
+        }
+    }
+
     /// Makes the rooms exact.
     fn rooms(&mut self) {
         let rooms = stated_rooms(self.call, &self.best.mesh);
@@ -257,6 +278,11 @@ impl Shrinker<'_> {
             self.attempt(candidate);
         }
     }
+}
+
+fn same_cosines(one: &Question, other: &Question) -> bool {
+    let bits = |question: &Question| question.ones.iter().chain(&question.twos).map(|x| x.to_bits()).collect::<Vec<_>>();
+    bits(one) == bits(other)
 }
 
 /// A file's records, each with its header, as far as the headers tell; the last may be cut.

@@ -1,8 +1,9 @@
 //! What was compared, in numbers.
 
 use crate::check::Compared;
+use judge::reading::edges::hem_edges;
 use judge::reading::numbers::NUMBERS;
-use judge::{Call, Count, Numbers, Question};
+use judge::{Call, Count, Mesh, Numbers, Question};
 
 /// What one call was asked.
 #[derive(Clone, Default)]
@@ -94,6 +95,7 @@ fn shows(call: Call) -> Option<&'static str> {
         Call::Components => Some("several panels"),
         Call::WritePanel => Some("read back, and written again"),
         Call::CleanPanel => Some("another file than it was"),
+        Call::LoopSubdivision => Some("with a position that has four hem edges or more"),
         _ => None,
     }
 }
@@ -106,8 +108,16 @@ fn is_telling(call: Call, question: &Question, compared: &Compared) -> bool {
         Call::ExtractBoundaries | Call::HouseWires | Call::Components => count(compared, 1) > 1,
         Call::WritePanel => compared.with_way_back,
         Call::CleanPanel => matches!(&compared.right.lists[0], Numbers::Bytes(file) if *file != question.file),
+        Call::LoopSubdivision => is_pinched(&question.mesh),
         _ => false,
     }
+}
+
+/// Whether openings touch: a position has more than two hem edges.
+fn is_pinched(mesh: &Mesh) -> bool {
+    let mut ends = vec![0; mesh.positions.len() / 3];
+    hem_edges(mesh).iter().flatten().for_each(|end| ends[*end as usize] += 1);
+    ends.iter().any(|hems| *hems > 2)
 }
 
 /// A number with a comma after every three digits.

@@ -7,8 +7,9 @@ use crate::random::Random;
 use crate::run::{run, Subject};
 use crate::shrink::shrink;
 use crate::wrong::answers;
+use crate::{surfaces, wrong_points, wrong_smoothing};
 use judge::reading::numbers::mesh_number;
-use judge::{reading, rust, Call, Mesh, Question};
+use judge::{reading, rust, Answer, Call, Mesh, Numbers, Question};
 use std::collections::{BTreeMap, BTreeSet};
 
 fn words(words: &str) -> Vec<String> {
@@ -156,4 +157,61 @@ fn the_order_of_maps_changes_where_wires_begin_but_not_their_steps() {
         }
     }
     assert!(another_order > 0);
+}
+
+/// Questions to smoothing that are accepted, and their answers.
+fn smoothed() -> impl Iterator<Item = (Question, Answer)> {
+    let asked = (0..4_000).map(|i| surfaces::question(&Random::of(5, i)));
+    let answered = asked.map(|question| (reading::answer(Call::LoopSubdivision, &question), question));
+    answered.filter(|(answer, _)| answer.number == 0).map(|(answer, question)| (question, answer))
+}
+
+#[test]
+fn what_the_misreadings_of_smoothing_share_is_right() {
+    for i in 0..4_000 {
+        let question = surfaces::question(&Random::of(6, i));
+        let right = reading::answer(Call::LoopSubdivision, &question);
+        assert!(wrong_smoothing::no_fault(&question, &right).is_none());
+    }
+    for (question, right) in smoothed() {
+        let same = wrong_points::smoothed(&question, wrong_points::Misread::None);
+        assert_eq!(format!("{same:?}"), format!("{right:?}"));
+    }
+}
+
+/// Whether two faces have the same three positions.
+fn has_equal_faces(mesh: &Mesh) -> bool {
+    let sets = mesh.faces().into_iter().map(|face| face.iter().map(|corner| corner[0]).collect::<BTreeSet<u32>>());
+    sets.collect::<BTreeSet<_>>().len() < mesh.sizes.len()
+}
+
+/// What request 4 has proved besides: where no two faces have the same three positions, the verdict stays, and no face of the result is folded.
+#[test]
+fn smoothing_keeps_the_verdict_and_folds_nothing() {
+    let (mut kept, mut equal) = (0, 0);
+    for (question, answer) in smoothed() {
+        let (corners, sizes) = match &answer.lists[1..] {
+            [Numbers::Words(corners), Numbers::Words(sizes)] => (corners.clone(), sizes.clone()),
+            _ => panic!("corners and sizes"),
+        };
+        let result = Mesh { corners, sizes, ..Mesh::default() };
+        let is_folded = |face: Vec<[u32; 3]>| face.iter().map(|corner| corner[0]).collect::<BTreeSet<u32>>().len() < 3;
+        assert!(!result.faces().into_iter().any(is_folded));
+        if has_equal_faces(&question.mesh) {
+            equal += 1;
+        } else {
+            assert_eq!(reading::edges::verdict(&result), reading::edges::verdict(&question.mesh));
+            kept += 1;
+        }
+    }
+    assert!(kept > 1_000 && equal > 0);
+}
+
+#[test]
+fn the_order_of_the_map_of_edges_changes_no_smoothing() {
+    for (question, _) in smoothed() {
+        let made = [rust::untouched::loop_subdivision(&question.mesh), rust::ascending::loop_subdivision(&question.mesh)];
+        let [untouched, ascending] = made.map(|made| format!("{:?}", Answer::smoothed(made)));
+        assert_eq!(untouched, ascending);
+    }
 }

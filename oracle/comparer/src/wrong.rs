@@ -1,7 +1,7 @@
 //! Wrong answers that look right: what a product with one misreading of document 01 would say.
 
 use crate::wrong_merging::{merging, Misread};
-use crate::{wrong_broken, wrong_files, wrong_removal};
+use crate::{wrong_broken, wrong_files, wrong_removal, wrong_smoothing};
 use judge::mesh::{Corner, Merged, Pushed, Verdict};
 use judge::reading::merging::put_together_same_attrs;
 use judge::reading::{cleaning, edges, numbers, panel_file, panels};
@@ -67,6 +67,7 @@ fn of_its_own(call: Call) -> &'static [(&'static str, Wrong)] {
         Call::WritePanel => wrong_files::WRITER,
         Call::CleanPanel => wrong_files::CLEANER,
         Call::Sheet => &[("panels by normals", panels_by_normals)],
+        Call::LoopSubdivision => wrong_smoothing::SMOOTHING,
         Call::Push => &[
             ("quadrangles among the larger faces", |q, right| accepted(right, || pushed_by(q, |n| (n >= 3).then(|| n.min(4))))),
             ("larger faces by their size", |q, right| accepted(right, || pushed_by(q, |n| (n >= 3).then(|| n)))),
@@ -107,8 +108,9 @@ fn order_before_range(question: &Question, right: &Answer) -> Option<Answer> {
 
 fn sizes_that_wrap(question: &Question, right: &Answer) -> Option<Answer> {
     let mesh = &question.mesh;
-    let sum = mesh.sizes.iter().fold(0u32, |sum, size| sum.wrapping_add(*size));
-    (right.number == 2 && mesh.corners.len() % 3 == 0 && sum as usize == mesh.corner_count()).then(|| Answer::mesh_number(3))
+    let sum = mesh.sizes.iter().fold(0u64, |sum, size| sum + *size as u64);
+    let wraps = sum != mesh.corner_count() as u64 && sum as u32 as usize == mesh.corner_count();
+    (right.number == 2 && mesh.corners.len() % 3 == 0 && wraps).then(|| Answer::mesh_number(3))
 }
 
 fn missing_position(question: &Question, right: &Answer) -> Option<Answer> {

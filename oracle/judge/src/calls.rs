@@ -1,6 +1,7 @@
 //! The calls of the product's C interface, what can be asked of each, and the one shape of all their answers.
 
-use crate::mesh::{Compacted, Merged, Mesh, Pushed, Unfolded, Verdict};
+use crate::mesh::{Compacted, Merged, Mesh, Pushed, Smoothed, Unfolded, Verdict};
+use crate::reading::smoothing::Cosines;
 
 #[derive(Clone, Copy, Debug, PartialEq, Eq)]
 pub enum Call {
@@ -19,11 +20,12 @@ pub enum Call {
     CleanPanel,
     Sheet,
     Push,
+    LoopSubdivision,
 }
 
 impl Call {
-    /// In the order of the C interface, but that `push` stands last.
-    pub const ALL: [Call; 15] = [
+    /// In the order in which they came to be compared.
+    pub const ALL: [Call; 16] = [
         Call::MeshNumber,
         Call::Face,
         Call::RemoveUnusedAttrs,
@@ -39,6 +41,7 @@ impl Call {
         Call::CleanPanel,
         Call::Sheet,
         Call::Push,
+        Call::LoopSubdivision,
     ];
 
     /// The name in the C interface, without its prefix.
@@ -59,6 +62,7 @@ impl Call {
             Call::CleanPanel => "clean_panel",
             Call::Sheet => "sheet",
             Call::Push => "push",
+            Call::LoopSubdivision => "loop_subdivision",
         }
     }
 
@@ -68,7 +72,7 @@ impl Call {
     }
 }
 
-/// All that a call can be given. A call looks at its own part: `face`, `tolerance` and `use_normal` belong to one call each, `file` to
+/// All that a call can be given. A call looks at its own part: `face`, `tolerance`, `use_normal` and the cosines belong to one call each, `file` to
 /// the three that read a panel file, of the mesh only the faces to `push`, `rooms` holds the length of each lent result list, in the order of the C interface.
 #[derive(Clone, Debug, Default)]
 pub struct Question {
@@ -76,8 +80,16 @@ pub struct Question {
     pub face: usize,
     pub tolerance: f64,
     pub use_normal: bool,
+    pub ones: Vec<f64>,
+    pub twos: Vec<f64>,
     pub file: Vec<u8>,
     pub rooms: Vec<usize>,
+}
+
+impl Question {
+    pub fn cosines(&self) -> Cosines<'_> {
+        Cosines { ones: &self.ones, twos: &self.twos }
+    }
 }
 
 /// The numbers at the front of one lent list; the room past them stays as it was.
@@ -119,6 +131,7 @@ impl Answer {
             Call::Push | Call::ExtractBoundaries | Call::HouseWires | Call::Components => (vec![words(), words()], 2),
             Call::ReadPanel => (vec![floats(), floats(), floats(), words(), words()], 5),
             Call::WritePanel | Call::CleanPanel | Call::Sheet => (vec![Bytes(vec![])], 1),
+            Call::LoopSubdivision => (vec![floats(), words(), words()], 3),
         };
         Answer { number, lists, counts: vec![Count::Is(0); counts] }
     }
@@ -156,6 +169,11 @@ impl Answer {
         let counts = [made.corners.len() / 3, made.sizes.len()];
         let lists = vec![Numbers::Words(made.corners), Numbers::Words(made.sizes), Numbers::Words(made.origins)];
         Answer::done(lists, &counts)
+    }
+
+    pub fn smoothed(made: Smoothed) -> Answer {
+        let counts = [made.positions.len() / 3, made.corners.len() / 3, made.sizes.len()];
+        Answer::done(vec![Numbers::Floats(made.positions), Numbers::Words(made.corners), Numbers::Words(made.sizes)], &counts)
     }
 
     pub fn merged(made: Merged) -> Answer {

@@ -67,6 +67,13 @@ pub struct Unfolded {
     pub origins: Vec<u32>,
 }
 
+/// What smoothing gives.
+pub struct Smoothed {
+    pub positions: Vec<f64>,
+    pub corners: Vec<u32>,
+    pub sizes: Vec<u32>,
+}
+
 /// What merging gives; the pairs it compared in positions, texture points and normals.
 pub struct Merged {
     pub corners: Vec<u32>,

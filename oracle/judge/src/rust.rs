@@ -3,7 +3,9 @@
 //! The Rust checks less than document 01 asks, and panics where document 01 refuses; so it is asked only where the question is accepted.
 
 use crate::calls::{Answer, Call, Question};
-use crate::mesh::{Compacted, Merged, Mesh, Pushed, Unfolded, Verdict, MISSING};
+use crate::mesh::{Compacted, Merged, Mesh, Pushed, Smoothed, Unfolded, Verdict, MISSING};
+use crate::reading::smoothing::COSINES;
+use std::f64::consts::PI;
 use truck_polymesh::{Faces, Point3, PolygonMesh, StandardAttributes, StandardVertex, Vector2, Vector3};
 
 pub mod untouched {
@@ -29,6 +31,24 @@ pub mod ascending {
     pub fn answer(call: Call, question: &Question) -> Option<Answer> {
         answered(call, question)
     }
+}
+
+/// The cosines as the Rust computes them where it smooths, of pi/n and of 2·pi/n, n from 1 on: while it runs, as the Rust does, and not by the
+/// compiler, which may have another cosine.
+pub fn cosines() -> [Vec<f64>; 2] {
+    let counts: Vec<usize> = (1..=COSINES).collect();
+    // Safety: what is read is there.
+    let count = |n: &usize| unsafe { std::ptr::read_volatile(n) };
+    [
+        counts.iter().map(|n| f64::cos(PI / count(n) as f64)).collect(),
+        counts.iter().map(|n| f64::cos(2.0 * PI / count(n) as f64)).collect(),
+    ]
+}
+
+/// Whether the cosines of a question are those that the Rust would take.
+pub fn has_its_cosines(question: &Question) -> bool {
+    let bits = |list: &[f64]| list.iter().map(|x| x.to_bits()).collect::<Vec<_>>();
+    cosines().map(|list| bits(&list)) == [bits(&question.ones), bits(&question.twos)]
 }
 
 /// The product's lists as the Rust's mesh; none where the Rust finds an index out of range.

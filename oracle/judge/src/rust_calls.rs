@@ -27,6 +27,17 @@ fn origins(mesh: &Mesh, corners: &[u32], expected: &[u32]) -> Vec<u32> {
     rust.face_iter().filter(|_| is_alike).map(origin).collect()
 }
 
+/// The Rust leaves texture points and normals as they are.
+pub fn loop_subdivision(mesh: &Mesh) -> Smoothed {
+    let mut rust = into_rust(mesh).unwrap();
+    rust.loop_subdivision();
+    Smoothed {
+        positions: rust.positions().iter().flat_map(|p| [p.x, p.y, p.z]).collect(),
+        corners: flat_corners(rust.faces()),
+        sizes: sizes(rust.faces()),
+    }
+}
+
 pub fn put_together_same_attrs(mesh: &Mesh, tolerance: f64) -> Merged {
     let mut rust = into_rust(mesh).unwrap();
     let pairs = compared_pairs(&rust, tolerance);
@@ -83,6 +94,7 @@ fn answered(call: Call, question: &Question) -> Option<Answer> {
             let faces = pushed(mesh);
             Answer::pushed(Pushed { corners: flat_corners(&faces), sizes: sizes(&faces) })
         }
+        Call::LoopSubdivision => Answer::smoothed(loop_subdivision(mesh)),
         Call::HouseWires | Call::ReadPanel | Call::WritePanel | Call::CleanPanel | Call::Sheet => return None,
     })
 }

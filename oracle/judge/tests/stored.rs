@@ -1,5 +1,7 @@
 //! The outputs that are stored beside the product's programs, held to document 01 read again.
 
+use judge::mesh::Mesh;
+use judge::reading::smoothing::{self, Cosines};
 use judge::reading::{panel_file, sheet, writing};
 use std::collections::BTreeMap;
 use std::fs::{read, read_to_string};
@@ -34,6 +36,22 @@ fn meshclean_writes_the_cleaned_file() {
     assert_eq!(cleaned, read(folder.join("stdout")).unwrap());
 }
 
+/// A file cleaned, smoothed once with the Rust's own cosines, and written.
+fn rounded(file: &[u8]) -> Vec<u8> {
+    let mesh = panel_file::read(&writing::clean(file).unwrap()).unwrap();
+    let [ones, twos] = judge::rust::cosines();
+    let cosines = Cosines { ones: &ones, twos: &twos };
+    assert_eq!(smoothing::number(&mesh, cosines), 0);
+    let smoothed = smoothing::loop_subdivision(&mesh, cosines);
+    writing::write(&Mesh { positions: smoothed.positions, corners: smoothed.corners, sizes: smoothed.sizes, ..mesh })
+}
+
+#[test]
+fn meshround_writes_the_rounded_file() {
+    let folder = root().join("crates/meshround");
+    assert!(rounded(&read(folder.join("stdin")).unwrap()) == read(folder.join("stdout")).unwrap());
+}
+
 #[test]
 fn sheets_prints_each_sheet() {
     let sheets: String = files("try_sheets").iter().map(|(name, file)| format!("== {name}\n{}", sheet::sheet(file))).collect();
@@ -49,6 +67,11 @@ fn damaged_counts_each_number() {
     assert_eq!(counted, stored("try_damaged"));
 }
 
+/// A file of a cover, by its ending: the name of a rounded cover has a point of its own.
+fn of(cover: &Path, ending: &str) -> PathBuf {
+    PathBuf::from(format!("{}.{ending}", cover.display()))
+}
+
 /// The covers of examples/, each without its ending.
 fn covers() -> Vec<PathBuf> {
     let all = std::fs::read_dir(root().join("examples")).unwrap().map(|entry| entry.unwrap().path());
@@ -60,8 +83,26 @@ fn covers() -> Vec<PathBuf> {
 #[test]
 fn examples_have_their_sheets() {
     for cover in covers() {
-        let file = read(cover.with_extension("panel")).unwrap();
-        assert_eq!(sheet::sheet(&file), read_to_string(cover.with_extension("sheet")).unwrap(), "{cover:?}");
+        let file = read(of(&cover, "panel")).unwrap();
+        assert_eq!(sheet::sheet(&file), read_to_string(of(&cover, "sheet")).unwrap(), "{cover:?}");
+    }
+}
+
+/// A cover that is stored rounded is so, and rounded again it has as many hems, the same verdict and one panel.
+#[test]
+fn examples_have_their_rounded_files() {
+    let drawn: Vec<PathBuf> = covers().into_iter().filter(|cover| of(cover, "round.panel").exists()).collect();
+    assert!(!drawn.is_empty());
+    for cover in drawn {
+        let round = rounded(&read(of(&cover, "panel")).unwrap());
+        assert!(round == read(of(&cover, "round.panel")).unwrap(), "{cover:?}");
+        let kinds = |sheet: String| -> Vec<String> {
+            let lines = sheet.lines().skip(1);
+            lines.map(|line| if line.starts_with("hem ") { "hem".to_string() } else { line.to_string() }).collect()
+        };
+        let before = kinds(read_to_string(of(&cover, "sheet")).unwrap());
+        assert_eq!(kinds(sheet::sheet(&round)), before, "{cover:?}");
+        assert_eq!(kinds(sheet::sheet(&rounded(&round))), before, "{cover:?}");
     }
 }
 
@@ -69,14 +110,14 @@ fn examples_have_their_sheets() {
 #[test]
 fn examples_have_their_cleaned_files() {
     for cover in covers() {
-        let path = cover.with_extension("clean.panel");
-        let cleaned = writing::clean(&read(cover.with_extension("panel")).unwrap()).unwrap();
+        let path = of(&cover, "clean.panel");
+        let cleaned = writing::clean(&read(of(&cover, "panel")).unwrap()).unwrap();
         if std::env::var_os("CLEAN_EXAMPLES").is_some() {
             std::fs::write(&path, &cleaned).unwrap();
         }
         assert!(cleaned == read(&path).unwrap(), "{path:?}");
         assert!(cleaned == writing::clean(&cleaned).unwrap(), "{path:?}");
-        assert_eq!(sheet::sheet(&cleaned), read_to_string(cover.with_extension("sheet")).unwrap(), "{path:?}");
+        assert_eq!(sheet::sheet(&cleaned), read_to_string(of(&cover, "sheet")).unwrap(), "{path:?}");
     }
 }
 

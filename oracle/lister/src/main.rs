@@ -8,6 +8,7 @@ mod faces;
 mod merging;
 mod panel_files;
 mod record;
+mod smoothing;
 mod subjects;
 
 use comparer::check::{rust_differs, rust_knows};
@@ -22,6 +23,11 @@ const MOST_BYTES: usize = 4_096;
 /// The calls that the list asks: all but the sheet.
 fn calls() -> impl Iterator<Item = Call> {
     Call::ALL.into_iter().filter(|call| *call != Call::Sheet)
+}
+
+/// Those that are asked of every mesh. Smoothing has surfaces of its own.
+fn calls_on_meshes() -> impl Iterator<Item = Call> {
+    calls().filter(|call| !call.reads_a_file() && *call != Call::LoopSubdivision)
 }
 
 /// The place of a call among all of them.
@@ -39,6 +45,7 @@ fn numbers(call: Call) -> &'static [u32] {
         Call::ReadPanel | Call::CleanPanel => &[0, 1, 3, 5, 9, 11, 12, 13, 14],
         Call::WritePanel => &[0, 1, 2, 3, 4, 5, 9, 14],
         Call::Push => &[0, 1, 2, 3, 9],
+        Call::LoopSubdivision => &[0, 1, 2, 3, 4, 5, 7, 9, 10, 15, 16, 17],
         _ => &[0, 1, 2, 3, 4, 5, 9],
     }
 }
@@ -71,7 +78,7 @@ impl Lister {
     fn mesh(&mut self, mesh: &Mesh, tolerance: f64, more: usize) {
         self.list.mesh(mesh);
         let mut question = Question { mesh: mesh.clone(), tolerance, ..Question::default() };
-        for call in calls().filter(|call| !call.reads_a_file()) {
+        for call in calls_on_meshes() {
             question.rooms = stated_rooms(call, mesh).iter().map(|room| room + more).collect();
             match call {
                 Call::Face => {
@@ -96,7 +103,7 @@ impl Lister {
     /// A mesh, put to every call that lends, with the room of each list one short in turn, and with all of them empty.
     fn short_rooms(&mut self, mesh: &Mesh, tolerance: f64) {
         self.list.mesh(mesh);
-        for call in calls().filter(|call| !call.reads_a_file()) {
+        for call in calls_on_meshes() {
             let mut question = Question { mesh: mesh.clone(), tolerance, ..Question::default() };
             self.short_rooms_of(call, &mut question);
         }
@@ -135,6 +142,12 @@ impl Lister {
         let question = Question { mesh: mesh.clone(), rooms, ..Question::default() };
         self.case(Call::Push, &question);
         question
+    }
+
+    /// A surface and its cosines, put to smoothing.
+    fn smoothing(&mut self, question: &Question) {
+        self.list.surface(question);
+        self.case(Call::LoopSubdivision, question);
     }
 
     /// A panel file, put to the reader and to the cleaner.
@@ -198,6 +211,13 @@ fn list() -> Lister {
     for mesh in faces::for_short_rooms() {
         let mut question = lister.faces(&mesh, 0);
         lister.short_rooms_of(Call::Push, &mut question);
+    }
+    let asked = [smoothing::smallest(), smoothing::at_random(), smoothing::of_the_mesh(), smoothing::of_the_faces()];
+    let asked = asked.into_iter().chain([smoothing::of_the_cosines(), smoothing::of_the_limits(), smoothing::ordered()]);
+    asked.flatten().for_each(|question| lister.smoothing(&question));
+    for mut question in smoothing::for_short_rooms() {
+        lister.smoothing(&question);
+        lister.short_rooms_of(Call::LoopSubdivision, &mut question);
     }
     lister
 }

@@ -7,6 +7,8 @@ use judge::{Answer, Call, Count, Mesh, Numbers, Question};
 const MESH: u32 = 0;
 /// The kind of a record that holds a panel file.
 const FILE: u32 = 12;
+/// The kind of a record that holds two lists of cosines.
+const COSINES: u32 = 17;
 /// What stands for a verdict that is not answered.
 const NONE: u32 = 0xffff_ffff;
 
@@ -32,6 +34,9 @@ impl File {
 #[derive(Default)]
 pub struct List {
     words: Vec<u32>,
+    /// The mesh and the cosines that were written last.
+    mesh: Vec<u32>,
+    cosines: Vec<u32>,
 }
 
 impl List {
@@ -42,12 +47,9 @@ impl List {
     /// The mesh that the cases after it are about.
     pub fn mesh(&mut self, mesh: &Mesh) {
         let mut body = vec![];
-        floats(&mut body, &mesh.positions);
-        floats(&mut body, &mesh.textures);
-        floats(&mut body, &mesh.normals);
-        words(&mut body, &mesh.corners);
-        words(&mut body, &mesh.sizes);
+        lists(&mut body, mesh);
         self.record(MESH, &body);
+        self.mesh = body;
     }
 
     /// The panel file that the cases after it are about.
@@ -56,6 +58,22 @@ impl List {
         body.extend(packed(&file.unit));
         body.extend(packed(&file.rest));
         self.record(FILE, &body);
+    }
+
+    /// A surface and its cosines, which the cases after it are about; each only where it is another than the one before.
+    pub fn surface(&mut self, question: &Question) {
+        let mut body = vec![];
+        lists(&mut body, &question.mesh);
+        if body != self.mesh {
+            self.mesh(&question.mesh);
+        }
+        let mut body = vec![];
+        floats(&mut body, &question.ones);
+        floats(&mut body, &question.twos);
+        if body != self.cosines {
+            self.record(COSINES, &body);
+            self.cosines = body;
+        }
     }
 
     /// A case: what the call is given beside the mesh or the file, and its whole answer.
@@ -92,6 +110,7 @@ fn kind(call: Call) -> u32 {
         Call::Push => 13,
         Call::WritePanel => 14,
         Call::CleanPanel => 15,
+        Call::LoopSubdivision => 16,
         Call::Sheet => unreachable!("the list does not ask the sheet"),
         _ => 1 + place(call) as u32,
     }
@@ -105,6 +124,15 @@ fn given(call: Call, question: &Question) -> u64 {
         Call::Components => question.use_normal as u64,
         _ => 0,
     }
+}
+
+/// The five lists of a mesh.
+fn lists(body: &mut Vec<u32>, mesh: &Mesh) {
+    floats(body, &mesh.positions);
+    floats(body, &mesh.textures);
+    floats(body, &mesh.normals);
+    words(body, &mesh.corners);
+    words(body, &mesh.sizes);
 }
 
 /// How many numbers a list has, how often its first is repeated at its front, and the numbers without these repetitions.

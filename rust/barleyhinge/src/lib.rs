@@ -4,7 +4,7 @@
 //! that is stated for it, and gives back what was written, as lists of its own. A number other than 0 comes back as a [`Refusal`].
 //!
 //! The library itself allocates nothing and has no statics, so calls may run side by side. It needs stack: the most for
-//! [`clean_panel`], 604 KB (`include/barleyhinge.h` has the figure of each call); a Rust thread has 2 MB unless it is asked for less.
+//! [`sheet`], 568 KB (`include/barleyhinge.h` has the figure of each call); a Rust thread has 2 MB unless it is asked for less.
 //!
 //! ```no_run
 //! use barleyhinge::{read_panel, Refusal, Verdict};
@@ -38,6 +38,9 @@ pub const MAX_FACES: usize = 1_365;
 
 /// The most corners of a face.
 pub const MAX_FACE_CORNERS: usize = 32;
+
+/// How many values a list of cosines has, and how many neighbours a position may have that is smoothed.
+pub const COSINES: usize = 64;
 
 /// The most bytes of a panel file that has a sheet; of a longer one the sheet is `refused 1`.
 pub const MAX_FILE: usize = 65_536;
@@ -94,6 +97,27 @@ pub struct Faces {
 pub struct Unfolded {
     pub faces: Faces,
     pub origins: Vec<u32>,
+}
+
+/// The two lists of cosines that smoothing takes: of pi/n and of 2·pi/n, n from 1.
+#[derive(Clone, Debug, PartialEq)]
+pub struct Cosines {
+    pub ones: Vec<f64>,
+    pub twos: Vec<f64>,
+}
+
+impl Cosines {
+    /// As this machine's `f64::cos` gives them.
+    pub fn new() -> Cosines {
+        let of = |turn: f64| (1..=COSINES).map(|n| (turn / n as f64).cos()).collect();
+        Cosines { ones: of(std::f64::consts::PI), twos: of(2.0 * std::f64::consts::PI) }
+    }
+}
+
+impl Default for Cosines {
+    fn default() -> Self {
+        Cosines::new()
+    }
 }
 
 /// What merging gives: the corners, and how many pairs were compared in each list. The other lists don't change.
@@ -277,6 +301,42 @@ impl<'a> Mesh<'a> {
             &mut made.normal_pairs
         );
         Refusal::unless_done(number)?;
+        Ok(made)
+    }
+
+    /// Smoothing by Loop's method: four triangles for one, old positions moved and one new position on each edge. Texture points and
+    /// normals are the mesh's own; the corners on edges have neither. Refuses 7, 15 (a face is no triangle), 16 (a face is folded, or a
+    /// position is in no face), 10, 17 and 1 (more than 341 faces), in this order.
+    pub fn loop_subdivision(self, cosines: &Cosines) -> Result<OwnedMesh, Refusal> {
+        let mut made = OwnedMesh {
+            positions: vec![0.0; self.positions.len() + 3 * self.corner_count()],
+            textures: self.textures.to_vec(),
+            normals: self.normals.to_vec(),
+            corners: vec![0; 4 * self.corners.len()],
+            sizes: vec![0; 4 * self.sizes.len()],
+        };
+        let (mut positions, mut corners, mut faces) = (0, 0, 0);
+        let number = on!(
+            self,
+            bh_loop_subdivision,
+            cosines.ones.as_ptr(),
+            cosines.ones.len(),
+            cosines.twos.as_ptr(),
+            cosines.twos.len(),
+            made.positions.as_mut_ptr(),
+            made.positions.len(),
+            made.corners.as_mut_ptr(),
+            made.corners.len(),
+            made.sizes.as_mut_ptr(),
+            made.sizes.len(),
+            &mut positions,
+            &mut corners,
+            &mut faces
+        );
+        Refusal::unless_done(number)?;
+        made.positions.truncate(3 * positions);
+        made.corners.truncate(3 * corners);
+        made.sizes.truncate(faces);
         Ok(made)
     }
 

@@ -72,6 +72,22 @@ extern "C" {
         normalpairs: *mut usize,
     ) -> u32;
 
+    pub fn bh_loop_subdivision(
+        positions: *const f64, positions_len: usize,
+        textures: *const f64, textures_len: usize,
+        normals: *const f64, normals_len: usize,
+        corners: *const u32, corners_len: usize,
+        sizes: *const u32, sizes_len: usize,
+        ones: *const f64, ones_len: usize,
+        twos: *const f64, twos_len: usize,
+        newpositions: *mut f64, newpositions_len: usize,
+        newcorners: *mut u32, newcorners_len: usize,
+        newsizes: *mut u32, newsizes_len: usize,
+        positioncount: *mut usize,
+        cornercount: *mut usize,
+        facecount: *mut usize,
+    ) -> u32;
+
     pub fn bh_shell_condition(
         positions: *const f64, positions_len: usize,
         textures: *const f64, textures_len: usize,

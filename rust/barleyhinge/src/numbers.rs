@@ -5,7 +5,7 @@
 #[non_exhaustive]
 #[repr(u32)]
 pub enum Refusal {
-    /// A list is over its limit.
+    /// A list is over its limit, or would be in what smoothing gives.
     OverLimit = 1,
     /// A length is no multiple of its width, or the sizes don't add up to the corners.
     Misfit = 2,
@@ -23,7 +23,7 @@ pub enum Refusal {
     Quotient = 8,
     /// A lent list is shorter than its stated room. No call of this crate gives it: each lends what is stated.
     Room = 9,
-    /// House wires where the verdict is neither Oriented nor Closed.
+    /// House wires, or smoothing, where the verdict is neither Oriented nor Closed.
     NoHouseWires = 10,
     /// The file stops inside a record, or before its end record.
     FileCut = 11,
@@ -33,6 +33,12 @@ pub enum Refusal {
     AfterEnd = 13,
     /// A coordinate in a file is not finite: not a number, or an infinity.
     NotFinite = 14,
+    /// Smoothing: a face isn't a triangle.
+    NotTriangle = 15,
+    /// Smoothing: a face is folded, or a position is in no face.
+    FoldedOrUnused = 16,
+    /// Smoothing: a cosine list isn't 64 long or holds a value not within -1 to 1, or a position has over 64 neighbours.
+    UnfitCosines = 17,
 }
 
 impl Refusal {
@@ -52,6 +58,9 @@ impl Refusal {
         Refusal::Record,
         Refusal::AfterEnd,
         Refusal::NotFinite,
+        Refusal::NotTriangle,
+        Refusal::FoldedOrUnused,
+        Refusal::UnfitCosines,
     ];
 
     /// Its number in the table.
@@ -81,11 +90,14 @@ impl Refusal {
             Refusal::Coordinate => "a coordinate is not finite or too large",
             Refusal::Quotient => "a coordinate is too large for the tolerance",
             Refusal::Room => "a lent list is too short",
-            Refusal::NoHouseWires => "house wires where the verdict is neither Oriented nor Closed",
+            Refusal::NoHouseWires => "the verdict is neither Oriented nor Closed",
             Refusal::FileCut => "the file stops too early",
             Refusal::Record => "a record's kind is unknown, or its length is wrong",
             Refusal::AfterEnd => "bytes follow the end record",
             Refusal::NotFinite => "a coordinate in a file is not finite",
+            Refusal::NotTriangle => "a face isn't a triangle",
+            Refusal::FoldedOrUnused => "a face is folded, or a position is in no face",
+            Refusal::UnfitCosines => "a cosine list isn't 64 long or holds a value not within -1 to 1, or a position has over 64 neighbours",
         }
     }
 }

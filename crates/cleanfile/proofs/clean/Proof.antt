@@ -1,5 +1,5 @@
--- `clean` meets its contract: room first, then the file's length, then what the reader answers (`Reading`). Assumes nothing.
-use Rattle.cleanfile.proofs.Reading.{call-short, call-long, call-read}
+-- `clean` meets its contract: room first, then the file's length, then what the reader answers (`Answering`). Assumes nothing.
+use Rattle.cleanfile.proofs.Answering.{call-short, call-long, call-read}
 use borrow.Author.Needs.{needs}
 use Rattle.cleanfile.proofs.clean.Statement.{statement}
 use Rattle.cleanfile.proofs.clean.Tie as tie

@@ -7,10 +7,10 @@ use Rattle.try_replay.proofs.replay.Statement.{statement}
 use Rattle.try_replay.proofs.replay.Tie as tie
 
 abbrev Inv-loop : tie.InvT-loop
-Inv-loop list counts₀ end at₀ subject₀ counts at subject = length counts ≡ length counts₀
+Inv-loop list counts₀ end at₀ about₀ counts at about = length counts ≡ length counts₀
 
 abbrev μ-loop : tie.MeasureT-loop
-μ-loop list counts₀ end at₀ subject₀ counts at subject = end - at
+μ-loop list counts₀ end at₀ about₀ counts at about = end - at
 
 loop-holds : tie.Need-loop-holds Inv-loop μ-loop
 loop-holds c = search needs

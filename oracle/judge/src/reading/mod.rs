@@ -9,6 +9,7 @@ pub mod numbers;
 pub mod panel_file;
 pub mod panels;
 pub mod sheet;
+pub mod smoothing;
 pub mod writing;
 
 use crate::calls::{Answer, Call, Question};
@@ -39,5 +40,6 @@ pub fn answer(call: Call, question: &Question) -> Answer {
         Call::CleanPanel => Answer::bytes(writing::clean(file).unwrap()),
         Call::Sheet => Answer::sheet(sheet::sheet(file)),
         Call::Push => Answer::pushed(cleaning::push(mesh)),
+        Call::LoopSubdivision => Answer::smoothed(smoothing::loop_subdivision(mesh, question.cosines())),
     }
 }

@@ -1,12 +1,12 @@
 //! 'The mesh' and 'Numbers returned'.
 
-use super::{door, edges, panel_file, writing};
+use super::{door, edges, panel_file, smoothing, writing};
 use crate::calls::{Call, Question};
 use crate::mesh::{Mesh, Verdict, MISSING};
 use std::ops::Range;
 
 /// How many numbers the table has with the rows of document 02, from 0 on.
-pub const NUMBERS: usize = 15;
+pub const NUMBERS: usize = 18;
 /// The most positions, texture points and normals, each.
 pub const ATTRIBUTES: usize = 2_048;
 /// The most corners.
@@ -34,6 +34,10 @@ pub fn number(call: Call, question: &Question) -> u32 {
         // A refused file has a sheet of its own, which says so: only its room can be refused.
         Call::Sheet => rooms,
         Call::Push => first(&[faces_number(mesh), rooms]),
+        Call::LoopSubdivision => match mesh_number(mesh) {
+            0 => first(&[smoothing::number(mesh, question.cosines()), rooms]),
+            number => number,
+        },
         _ => first(&[mesh_number(mesh), rooms]),
     }
 }
@@ -103,7 +107,7 @@ pub fn merging_number(mesh: &Mesh, tolerance: f64) -> u32 {
         return 6;
     }
     let all = || mesh.positions.iter().chain(&mesh.textures).chain(&mesh.normals);
-    if all().any(|coordinate| !coordinate.is_finite() || coordinate.abs() > 2f64.powi(60)) {
+    if all().any(is_boundless) {
         return 7;
     }
     let raw = || mesh.textures.iter().chain(&mesh.normals);
@@ -111,6 +115,11 @@ pub fn merging_number(mesh: &Mesh, tolerance: f64) -> u32 {
         return 8;
     }
     0
+}
+
+/// A coordinate is not finite, or its magnitude is above 2^60.
+pub fn is_boundless(coordinate: &f64) -> bool {
+    !coordinate.is_finite() || coordinate.abs() > 2f64.powi(60)
 }
 
 /// 9 where a lent result list is shorter than its stated room, else 0.
@@ -142,6 +151,8 @@ pub fn stated_rooms(call: Call, mesh: &Mesh) -> Vec<usize> {
         Call::WritePanel => vec![writing::length(mesh)],
         Call::CleanPanel => vec![writing::LONGEST],
         Call::Sheet => vec![super::sheet::ROOM],
+        // Document 02 names no room for smoothing: a position more for each corner at most, since an edge begins at each corner; four faces for one.
+        Call::LoopSubdivision => vec![mesh.positions.len() + 3 * corners, 4 * mesh.corners.len(), 4 * mesh.sizes.len()],
     }
 }
 

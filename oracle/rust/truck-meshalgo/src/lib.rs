@@ -31,7 +31,11 @@ pub mod filters {
         include!(concat!(env!("OUT_DIR"), "/optimizing.rs"));
         include!("compared_pairs.rs");
     }
+    mod subdivision {
+        include!(concat!(env!("OUT_DIR"), "/subdivision.rs"));
+    }
     pub use optimizing::{compared_pairs, OptimizingFilter};
+    pub use subdivision::Subdivision;
 }
 
 pub mod analyzers {

@@ -1,6 +1,7 @@
 //! Points and vectors of f64. Each operation on them is one f64 operation on each axis, and a sum of squares is taken from
 //! left to right: that is `cgmath`'s arithmetic, and document 01's.
 
+use std::iter::Sum;
 use std::ops::{Add, Div, Mul, Neg, Sub};
 
 /// What a coordinate may be cast to.
@@ -125,21 +126,38 @@ impl Sub<Point3> for &Point3 {
     }
 }
 
-// The rest is for the parts of the Rust that are compiled and not judged by: planes, curvature, transformations.
+impl Vector3 {
+    pub const fn zero() -> Vector3 {
+        Vector3::new(0.0, 0.0, 0.0)
+    }
+}
+
+/// From 0.0 on each axis, left to right.
+impl Sum for Vector3 {
+    fn sum<I: Iterator<Item = Vector3>>(vectors: I) -> Vector3 {
+        vectors.fold(Vector3::zero(), |sum, vector| sum + vector)
+    }
+}
 
 impl Point3 {
     pub const fn origin() -> Point3 {
         Point3::new(0.0, 0.0, 0.0)
     }
+    /// On each axis: self + (other - self)/2.
+    pub fn midpoint(self, other: Point3) -> Point3 {
+        self + (other - self) / 2.0
+    }
+}
+
+// The rest is for the parts of the Rust that are compiled and not judged by: planes, curvature, transformations.
+
+impl Point3 {
     pub fn to_vec(self) -> Vector3 {
         self - Point3::origin()
     }
 }
 
 impl Vector3 {
-    pub const fn zero() -> Vector3 {
-        Vector3::new(0.0, 0.0, 0.0)
-    }
     pub const fn unit_x() -> Vector3 {
         Vector3::new(1.0, 0.0, 0.0)
     }

@@ -1,0 +1,5 @@
+pub mod Gathering
+pub mod Edges
+pub mod Counted
+pub mod Hemmed
+pub mod Rules

@@ -1,0 +1,9 @@
+pub mod Literals
+pub mod Formulas
+pub mod Taking
+pub mod Edgewise
+pub mod Filling
+pub mod Conditions
+pub mod Moves
+pub mod Middles
+pub mod Fitting

@@ -1,0 +1,4 @@
+pub mod OneUse
+pub mod Laying
+pub mod Taking
+pub mod Whole

@@ -1,0 +1,5 @@
+pub mod Fronts
+pub mod Reading
+pub mod Compacting
+pub mod Unfolding
+pub mod Kept

@@ -1,0 +1,56 @@
+-- What the functions of the crate hand to one another; a caller needs none of it. Assumes nothing.
+use Prim.Native.Nat.{ℕ, _*_}
+use mathlib.Core.Path.{_≡_}
+use mathlib.Core.List.{List}
+use lib.ListN.{length, take}
+use lib.Ieee.{Float}
+use Rattle.lists.specs.Putting.{Front}
+use Rattle.mesh.specs.Limits.{pointWidth, texelWidth, width, faceLimit, pointNumbers, texelNumbers, cornerNumbers}
+use Rattle.mesh.specs.Mesh.{Mesh, meshOf}
+use Rattle.mesh.specs.Table.{meshNumber}
+use Rattle.panelfile.specs.declared.MeshRead.{MeshRead}
+use Rattle.opening.specs.Opening.{FullRoom, frontOf, Fronts}
+
+-- the mesh at the front of five lists is accepted, and the lists are at the full limits; with lists for what is left of its faces
+pub record Standing (l : Mesh) (d : MeshRead) : Type 0 where
+  pub room : FullRoom l
+  pub accepted : meshNumber (frontOf l d) ≡ 0
+  pub fronts : Fronts (frontOf l d) l d
+
+pub record FaceRoom (l : Mesh) (d : MeshRead) (unfolded newsizes tags : List ℕ) : Type 0 where
+  pub standing : Standing l d
+  pub corners : length unfolded ≡ cornerNumbers
+  pub sizes : length newsizes ≡ faceLimit
+  pub origins : length tags ≡ faceLimit
+
+-- the mesh with these corners, whose entries are at the front of their lists, and whose sizes are all of theirs
+abbrev pub unfoldedFront : Mesh → MeshRead → List ℕ → Mesh
+unfoldedFront l d corners =
+    meshOf
+    (take (pointWidth * d .positions) (l .positions))
+    (take (texelWidth * d .textures) (l .textures))
+    (take (pointWidth * d .normals) (l .normals))
+    corners
+    (l .sizes)
+
+-- it is accepted, and the other lists are at the full limits; with lists for the entries that its faces use
+pub record Unfolded (l : Mesh) (d : MeshRead) (unfolded : List ℕ) : Type 0 where
+  pub accepted : meshNumber (unfoldedFront l d unfolded) ≡ 0
+  pub position-front : Front (l .positions) (take (pointWidth * d .positions) (l .positions)) (pointWidth * d .positions)
+  pub texture-front : Front (l .textures) (take (texelWidth * d .textures) (l .textures)) (texelWidth * d .textures)
+  pub normal-front : Front (l .normals) (take (pointWidth * d .normals) (l .normals)) (pointWidth * d .normals)
+  pub positions : length (l .positions) ≡ pointNumbers
+  pub textures : length (l .textures) ≡ texelNumbers
+  pub normals : length (l .normals) ≡ pointNumbers
+  pub corners : length (l .corners) ≡ cornerNumbers
+
+pub record EntryRoom (l : Mesh) (d : MeshRead) (unfolded : List ℕ) (p t n : List Float) : Type 0 where
+  pub ready : Unfolded l d unfolded
+  pub positions : length p ≡ pointNumbers
+  pub textures : length t ≡ texelNumbers
+  pub normals : length n ≡ pointNumbers
+
+-- the mesh m is left at the front of the lists
+pub record Kept (m l : Mesh) (r : MeshRead) : Type 0 where
+  pub number : r .number ≡ 0
+  pub fronts : Fronts m l r

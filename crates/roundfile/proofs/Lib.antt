@@ -1,0 +1,4 @@
+pub mod Smooth
+pub mod Answering
+pub mod Doubles
+pub mod Promised

@@ -1,0 +1,3 @@
+pub mod Marking
+pub mod Tests
+pub mod Rows

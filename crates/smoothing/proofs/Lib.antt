@@ -1,0 +1,8 @@
+pub mod Rooms
+pub mod Rounded
+pub mod Rows
+pub mod Passing
+pub mod Gathering
+pub mod Writing
+pub mod Finishing
+pub mod Answer
