@@ -11,8 +11,8 @@ use Rattle.panels.specs.Panels.{panels}
 use Rattle.order.specs.Demand.{byPosition}
 use Rattle.order.specs.Pairs.{bare}
 use Rattle.order.proofs.ByPosition.{barely, panels-barely}
-use Rattle.exports.specs.Renumbered.{OneToOne}
-use Rattle.exports.proofs.Normals.{panels-changed}
+use Rattle.renumbered.specs.Renumbered.{OneToOne}
+use Rattle.renumbered.proofs.Normals.{panels-changed}
 
 module _ (g : ℕ → ℕ) where
   -- a corner with its position renumbered

@@ -11,10 +11,10 @@ use Rattle.edges.specs.Edges.{Edge, same, key, uses, runs, odd, lastOr, hems}
 use Rattle.edges.proofs.SameEdge.{same-true, same-refl}
 use Rattle.edges.proofs.HemUses.{hem-count}
 use Rattle.edges.proofs.OfHems.{hems-used, hems-every}
-use Rattle.exports.specs.Renumbered.{OneToOne, moved}
-use Rattle.exports.proofs.Moved.{between, same-moved, count-moved, hems-moved}
-use Rattle.exports.proofs.Counted.{counts-alike}
-use Rattle.exports.proofs.Images.{Telling, image-in, in-image}
+use Rattle.renumbered.specs.Renumbered.{OneToOne, moved}
+use Rattle.renumbered.proofs.Moved.{between, same-moved, count-moved, hems-moved}
+use Rattle.renumbered.proofs.Counted.{counts-alike}
+use Rattle.renumbered.proofs.Images.{Telling, image-in, in-image}
 
 -- each hem edge stands there once
 hem-once : (es : List Edge) (d : Edge) → runs d (hems es) ≡ bump (some (same d) (hems es)) 0
@@ -31,7 +31,7 @@ hem-once es d =
     go false b c = refl
 
 -- what every edge passes, an edge of the list passes
-every-member : (p : Edge → Bool) (e : Edge) (es : List Edge) → every p es ≡ true → some (same e) es ≡ true → p e ≡ true
+pub every-member : (p : Edge → Bool) (e : Edge) (es : List Edge) → every p es ≡ true → some (same e) es ≡ true → p e ≡ true
 every-member p e [] h m = clash m refl
 every-member p e (x ∷ es) h m =
     by-cases (same e x)

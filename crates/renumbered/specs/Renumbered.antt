@@ -1,5 +1,5 @@
 -- Faces whose positions are renumbered one-to-one, and what they keep. Of a corner's texture and normal nothing is said: the verdict,
--- the hem edges, and the panels without the normals setting go by positions. Assumes nothing.
+-- the hem edges, the house wires, and the panels without the normals setting go by positions. Assumes nothing.
 use mathlib.Core.Path.{_≡_}
 use mathlib.Core.Bool.{Bool, true, false}
 use mathlib.Core.List.{List, map}
@@ -8,7 +8,11 @@ use lib.Dec.{eqb}
 use Rattle.lists.specs.Lists.{has, count, joined}
 use Rattle.mesh.specs.Mesh.{Ring, position}
 use Rattle.edges.specs.Edges.{Edge, edgesOf, verdict, hems}
+use Rattle.turning.specs.Turning.{onward, houseWiresOf}
+use Rattle.turning.specs.Promise.{Fit, Hem}
 use Rattle.panels.specs.Panels.{panels}
+use Rattle.order.specs.Same.{Same}
+use Rattle.order.specs.Demand.{byPosition}
 
 -- the positions that the faces use, face by face
 abbrev pub positionsOf : List Ring → List ℕ
@@ -35,6 +39,12 @@ pub record Kept (g : ℕ → ℕ) (fs gs : List Ring) : Type 0 where
   -- the hem edges are renumbered, each in its direction: as many of them pass any test (in what order they stand goes by their new
   -- numbers)
   pub same-hems : (test : Edge → Bool) → count test (hems (edgesOf gs)) ≡ count test (map (moved g) (hems (edgesOf fs)))
+  -- where the verdict is Oriented or Closed, what follows a hem edge through the cloth follows it under the new numbers
+  pub same-onward :
+      Fit (verdict (edgesOf fs))
+      → (e : Edge) → Hem (byPosition fs) e → onward (byPosition gs) (moved g e) ≡ moved g (onward (byPosition fs) e)
+  -- so the house wires are the same rings, renumbered, one to one: each begun somewhere, in some order (by their new numbers)
+  pub same-wires : Fit (verdict (edgesOf fs)) → Same (map (map (λ i. g i)) (houseWiresOf fs)) (houseWiresOf gs)
   -- the very list of panels
   pub same-panels : panels false gs ≡ panels false fs
 

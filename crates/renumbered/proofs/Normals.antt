@@ -26,8 +26,8 @@ use Rattle.panels.specs.Panels.{joinsFrom, joins, panels}
 use Rattle.panels.proofs.Sharing.{sameKey-true, sameKey-refl}
 use Rattle.compaction.specs.Compaction.{renumbered, compacted}
 use Rattle.compaction.proofs.Laws.{face-order, faces-compacted, position-same, normal-same}
-use Rattle.exports.proofs.Edgewise.{both, ring-changed, bothPass, ring-passes, rings-own}
-use Rattle.exports.proofs.Joining.{keyed, joins-agree, numbered-passes}
+use Rattle.turning.proofs.Edgewise.{both, ring-changed, bothPass, ring-passes, rings-own}
+use Rattle.renumbered.proofs.Joining.{keyed, joins-agree, numbered-passes}
 
 -- ---- an edge's key, by what its two ends have: a position, and a normal or 0
 

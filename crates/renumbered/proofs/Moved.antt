@@ -14,7 +14,7 @@ use Rattle.edges.specs.Edges.{Edge, same, flip, key, uses, runs, thrice, alike,
 use Rattle.edges.proofs.SameEdge.{same-true, same-of}
 use Rattle.edges.proofs.HemUses.{key-flip, key-same}
 use Rattle.edges.proofs.OnlyHems.{isHem, hems-member}
-use Rattle.exports.specs.Renumbered.{OneToOne, moved}
+use Rattle.renumbered.specs.Renumbered.{OneToOne, moved}
 
 -- ---- two edges are one without direction where they are one, or one runs against the other
 
@@ -54,7 +54,7 @@ module _ (g : ℕ → ℕ) (ps : List ℕ) (one : OneToOne g ps) where
         (one (d .0) (e .0) (and-left (has (d .0) ps) (has (d .1) ps) h) (and-left (has (e .0) ps) (has (e .1) ps) k))
         (one (d .1) (e .1) (and-right (has (d .0) ps) (has (d .1) ps) h) (and-right (has (e .0) ps) (has (e .1) ps) k))
 
-  between-flip : (e : Edge) → between ps e ≡ true → between ps (flip e) ≡ true
+  pub between-flip : (e : Edge) → between ps e ≡ true → between ps (flip e) ≡ true
   between-flip e h = and-both (has (e .1) ps) (has (e .0) ps) (and-right (has (e .0) ps) (has (e .1) ps) h) (and-left (has (e .0) ps) (has (e .1) ps) h)
 
   pub keys-moved : (d e : Edge) → between ps d ≡ true → between ps e ≡ true → same (key (moved g d)) (key (moved g e)) ≡ same (key d) (key e)
@@ -102,11 +102,11 @@ module _ (g : ℕ → ℕ) (ps : List ℕ) (one : OneToOne g ps) where
 
   -- ---- hem edges
 
-  cond-moved : (t : Bool) (x d : Edge) → cond t (moved g x) (moved g d) ≡ moved g (cond t x d)
+  pub cond-moved : (t : Bool) (x d : Edge) → cond t (moved g x) (moved g d) ≡ moved g (cond t x d)
   cond-moved true x d = refl
   cond-moved false x d = refl
 
-  cond-between : (t : Bool) (x d : Edge) → between ps x ≡ true → between ps d ≡ true → between ps (cond t x d) ≡ true
+  pub cond-between : (t : Bool) (x d : Edge) → between ps x ≡ true → between ps d ≡ true → between ps (cond t x d) ≡ true
   cond-between true x d h k = h
   cond-between false x d h k = k
 
