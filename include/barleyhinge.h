@@ -26,7 +26,7 @@
    write; lists that are only read may be shared. A lent list need not be initialised. What a call needs beside its lists is stack, in KB
    of 1,024 bytes, measured on x86-64 by tools/measure_stack, which also holds these figures to the library; none is proved:
      bh_sheet 568, bh_clean_panel 556, bh_loop_subdivision 272, bh_components 200, bh_read_panel 192, bh_put_together_same_attrs 192,
-     bh_extract_boundaries 164, bh_house_wires 164, bh_shell_condition 104, bh_hem_edges 104, bh_remove_degenerate_faces 76, bh_remove_unused_attrs 32, bh_push 4,
+     bh_extract_boundaries 164, bh_house_wires 120, bh_shell_condition 104, bh_hem_edges 104, bh_remove_degenerate_faces 76, bh_remove_unused_attrs 32, bh_push 4,
      bh_write_panel 4, bh_mesh_number 4, bh_face 4
 
    What is promised is proved for every input: each call's contract stands in crates/barleyhinge/src/lib.rt. */
@@ -35,9 +35,9 @@
 
 /* The version of this interface. */
 #define BH_VERSION_MAJOR 0
-#define BH_VERSION_MINOR 6
+#define BH_VERSION_MINOR 7
 #define BH_VERSION_PATCH 0
-#define BH_VERSION "0.6.0"
+#define BH_VERSION "0.7.0"
 
 #include <stdbool.h>
 #include <stddef.h>
@@ -281,7 +281,11 @@ uint32_t bh_extract_boundaries(
     size_t *flatcount,
     size_t *wirecount);
 
-/* The house wires: every hem edge is used exactly once. Lends 'flat' and 'lengths', each with room for one number per corner.
+/* The house wires: every hem edge is used exactly once. After a hem edge comes the next edge of its face, or, where that is no hem edge,
+   the next one of the face across it, and so on; so a wire keeps to its cloth: pieces that touch at a point have no wire in common, and
+   two openings of one piece that touch at one point are one wire, which passes it twice. It closes when it would use its first edge
+   again. A wire begins at the smallest start left, and of these at the smallest end.
+   Lends 'flat' and 'lengths', each with room for one number per corner.
    On 0: as for the ported wires.
    May also answer 9, and 10 where the verdict is neither Oriented nor Closed. */
 uint32_t bh_house_wires(

@@ -1,7 +1,7 @@
 """What the sheet says of a cover, worked out again for its picture: folded faces, compaction, edges, verdict, hems, panels.
 
-Outside the proofs, by the rules of document 01; test_draw_hems holds it to the stored sheets. A face here is (source, ring): where it
-stands in the drawing, and its positions. Texture points and normals change no hem.
+Outside the proofs, by the rules of document 01, hems by request 5 of document 02; test_draw_hems holds it to the stored sheets. A face here is
+(source, ring): where it stands in the drawing, and its positions. Texture points and normals change no hem.
 """
 from dataclasses import dataclass, field
 
@@ -78,22 +78,20 @@ def verdict_of(edges):
     return "Oriented" if 1 in uses else "Closed"
 
 
-def house_wires(hem_edges):
-    """Begin at the smallest start left, take the smallest end, and close on the first position."""
-    ends = {}
-    for a, b in sorted(hem_edges):
-        ends.setdefault(a, []).append(b)
-    wires = []
-    while ends:
-        at = start = min(ends)
+def house_wires(faces, hem_edges):
+    """Begin at the smallest edge left; after each comes the next edge of its face, and where that is no hem edge, the next one of the face across
+    it, until one is. The wire closes where its first edge comes again."""
+    after = {(a, b): (b, c) for _, ring in faces for a, b, c in zip(ring, ring[1:] + ring[:1], ring[2:] + ring[:2])}
+    hems, used, wires = set(hem_edges), set(), []
+    for edge in sorted(hems):
         wire = []
-        while not wire or at != start:
-            wire.append(at)
-            following = ends[at].pop(0)
-            if not ends[at]:
-                del ends[at]
-            at = following
-        wires.append(wire)
+        while edge not in used:
+            used.add(edge)
+            wire.append(edge[0])
+            edge = after[edge]
+            while edge not in hems:
+                edge = after[edge[1], edge[0]]
+        wires += [wire] if wire else []
     return wires
 
 
@@ -123,5 +121,5 @@ def cleaned(faces):
     edges = edges_of(kept)
     once = [(a, b) if edge.uses[0][1] else (b, a) for (a, b), edge in edges.items() if len(edge.uses) == 1]
     verdict = verdict_of(edges)
-    hems = house_wires(once) if verdict in ("Oriented", "Closed") else []
+    hems = house_wires(kept, once) if verdict in ("Oriented", "Closed") else []
     return Cover(list(new), kept, edges, verdict, once, hems, panels_of(kept, edges))

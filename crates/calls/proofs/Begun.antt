@@ -1,5 +1,5 @@
--- What demand 3 does not say, by computation: of a folded ring that is begun elsewhere other faces are left, after compaction the same
--- hem has other numbers, and there may be another number of hems. Assumes nothing.
+-- What demand 3 does not say, by computation: of a folded ring that is begun elsewhere other faces are left, and after compaction the same
+-- hem has other numbers. Assumes nothing.
 use mathlib.Core.Path.{_≡_, refl, ap}
 use mathlib.Core.Bool.{false}
 use mathlib.Core.List.{List, [], _∷_, map}
@@ -17,10 +17,10 @@ use Rattle.folding.specs.Folding.{folded, trianglePieces, foldOf, quadranglePie
 use Rattle.folded.specs.Folded.{removed}
 use Rattle.compaction.specs.Compaction.{renumber, entries, usedPositions, usedTextures, usedNormals, renumbered, compacted}
 use Rattle.edges.specs.Edges.{key, verdict, hems}
-use Rattle.house.specs.House.{walk, wiresIn, houseWires}
+use Rattle.turning.specs.Turning.{turnFrom, onwardIn, onward, trail, trailsIn, houseWires}
 use Rattle.order.specs.Same.{Same, none, face, swap}
 use Rattle.calls.specs.Promises.{CleaningNotKept}
-use Rattle.calls.specs.Begun.{hemsOf, asDrawn, oneLater, twoPanels, otherFirst, touching, touchingLater, OtherHems, AsManyHems}
+use Rattle.calls.specs.Begun.{hemsOf, asDrawn, oneLater, twoPanels, otherFirst, touching, touchingLater, TouchingHems}
 use Rattle.calls.proofs.Counts.{same-length}
 
 -- ---- the ring (0,1,2,0,3,1), and the same ring begun one corner later
@@ -66,13 +66,13 @@ exchanged-same = swap
 
 -- the hem in the file's own numbers, which is one
 pub own-numbers : (hemsOf twoPanels ≡ (0 ∷ 1 ∷ 2 ∷ 3 ∷ []) ∷ []) × (hemsOf otherFirst ≡ (0 ∷ 1 ∷ 2 ∷ 3 ∷ []) ∷ [])
-unfolding faces hems key houseWires wiresIn walk
+unfolding faces hems key houseWires trailsIn trail onward onwardIn turnFrom
 own-numbers = (refl, refl)
 
 -- and in the numbers by first use
 pub numbers-by-first-use :
     (hemsOf (compacted twoPanels) ≡ (0 ∷ 1 ∷ 2 ∷ 3 ∷ []) ∷ []) × (hemsOf (compacted otherFirst) ≡ (0 ∷ 3 ∷ 1 ∷ 2 ∷ []) ∷ [])
-unfolding faces hems key houseWires wiresIn walk compacted renumbered usedPositions usedTextures usedNormals entries renumber place firstUses
+unfolding faces hems key houseWires trailsIn trail onward onwardIn turnFrom compacted renumbered usedPositions usedTextures usedNormals entries renumber place firstUses
 numbers-by-first-use = (refl, refl)
 
 -- ---- two triangles and a third that touches them, and the last two exchanged
@@ -81,27 +81,21 @@ touching-accepted : (meshNumber touching ≡ 0) × (meshNumber touchingLater ≡
 unfolding meshNumber shapeNumber overLimits uneven misfit ungrouped astray
 touching-accepted = (refl, refl)
 
-two-then-one :
-    (hemsOf (compacted touching) ≡ (0 ∷ 1 ∷ 2 ∷ 3 ∷ []) ∷ (2 ∷ 4 ∷ 5 ∷ []) ∷ []) × (hemsOf (compacted touchingLater) ≡ (0 ∷ 1 ∷ 2 ∷ 3 ∷ 4 ∷ 2 ∷ 5 ∷ []) ∷ [])
-unfolding faces hems key houseWires wiresIn walk compacted renumbered usedPositions usedTextures usedNormals entries renumber place firstUses
-two-then-one = (refl, refl)
+two-in-either :
+    (hemsOf (compacted touching) ≡ (0 ∷ 1 ∷ 2 ∷ 3 ∷ []) ∷ (2 ∷ 4 ∷ 5 ∷ []) ∷ [])
+    × (hemsOf (compacted touchingLater) ≡ (0 ∷ 1 ∷ 2 ∷ 5 ∷ []) ∷ (2 ∷ 3 ∷ 4 ∷ []) ∷ [])
+unfolding faces hems key houseWires trailsIn trail onward onwardIn turnFrom compacted renumbered usedPositions usedTextures usedNormals entries renumber place firstUses
+two-in-either = (refl, refl)
 
-pub other-hems : OtherHems
-unfolding foldedBy faces verdict hems key houseWires wiresIn walk
-other-hems = record {
+pub touching-hems : TouchingHems
+unfolding foldedBy faces verdict hems key houseWires trailsIn trail onward onwardIn turnFrom
+touching-hems = record {
   both-accepted = touching-accepted;
   both-unfolded = (refl, refl);
   same-faces = face (0, refl) swap;
   both-oriented = (refl, refl);
   own-hems = refl;
   own-hems-later = refl;
-  two-hems = two-then-one .0;
-  one-hem = two-then-one .1;
+  two-hems = two-in-either .0;
+  still-two = two-in-either .1;
 }
-
--- so it is not true that there are as many hems
-pub hems-not-as-many : AsManyHems → ⊥
-hems-not-as-many kept =
-    let e : length (hemsOf (compacted touching)) ≡ length (hemsOf (compacted touchingLater)) =
-    kept touching touchingLater (other-hems .both-accepted .0) (other-hems .both-accepted .1) (other-hems .same-faces) (other-hems .both-unfolded .0) in
-    omega (arith, ap length (other-hems .two-hems), ap length (other-hems .one-hem))

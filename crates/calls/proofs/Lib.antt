@@ -8,4 +8,5 @@ pub mod Seats
 pub mod Panelling
 pub mod Order
 pub mod Begun
+pub mod Former
 pub mod Cleaned

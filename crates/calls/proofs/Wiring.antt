@@ -18,13 +18,12 @@ use Rattle.edges.proofs.OfHems.{mesh-hems-within}
 use Rattle.house.specs.Answers.{wired, houseNumber}
 use Rattle.ported.specs.Answers.{portedNumber}
 use Rattle.tracing.specs.Answers.{Answered}
-use Rattle.house.specs.House.{houseWires}
+use Rattle.turning.specs.Turning.{onward, houseWiresOf}
 use Rattle.ported.specs.Ported.{put, fill, portedWires}
 use Rattle.tracing.specs.Tracing.{traces}
 use Rattle.ported.proofs.Answering.{ported-done}
 use Rattle.house.proofs.Answering.{house-verdict}
-use Rattle.tracing.proofs.Balance.{hems-balanced}
-use Rattle.house.proofs.Closing.{Used, house-used}
+use Rattle.turning.proofs.Closing.{Used, turned-used}
 use Rattle.tracing.proofs.Entries.{traces-enough, Roomy, traces-roomy}
 use Rattle.order.specs.Demand.{SameEdges}
 use Rattle.calls.specs.Calls.{cornersOf, VerdictCall, says, WiresLeft, HouseCall, PortedCall}
@@ -76,10 +75,10 @@ wires-agree {i} {j} {ws} {us} r q c d z y f g e = record {
 wired-fits :
     (m : Mesh) → meshNumber m ≡ 0 → (verdict (meshEdgesOf m) ≡ Irregular → ⊥) → (verdict (meshEdgesOf m) ≡ Regular → ⊥)
     → (lists : Listed) → cornersOf m ≤ length (lists .flat) → cornersOf m ≤ length (lists .lengths)
-    → Fits (houseWires (hems (meshEdgesOf m))) lists
+    → Fits (houseWiresOf (faces m)) lists
 wired-fits m z n r lists g h =
-    let u : Used (hems (meshEdgesOf m)) (houseWires (hems (meshEdgesOf m))) =
-    house-used (hems (meshEdgesOf m)) (hems-balanced (map (map position) (faces m)) n r) in
+    let u : Used (onward (map (map position) (faces m))) (hems (meshEdgesOf m)) (houseWiresOf (faces m)) =
+    turned-used (map (map position) (faces m)) n r in
     record {
       numbers = omega (arith, u .numbers, mesh-hems-within m z);
       wires = omega (arith, u .wires, mesh-hems-within m z);
@@ -115,7 +114,7 @@ module _ (m : Mesh) (z : meshNumber m ≡ 0) (r : HouseCall m) where
   unfolding ten
   house-number = house-verdict m (length (r .before .flat)) (length (r .before .lengths)) z (r .flat-room) (r .lengths-room)
 
-  house-fits : ten (verdict (meshEdgesOf m)) ≡ 0 → Fits (houseWires (hems (meshEdgesOf m))) (r .before)
+  house-fits : ten (verdict (meshEdgesOf m)) ≡ 0 → Fits (houseWiresOf (faces m)) (r .before)
   house-fits e =
       wired-fits m z (not-irregular (verdict (meshEdgesOf m)) e) (not-regular (verdict (meshEdgesOf m)) e) (r .before)
       (r .flat-room) (r .lengths-room)

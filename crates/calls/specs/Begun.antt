@@ -5,20 +5,19 @@ use mathlib.Core.Path.{_≡_}
 use mathlib.Core.Bool.{false}
 use mathlib.Core.List.{List, [], _∷_}
 use Prim.Native.Nat.{ℕ}
-use lib.ListN.{length}
 use Rattle.lists.specs.Lists.{some}
 use Rattle.mesh.specs.Mesh.{Mesh, faces}
 use Rattle.mesh.specs.Table.{meshNumber}
 use Rattle.folding.specs.Folding.{folded}
 use Rattle.compaction.specs.Compaction.{compacted}
-use Rattle.edges.specs.Edges.{Oriented, edgesOf, verdict, hems}
-use Rattle.house.specs.House.{houseWires}
+use Rattle.edges.specs.Edges.{Oriented, edgesOf, verdict}
+use Rattle.turning.specs.Turning.{houseWiresOf}
 use Rattle.order.specs.Same.{Same}
 use Rattle.order.specs.Pairs.{plain, triangle}
 
 -- the hems of a mesh, as its house wires
 abbrev pub hemsOf : Mesh → List (List ℕ)
-hemsOf m = houseWires (hems (edgesOf (faces m)))
+hemsOf m = houseWiresOf (faces m)
 
 -- the ring (0,1,2,0,3,1), which is folded, and the same ring begun one corner later, (1,2,0,3,1,0)
 abbrev pub asDrawn : Mesh
@@ -41,9 +40,9 @@ touching = plain 6 (triangle 0 1 2 ∷ triangle 0 2 3 ∷ triangle 2 4 5 ∷ [])
 abbrev pub touchingLater : Mesh
 touchingLater = plain 6 (triangle 0 1 2 ∷ triangle 2 4 5 ∷ triangle 0 2 3 ∷ [])
 
--- one cover of unfolded faces has two hems after compaction, and with its faces in another order it has one: where two hems touch, the
--- smallest end comes first, and which end is smallest goes by the numbers
-pub record OtherHems : Type 0 where
+-- a cover of unfolded faces whose hems touch, in two orders: it has two hems in either, and so after compaction, under other numbers. By
+-- document 01's rule, the smallest end, the other order had the one hem 0 1 2 3 4 2 5 after compaction
+pub record TouchingHems : Type 0 where
   pub both-accepted : (meshNumber touching ≡ 0) × (meshNumber touchingLater ≡ 0)
   pub both-unfolded : (some folded (faces touching) ≡ false) × (some folded (faces touchingLater) ≡ false)
   pub same-faces : Same (faces touching) (faces touchingLater)
@@ -51,12 +50,6 @@ pub record OtherHems : Type 0 where
   -- in the numbers of the file the hems are the same
   pub own-hems : hemsOf touching ≡ (0 ∷ 1 ∷ 2 ∷ 3 ∷ []) ∷ (2 ∷ 4 ∷ 5 ∷ []) ∷ []
   pub own-hems-later : hemsOf touchingLater ≡ (0 ∷ 1 ∷ 2 ∷ 3 ∷ []) ∷ (2 ∷ 4 ∷ 5 ∷ []) ∷ []
-  -- after compaction they are two and one
+  -- after compaction they go by first use
   pub two-hems : hemsOf (compacted touching) ≡ (0 ∷ 1 ∷ 2 ∷ 3 ∷ []) ∷ (2 ∷ 4 ∷ 5 ∷ []) ∷ []
-  pub one-hem : hemsOf (compacted touchingLater) ≡ (0 ∷ 1 ∷ 2 ∷ 3 ∷ 4 ∷ 2 ∷ 5 ∷ []) ∷ []
-
--- as many hems after compaction, of any two accepted meshes with the same faces, none folded
-abbrev pub AsManyHems : Type 0
-AsManyHems =
-    (m n : Mesh) → meshNumber m ≡ 0 → meshNumber n ≡ 0 → Same (faces m) (faces n) → some folded (faces m) ≡ false
-    → length (hemsOf (compacted m)) ≡ length (hemsOf (compacted n))
+  pub still-two : hemsOf (compacted touchingLater) ≡ (0 ∷ 1 ∷ 2 ∷ 5 ∷ []) ∷ (2 ∷ 3 ∷ 4 ∷ []) ∷ []

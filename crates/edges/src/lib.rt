@@ -4,7 +4,8 @@
 // the edges ascend. Of crate scans, one scan over them counts each edge's uses for the verdict, another writes the last use of each
 // edge with an odd number of uses: the hem edges.
 //
-// `shell_condition` and `hem_edges` check the mesh; `verdict_of` and `hems_of` are for crates that have checked it.
+// `shell_condition` and `hem_edges` check the mesh; `verdict_of` and `hems_of` are for crates that have checked it, and `judge` for those
+// that go on with the sorted uses.
 ghost use mathlib.Core.Path.{_≡_};
 ghost use Prim.Native.Nat.{ℕ, _/_, _≤_};
 ghost use lib.ListN.{length};
@@ -14,7 +15,7 @@ ghost use Rattle.mesh.specs.Edges.{edgesOf, Edged};
 ghost use Rattle.uses.specs.Uses.{Gatherable};
 ghost use Rattle.verdicts.specs.Edges.{verdict};
 ghost use Rattle.edges.specs.Answers.{answerOf, judged, verdictOf, hemsIn, HemAnswer, Hemmed};
-ghost use Rattle.edges.specs.Runs.{named, HemRows};
+ghost use Rattle.edges.specs.Runs.{named, JudgedUses, HemRows};
 use scans::Tally;
 
 // The four verdicts.
@@ -162,8 +163,8 @@ pub fn hems_of(
     )
 }
 
-// The verdict, in rows that are lent for the columns and the order of the uses.
-fn judge(
+// The verdict, in rows that are lent for the columns and the order of the uses, which they hold then.
+pub fn judge(
     corners: &[u32],
     sizes: &[u32],
     positions: usize,
@@ -174,7 +175,9 @@ fn judge(
     order: &mut [u32],
 ) -> ShellCondition
     requires { ⌜ Gatherable (now corners) (now sizes) positions (now lowers) (now highers) (now downs) (now first) (now order) ⌝ }
-    ensures { λ r. ⌜ verdictOf r ≡ verdict (edgesOf (rings (now (sizes .entry)) (now (corners .entry)))) ⌝ }
+    ensures { λ r. ⌜ JudgedUses
+        positions (edgesOf (rings (now (sizes .entry)) (now (corners .entry)))) (now (lowers .exit)) (now (highers .exit)) (now (downs .exit))
+        (now (order .exit)) (verdictOf r) ⌝ }
 {
     uses::gather(
         corners,
@@ -208,7 +211,7 @@ fn hem(
         (edgesOf (rings (now (sizes .entry)) (now (corners .entry)))) (now (starts .entry)) (now (ends .entry)) (now (starts .exit))
         (now (ends .exit)) r ⌝ }
 {
-    uses::gather(
+    let verdict = judge(
         corners,
         sizes,
         positions,
@@ -218,7 +221,6 @@ fn hem(
         first,
         order,
     );
-    let verdict = name_of(scans::counting::tally_uses(lowers, highers, downs, order));
     let count = scans::writing::put_hems(lowers, highers, downs, order, starts, ends);
     Hems {
         count: count,

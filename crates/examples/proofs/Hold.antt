@@ -21,7 +21,7 @@ use Rattle.nearby.specs.Walk as groups
 use Rattle.merging.specs.Centre as centre
 use Rattle.merging.specs.Merging as merging
 use Rattle.edges.specs.Edges.{key, verdict, hems}
-use Rattle.house.specs.House.{walk, wiresIn, houseWires}
+use Rattle.turning.specs.Turning.{turnFrom, onwardIn, onward, trail, trailsIn, houseWires}
 use Rattle.tracing.specs.Following.{follow, tracesIn}
 use Rattle.ported.specs.Ported.{portedWires}
 use Rattle.keys.specs.Keys.{keyOf}
@@ -30,7 +30,8 @@ use Rattle.panels.specs.Panels.{panels}
 use Rattle.examples.specs.Twelve.{hasVerdict, hasHem, hasPorted, hasHouse, hasPanels, compacts, sixPositions, merges, threeTextures, allHold}
 
 pub they-hold : T allHold
-unfolding allHold hasVerdict hasHem hasPorted hasHouse hasPanels key verdict hems walk wiresIn houseWires follow tracesIn portedWires keyOf searchFrom panelsFrom panels
+unfolding allHold hasVerdict hasHem hasPorted hasHouse hasPanels key verdict hems follow tracesIn portedWires keyOf searchFrom panelsFrom panels
+    houseWires trailsIn trail onward onwardIn turnFrom
     leaves removed pushed pieces piecesBy splitBy splitByIn foldedBy firstMated mateOf quadranglePieces foldOf trianglePieces seek
     compacts sixPositions compacted renumbered usedPositions usedTextures usedNormals entries renumber place firstUses
     meshNumber shapeNumber overLimits uneven misfit ungrouped astray short

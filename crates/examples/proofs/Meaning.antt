@@ -21,7 +21,7 @@ use Rattle.mesh.specs.Table.{meshNumber}
 use Rattle.edges.specs.Edges.{Edge, same, edgesOf, Verdict, Irregular, Regular, Oriented, Closed, verdict, hems}
 use Rattle.edges.proofs.SameEdge.{same-true, same-refl}
 use Rattle.ported.specs.Ported.{portedWires}
-use Rattle.house.specs.House.{houseWires}
+use Rattle.turning.specs.Turning.{houseWiresOf}
 use Rattle.panels.specs.Panels.{panels}
 use Rattle.folded.proofs.Examples.{leaves-is}
 use Rattle.compaction.specs.Compaction.{compacted}
@@ -75,7 +75,7 @@ tests-tell = record {
     λ s. subst (λ (l : List Edge). some (same e) l ≡ true) (sym (s .2)) (stood e (s .0) (s .1)),
   );
   ported-told = λ fs ws. lists-equal (portedWires (hems (edgesOf (facesBy fs)))) ws;
-  house-told = λ fs ws. lists-equal (houseWires (hems (edgesOf (facesBy fs)))) ws;
+  house-told = λ fs ws. lists-equal (houseWiresOf (facesBy fs)) ws;
   panels-told = λ fs ps. lists-equal (panels false (facesBy fs)) ps;
   leaves-told = leaves-is;
   compacts-told = λ m places bits.
@@ -127,7 +127,7 @@ passed true t = refl
 passed false t = absurd t
 
 -- each example of the list holds
-held : (k : ℕ) → k < 12 → getD examples k false ≡ true
+held : (k : ℕ) → k < 13 → getD examples k false ≡ true
 unfolding allHold
 held k l = every-at (λ (b : Bool). b) false examples k (passed allHold they-hold) l
 
@@ -191,4 +191,5 @@ twelve-hold =
       nothing-merges = say .merges-told _ _ _ _ .0 (held 9 (omega arith));
       all-merge = say .merges-told _ _ _ _ .0 (held 10 (omega arith));
       ported-wires = say .ported-told touching (tri 0 1 4 ∷ tri 2 3 1 ∷ []) .0 (held 11 (omega arith));
+      hems-apart = say .house-told touching (tri 0 1 4 ∷ tri 1 2 3 ∷ []) .0 (held 12 (omega arith));
     }

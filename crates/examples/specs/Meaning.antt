@@ -1,4 +1,4 @@
--- What the tests of the examples say, and what the twelve examples say of the rules, value by value: equations with the rules' own
+-- What the tests of the examples say, and what the examples say of the rules, value by value: equations with the rules' own
 -- results. So no test can pass over a value, and no example over a part of it. Assumes nothing.
 use Prim.Native.Nat.{ℕ}
 use mathlib.Core.Path.{_≡_}
@@ -13,7 +13,7 @@ use Rattle.mesh.specs.Mesh.{Mesh, Ring, position, texture, cornersIn}
 use Rattle.mesh.specs.Table.{meshNumber}
 use Rattle.edges.specs.Edges.{Edge, edgesOf, Verdict, Irregular, Regular, Oriented, Closed, verdict, hems}
 use Rattle.ported.specs.Ported.{portedWires}
-use Rattle.house.specs.House.{houseWires}
+use Rattle.turning.specs.Turning.{houseWiresOf}
 use Rattle.panels.specs.Panels.{panels}
 use Rattle.folded.specs.Folded.{removed}
 use Rattle.folded.specs.Examples.{LeavesIs, corner}
@@ -32,7 +32,7 @@ abbrev pub Ported : List (List ℕ) → List (List ℕ) → Type 0
 Ported fs ws = portedWires (hems (edgesOf (facesBy fs))) ≡ ws
 
 abbrev pub House : List (List ℕ) → List (List ℕ) → Type 0
-House fs ws = houseWires (hems (edgesOf (facesBy fs))) ≡ ws
+House fs ws = houseWiresOf (facesBy fs) ≡ ws
 
 abbrev pub Panels : List (List ℕ) → List (List ℕ) → Type 0
 Panels fs ps = panels false (facesBy fs) ≡ ps
@@ -71,7 +71,7 @@ pub record TestsTell : Type 0 where
   pub merges-told :
       (m : Mesh) (t : Float) (pairs : ℕ) (textures : List ℕ) → Tells (test.merges m t pairs textures) (Merges m t pairs textures)
 
--- ---- the twelve, in the words of document 01
+-- ---- the twelve, in the words of document 01, and that of document 02's request 5
 
 pub record TwelveHold : Type 0 where
   pub no-faces : Verdicts [] Closed × Ported [] [] × House [] [] × Panels [] []
@@ -108,3 +108,4 @@ pub record TwelveHold : Type 0 where
   pub nothing-merges : Merges threeTextures (fin false 1 (negsuc 0)) 3 (0 ∷ 1 ∷ 2 ∷ [])
   pub all-merge : Merges threeTextures (fin false 5 (negsuc 2)) 3 (1 ∷ 1 ∷ 1 ∷ [])
   pub ported-wires : Ported (tri 0 1 4 ∷ tri 1 2 3 ∷ []) (tri 0 1 4 ∷ tri 2 3 1 ∷ [])
+  pub hems-apart : House (tri 0 1 4 ∷ tri 1 2 3 ∷ []) (tri 0 1 4 ∷ tri 1 2 3 ∷ [])

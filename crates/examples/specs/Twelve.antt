@@ -1,4 +1,5 @@
--- The examples to prove of document 01, each as a test that computes, and the list of them. Assumes nothing.
+-- The examples to prove of document 01, and that of document 02's request 5, each as a test that computes, and the list of them. Assumes
+-- nothing.
 use Prim.Native.Nat.{ℕ}
 use mathlib.Core.Bool.{Bool, false, not, _&&_}
 use mathlib.Core.List.{List, [], _∷_, map}
@@ -12,7 +13,7 @@ use Rattle.mesh.specs.Mesh.{Mesh, meshOf, Ring, missing, position, texture, cor
 use Rattle.mesh.specs.Table.{meshNumber}
 use Rattle.edges.specs.Edges.{Edge, same, edgesOf, Verdict, Irregular, Regular, Oriented, Closed, verdict, hems}
 use Rattle.ported.specs.Ported.{portedWires}
-use Rattle.house.specs.House.{houseWires}
+use Rattle.turning.specs.Turning.{houseWiresOf}
 use Rattle.panels.specs.Panels.{panels}
 use Rattle.folded.specs.Examples.{leaves, corner}
 use Rattle.compaction.specs.Compaction.{compacted}
@@ -47,7 +48,7 @@ unfoldable pub hasPorted : List (List ℕ) → List (List ℕ) → Bool
 hasPorted fs ws = sameLists (portedWires (hems (edgesOf (facesBy fs)))) ws
 
 unfoldable pub hasHouse : List (List ℕ) → List (List ℕ) → Bool
-hasHouse fs ws = sameLists (houseWires (hems (edgesOf (facesBy fs)))) ws
+hasHouse fs ws = sameLists (houseWiresOf (facesBy fs)) ws
 
 unfoldable pub hasPanels : List (List ℕ) → List (List ℕ) → Bool
 hasPanels fs ps = sameLists (panels false (facesBy fs)) ps
@@ -184,6 +185,12 @@ touching = tri 0 1 4 ∷ tri 1 2 3 ∷ []
 abbrev pub example12 : Bool
 example12 = hasPorted touching (tri 0 1 4 ∷ tri 2 3 1 ∷ [])
 
+-- ---- house wires
+
+-- request 5: the same faces: house wires 0 1 4 and 1 2 3
+abbrev pub exampleOf5 : Bool
+exampleOf5 = hasHouse touching (tri 0 1 4 ∷ tri 1 2 3 ∷ [])
+
 -- ---- all of them
 
 abbrev pub examples : List Bool
@@ -200,8 +207,9 @@ examples =
     ∷ example10
     ∷ example11
     ∷ example12
+    ∷ exampleOf5
     ∷ []
 
--- the twelve hold
+-- they hold
 unfoldable pub allHold : Bool
 allHold = every (λ b. b) examples

@@ -20,14 +20,15 @@ use Rattle.calls.proofs.Counts.{same-length}
 use Rattle.calls.proofs.Seats.{as-many-panels}
 use Rattle.lines.specs.Lines.{meshLine, verdictLine, panelsLine}
 use Rattle.sheet.specs.Sheet.{foundIn}
-use Rattle.exports.specs.Renumbered.{OneToOne}
+use Rattle.renumbered.specs.Renumbered.{OneToOne}
 use Rattle.exports.specs.Covers.{renumberedBy, OneCover, CoverKept}
 use Rattle.exports.specs.Sheets.{firstLines, SameButAttributes}
-use Rattle.exports.proofs.Edgewise.{rings-own}
-use Rattle.exports.proofs.Renumbered.{joined-positions, compaction-keeps}
+use Rattle.turning.proofs.Edgewise.{rings-own}
+use Rattle.renumbered.proofs.Compacting.{joined-positions, none-missing}
+use Rattle.renumbered.proofs.Renumbered.{compaction-keeps}
 use Rattle.exports.proofs.Covers.{covers-agree}
 use Rattle.exports.proofs.Used.{some-same, column-same, as-many-used}
-use Rattle.exports.proofs.Distinct.{none-missing, as-many-renumbered}
+use Rattle.exports.proofs.Distinct.{as-many-renumbered}
 
 -- ---- two exports of one cover
 

@@ -6,15 +6,23 @@ use Prim.Native.Nat.{ℕ, _<_}
 use native.Mathlib.Omega.{arith}
 use lib.ListN.{length, getD, length-map, List·getD-map}
 use Rattle.lists.specs.Lists.{count, together}
-use Rattle.mesh.specs.Mesh.{Ring}
-use Rattle.order.specs.Same.{Matching}
+use Rattle.mesh.specs.Mesh.{Ring, faces}
+use Rattle.edges.specs.Edges.{meshEdges, edgesOf, verdict}
+use Rattle.turning.specs.Turning.{houseWires, houseWiresOf}
+use Rattle.turning.specs.Promise.{Fit}
+use Rattle.order.specs.Same.{Same, then, Matching}
 use Rattle.order.specs.Demand.{byPosition, SameTogether, SameByPosition}
 use Rattle.order.proofs.Panelwise.{Full}
 use Rattle.order.proofs.Demand.{accepted-full, same-positions}
-use Rattle.exports.specs.Renumbered.{Kept}
-use Rattle.exports.specs.Covers.{renumberedBy, OneCover, CoverKept, CoversAgree}
-use Rattle.exports.proofs.Joined.{repositioned}
-use Rattle.exports.proofs.Renumbered.{numbers-do-not-matter}
+use Rattle.order.proofs.Ordered.{same-house}
+use Rattle.order.proofs.Matched.{same-sym}
+use Rattle.renumbered.specs.Renumbered.{Kept}
+use Rattle.renumbered.specs.Points.{hemPoints}
+use Rattle.exports.specs.Covers.{renumberedBy, OneCover, CoverKept, CoversAgree, HemsOfOneCover}
+use Rattle.renumbered.proofs.Joined.{repositioned}
+use Rattle.renumbered.proofs.Renumbered.{numbers-do-not-matter}
+use Rattle.renumbered.proofs.Points.{points-same}
+use Rattle.renumbered.proofs.Compacted.{compaction-keeps-all}
 use Rattle.exports.proofs.Rewritten.{rewritten, rewritten-by}
 
 module _ (g : ℕ → ℕ) where
@@ -46,14 +54,32 @@ module _ (g : ℕ → ℕ) where
           },
         )
 
+    -- the house wires of the rewritten faces are those of the renumbered rings, and so the other's
+    wired : Fit (verdict (edgesOf m)) → houseWiresOf (rewritten g m) ≡ houseWiresOf n
+    wired v =
+        let e : verdict (edgesOf m) ≡ verdict (meshEdges (renumberedBy g m)) =
+        sym (kept .one-verdict) ∙ ap (λ (l : List (List ℕ)). verdict (meshEdges l)) (rewritten-by g m) in
+        ap houseWires (rewritten-by g m) ∙ same-house (c .same-positions) (subst Fit e v)
+
     pub cover-kept : CoverKept g m n
     cover-kept = record {
       one-verdict = sym (kept .one-verdict) ∙ by .edges .one-verdict;
       same-hems = λ v test.
           sym (kept .same-hems test) ∙ ap (count test) (by .edges .same-directions (λ e. v (sym (kept .one-verdict) ∙ e)));
+      same-wires = λ v. subst (Same (map (map g) (houseWiresOf m))) (wired v) (kept .same-wires v);
       matching = panelled .0;
       same-panels = panelled .1;
     }
 
 pub covers-agree : CoversAgree
 covers-agree g m n y z c = cover-kept g _ _ (accepted-full m y) (accepted-full n z) c
+
+pub hems-of-one-cover : HemsOfOneCover
+hems-of-one-cover g m n y z c k v =
+    let a : CoverKept g (faces m) (faces n) = covers-agree g m n y z c in
+    let s : Same (hemPoints m) (hemPoints n) = points-same g m n v k (a .same-wires v) in
+    let v′ : Fit (verdict (edgesOf (faces n))) = subst Fit (a .one-verdict) v in
+    record {
+      as-they-are = s;
+      as-printed = then (same-sym (compaction-keeps-all m y .same-points v)) (then s (compaction-keeps-all n z .same-points v′));
+    }

@@ -2,30 +2,23 @@
 use mathlib.Core.Path.{_≡_, refl, sym, ap, ap₂, _∙_}
 use mathlib.Core.Bool.{Bool, true, false, not, _||_}
 use mathlib.Core.List.{List, [], _∷_, map}
-use Prim.Native.Nat.{ℕ, _*_, _/_, _<_}
-use native.Mathlib.Omega.{arith}
+use Prim.Native.Nat.{ℕ}
 use lib.Dec.{eqb}
-use lib.ListN.{length, getD, length-map, List·getD-map}
-use borrow.Author.Tests.{eqb-true, ne-eqb}
+use lib.ListN.{length, length-map}
+use borrow.Author.Tests.{eqb-true}
 use Rattle.lists.specs.Lists.{has, some}
 use Rattle.lists.proofs.Bools.{by-cases, and-right, and-both}
 use Rattle.lists.proofs.Cases.{iff}
 use Rattle.lists.proofs.Counting.{clash}
 use Rattle.lists.proofs.Members.{in-head, in-tail, in-left, in-right, Once, once-cons}
 use Rattle.lists.proofs.Others.{eqb-self, once-head, once-tail}
-use Rattle.lists.proofs.Parts.{some-none}
-use Rattle.mesh.specs.Limits.{width}
-use Rattle.mesh.specs.Mesh.{Mesh, Ring, position, missing, cornersIn, positionCount}
-use Rattle.mesh.specs.Table.{meshNumber}
-use Rattle.mesh.proofs.Corners.{length-cornersIn, getD-cornersIn}
+use Rattle.mesh.specs.Mesh.{Ring, position, missing}
 use Rattle.splitting.specs.Splitting.{twice, foldedBy}
 use Rattle.folding.specs.Folding.{folded}
 use Rattle.compaction.specs.Compaction.{usesOf}
 use Rattle.compaction.proofs.Uses.{has-uses, uses-once}
-use Rattle.edges.specs.Runs.{Edged}
-use Rattle.edges.proofs.Answering.{edged}
-use Rattle.exports.specs.Renumbered.{positionsOf, OneToOne}
-use Rattle.exports.proofs.Images.{Telling, image-in, in-image}
+use Rattle.renumbered.specs.Renumbered.{positionsOf, OneToOne}
+use Rattle.renumbered.proofs.Images.{Telling, image-in, in-image}
 use Rattle.exports.proofs.Rewritten.{rewritten, ring-rewritten}
 use Rattle.exports.proofs.Used.{as-long}
 
@@ -33,20 +26,6 @@ numbers-told : Telling eqb
 numbers-told = record { told = eqb-true; itself = eqb-self }
 
 -- ---- as many different positions
-
--- no position of an accepted mesh is the missing mark
-pub none-missing : (m : Mesh) → meshNumber m ≡ 0 → has missing (map position (cornersIn (m .corners))) ≡ false
-none-missing m z =
-    some-none (eqb missing) 0 (map position (cornersIn (m .corners)))
-    (λ k l. ne-eqb missing (getD (map position (cornersIn (m .corners))) k 0) (λ e. above k l e))
-  where
-    above : (k : ℕ) → k < length (map position (cornersIn (m .corners))) → missing ≡ getD (map position (cornersIn (m .corners))) k 0 → ⊥
-    above k l e =
-        let d : Edged (m .corners) (m .sizes) (positionCount m) = edged m z in
-        let j : k < length (m .corners) / width = omega (arith, length-map (cornersIn (m .corners)) position, length-cornersIn (m .corners)) in
-        let p : getD (map position (cornersIn (m .corners))) k 0 ≡ getD (m .corners) (width * k) 0 =
-        List·getD-map position (cornersIn (m .corners)) k [] ∙ ap position (getD-cornersIn (m .corners) k j) in
-        omega (arith, d .few, d .below k j)
 
 not-missing : (l : List ℕ) → has missing l ≡ false → (x : ℕ) → has x l ≡ true → not (eqb x missing) ≡ true
 not-missing l n x h =

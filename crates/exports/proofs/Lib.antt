@@ -1,17 +1,6 @@
-pub mod Edgewise
-pub mod Images
-pub mod Counted
-pub mod Moved
-pub mod Joining
-pub mod Normals
-pub mod Joined
-pub mod Hems
-pub mod Renumbered
 pub mod Rewritten
 pub mod Covers
-pub mod Compacted
 pub mod Used
 pub mod Distinct
 pub mod Compactions
 pub mod Sheets
-pub mod Touching

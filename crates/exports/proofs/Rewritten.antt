@@ -5,7 +5,7 @@ use Prim.Native.Nat.{ℕ}
 use Rattle.mesh.specs.Mesh.{Ring, position}
 use Rattle.order.specs.Demand.{byPosition}
 use Rattle.exports.specs.Covers.{renumberedBy}
-use Rattle.exports.proofs.Joined.{repositioned}
+use Rattle.renumbered.proofs.Joined.{repositioned}
 
 module _ (g : ℕ → ℕ) where
   -- the faces with their positions renumbered

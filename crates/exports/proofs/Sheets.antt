@@ -1,33 +1,48 @@
 -- What the sheets of two files have in common. Assumes nothing.
-use mathlib.Core.Path.{_≡_, refl, sym, ap, ap₂, _∙_}
-use mathlib.Core.Bool.{false}
+use mathlib.Core.Path.{_≡_, refl, sym, ap, ap₂, _∙_, subst}
+use mathlib.Core.Logic.{inl, inr}
+use mathlib.Core.Bool.{Bool, true, false, cond}
+use mathlib.Core.Option.{Option}
 use mathlib.Core.List.{List, [], _∷_, _++_}
 use Prim.Native.Nat.{ℕ}
 use native.Mathlib.Omega.{arith}
 use lib.ListN.{length, take}
 use lib.Seq.{sets}
 use lib.Dec.{ltb}
+use lib.Ieee.{Float}
 use borrow.Author.Tests.{le-ltb}
 use Rattle.lists.specs.Lists.{some}
 use Rattle.lists.proofs.Copies.{take-written}
-use Rattle.mesh.specs.Mesh.{faces}
+use Rattle.mesh.specs.Limits.{pointWidth}
+use Rattle.mesh.specs.Mesh.{Mesh, position, faces}
 use Rattle.mesh.specs.Table.{meshNumber, when, short}
 use Rattle.mesh.proofs.Numbers.{first-head, first-tail}
 use Rattle.mesh.proofs.After.{after-done}
 use Rattle.folding.specs.Folding.{folded}
 use Rattle.folded.specs.Folded.{unfoldedMesh}
 use Rattle.folded.proofs.Accepted.{removed-accepted}
+use Rattle.compaction.specs.Compaction.{entryAt}
+use Rattle.edges.specs.Edges.{Verdict, edgesOf, verdict}
+use Rattle.turning.specs.Turning.{houseWiresOf}
+use Rattle.turning.specs.Promise.{Fit}
+use Rattle.house.specs.Answers.{wired}
+use Rattle.order.specs.Same.{Same}
+use Rattle.order.proofs.Matched.{same-map}
 use Rattle.calls.proofs.Cleaned.{folded-same, folded-by-position}
 use Rattle.folded.proofs.Accepted.{faces-stay}
 use Rattle.panelfile.specs.Reading.{finish, readAll, readingNumber, panelMesh}
 use Rattle.panelfile.proofs.Ending.{read-accepted}
 use Rattle.lines.specs.Lines.{sheetText, sheetRoom, hemLines}
 use Rattle.cleaning.specs.Cleaning.{cleaned}
-use Rattle.sheet.specs.Sheet.{printed, fileLimit, fileNumber, sheetOf, sheetNumber}
+use Rattle.sheet.specs.Sheet.{foundIn, printed, fileLimit, fileNumber, sheetOf, sheetNumber}
+use Rattle.renumbered.specs.Points.{hemPoints, SamePoints}
+use Rattle.renumbered.proofs.Compacted.{compaction-keeps-all}
 use Rattle.exports.specs.Covers.{OneCover}
-use Rattle.exports.specs.Sheets.{SheetCall, written, firstLines, found, SheetsSay, FirstLinesAreFree, FirstLinesOfUnfolded, SheetsOfOneCover, PositionsAreEnoughForSheets}
+use Rattle.exports.specs.Sheets.{SheetCall, written, firstLines, found, SheetsSay, FirstLinesAreFree, FirstLinesOfUnfolded}
+use Rattle.exports.specs.Sheets.{SheetsOfOneCover, PositionsAreEnoughForSheets, HemsArePrinted, HemsAreFree, HemsOfExports}
 use Rattle.exports.proofs.Rewritten.{rewritten, rewritten-by}
 use Rattle.exports.proofs.Distinct.{folded-renumbered}
+use Rattle.exports.proofs.Covers.{hems-of-one-cover}
 use Rattle.exports.proofs.Compactions.{but-attributes, own-cover, lines-same}
 
 -- ---- files
@@ -105,3 +120,40 @@ first-lines-of-unfolded a b e f s h r q =
     first-lines-are-free a b e f
     (rw (faces-stay (panelMesh a) (file-accepted a e) h, faces-stay (panelMesh b) (file-accepted b f) (sym (folded-same s) ∙ h)) s)
     r q
+
+-- ---- the hems, as rings of points
+
+fit-wired : (v : Verdict) → Fit v → wired v ≡ true
+fit-wired v (inl e) = ap wired e
+fit-wired v (inr e) = ap wired e
+
+pub hems-are-printed : HemsArePrinted
+unfolding foundIn
+hems-are-printed file v =
+    let m : Mesh = cleaned (panelMesh file) in
+    ap (λ (b : Bool). cond b (Option.some (houseWiresOf (faces m))) Option.none) (fit-wired (verdict (edgesOf (faces m))) v)
+
+-- after cleaning, from what removal leaves
+module _ (g : ℕ → ℕ) (m n : Mesh) (y : meshNumber m ≡ 0) (z : meshNumber n ≡ 0) (v : Fit (foundIn (cleaned m) .verdict)) where
+  cleaned-hems :
+      OneCover g (faces (unfoldedMesh m)) (faces (unfoldedMesh n)) → SamePoints g (unfoldedMesh m) (unfoldedMesh n)
+      → Same (hemPoints (cleaned m)) (hemPoints (cleaned n))
+  unfolding cleaned foundIn
+  cleaned-hems c k =
+      let y′ = removed-accepted m y in
+      hems-of-one-cover g (unfoldedMesh m) (unfoldedMesh n) y′ (removed-accepted n z) c k
+      (subst Fit (compaction-keeps-all (unfoldedMesh m) y′ .one-verdict) v)
+      .as-printed
+
+pub hems-are-free : HemsAreFree
+unfolding unfoldedMesh
+hems-are-free a b e f s q v =
+    cleaned-hems (λ i. i) (panelMesh a) (panelMesh b) (file-accepted a e) (file-accepted b f) v
+    (own-cover (faces (unfoldedMesh (panelMesh a))) (faces (unfoldedMesh (panelMesh b))) (same-map position s))
+    (λ i h. ap (λ (l : List Float). entryAt pointWidth l i) (sym q))
+
+pub hems-of-exports : HemsOfExports
+unfolding unfoldedMesh
+hems-of-exports g a b e f c h k v =
+    cleaned-hems g (panelMesh a) (panelMesh b) (file-accepted a e) (file-accepted b f) v (still-one g a b e f c h)
+    (rw (faces-stay (panelMesh a) (file-accepted a e) h) k)

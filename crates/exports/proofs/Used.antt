@@ -19,7 +19,7 @@ use Rattle.order.specs.Same.{Turned, Same, none, face, swap, then}
 use Rattle.order.proofs.Turning.{Halves, halves}
 use Rattle.compaction.specs.Compaction.{usesOf}
 use Rattle.compaction.proofs.Uses.{has-uses, uses-once}
-use Rattle.exports.proofs.Counted.{counts-alike}
+use Rattle.renumbered.proofs.Counted.{counts-alike}
 
 -- ---- a test of some corner does not depend on the order
 

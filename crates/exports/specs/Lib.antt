@@ -1,4 +1,2 @@
-pub mod Renumbered
 pub mod Covers
-pub mod Compacted
 pub mod Sheets

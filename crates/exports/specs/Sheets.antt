@@ -1,24 +1,26 @@
 -- The sheets of two files, from the files' bytes. Where the faces that are left after removal are the same, put in another order, each
 -- begun at any corner of its ring, the sheets begin with the same three lines. The hems that follow have other numbers where the first
--- uses come in another order, and may be another number of hems (calls' specs/Begun.antt). Assumes nothing.
+-- uses come in another order; they are the same rings of points. Assumes nothing.
 use mathlib.Core.Path.{_≡_}
 use mathlib.Core.Bool.{false}
 use mathlib.Core.Option.{Option}
-use mathlib.Core.List.{List, [], _∷_, _++_}
+use mathlib.Core.List.{List, _++_}
 use Prim.Native.Nat.{ℕ, _≤_}
 use lib.ListN.{length, take}
 use Rattle.lists.specs.Lists.{some}
 use Rattle.mesh.specs.Mesh.{faces}
 use Rattle.folding.specs.Folding.{folded}
 use Rattle.folded.specs.Folded.{unfoldedMesh}
+use Rattle.turning.specs.Turning.{houseWiresOf}
+use Rattle.turning.specs.Promise.{Fit}
 use Rattle.order.specs.Same.{Same}
 use Rattle.order.specs.Demand.{byPosition}
-use Rattle.calls.specs.Begun.{touching, touchingLater}
 use Rattle.panelfile.specs.Reading.{panelMesh}
 use Rattle.lines.specs.Lines.{Found, sheetRoom, meshLine, verdictLine, panelsLine, hemLines}
 use Rattle.cleaning.specs.Cleaning.{cleaned}
 use Rattle.sheet.specs.Sheet.{foundIn, fileNumber, Printed}
 use Rattle.sheet.specs.declared.Answer.{Answer}
+use Rattle.renumbered.specs.Points.{hemPoints, SamePoints}
 use Rattle.exports.specs.Covers.{OneCover}
 
 -- ---- a call of `sheet::sheet` on a file's bytes: what was lent, with its room, what is there afterwards and what was answered, any of
@@ -95,9 +97,27 @@ PositionsAreEnoughForSheets =
     → Same (byPosition (faces (panelMesh a))) (byPosition (faces (panelMesh b))) → some folded (faces (panelMesh a)) ≡ false
     → SameButAttributes (found a) (found b)
 
--- ---- the hems are not among it
+-- ---- the hems, as rings of points
 
--- after cleaning, the cover of calls' specs/Begun.antt has two hems to print, and with its faces in another order one
-pub record OtherHemLines : Type 0 where
-  pub two-lines : foundIn (cleaned touching) .wires ≡ Option.some ((0 ∷ 1 ∷ 2 ∷ 3 ∷ []) ∷ (2 ∷ 4 ∷ 5 ∷ []) ∷ [])
-  pub one-line : foundIn (cleaned touchingLater) .wires ≡ Option.some ((0 ∷ 1 ∷ 2 ∷ 3 ∷ 4 ∷ 2 ∷ 5 ∷ []) ∷ [])
+-- where the verdict is Oriented or Closed the hems that a sheet prints are the house wires of what is left after cleaning: `hemPoints` of
+-- that mesh are their points
+abbrev pub HemsArePrinted : Type 0
+HemsArePrinted =
+    (file : List ℕ) → Fit (found file .verdict) → found file .wires ≡ Option.some (houseWiresOf (faces (cleaned (panelMesh file))))
+
+-- two files that are read, whose faces after removal are the same and whose positions have the same points: where the verdict is Oriented
+-- or Closed, what is left after cleaning has the same hems, each begun somewhere, in some order
+abbrev pub HemsAreFree : Type 0
+HemsAreFree =
+    (a b : List ℕ) → fileNumber a ≡ 0 → fileNumber b ≡ 0
+    → Same (faces (unfoldedMesh (panelMesh a))) (faces (unfoldedMesh (panelMesh b)))
+    → panelMesh a .positions ≡ panelMesh b .positions
+    → Fit (found a .verdict) → Same (hemPoints (cleaned (panelMesh a))) (hemPoints (cleaned (panelMesh b)))
+
+-- the same of two exports of one cover, without folded faces, where g keeps the points
+abbrev pub HemsOfExports : Type 0
+HemsOfExports =
+    (g : ℕ → ℕ) (a b : List ℕ) → fileNumber a ≡ 0 → fileNumber b ≡ 0
+    → OneCover g (faces (panelMesh a)) (faces (panelMesh b)) → some folded (faces (panelMesh a)) ≡ false
+    → SamePoints g (panelMesh a) (panelMesh b)
+    → Fit (found a .verdict) → Same (hemPoints (cleaned (panelMesh a))) (hemPoints (cleaned (panelMesh b)))

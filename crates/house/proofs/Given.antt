@@ -1,68 +1,62 @@
--- Where the verdict is Oriented or Closed, the hem edges of a mesh as two lists are what `trace_house` is given. Assumes nothing.
-use mathlib.Core.Path.{_≡_, sym, ap, ap₂, _∙_, subst}
+-- What the wires are given where the verdict allows them, and what is answered then. Assumes nothing.
+use mathlib.Core.Path.{_≡_, refl, sym, ap, _∙_, subst}
+use mathlib.Core.Logic.{inl, inr}
+use mathlib.Core.Bool.{Bool, true, not}
 use mathlib.Core.List.{List, map}
 use Prim.Native.Nat.{ℕ}
-use native.Mathlib.Omega.{arith}
-use lib.ListN.{length, length-map}
+use Rattle.lists.proofs.Bools.{true-false}
 use Rattle.mesh.specs.Mesh.{Ring, position, rings}
-use Rattle.mesh.specs.Listed.{Listed}
-use Rattle.edges.specs.Edges.{Edge, edgesOf, Verdict, Irregular, Regular, verdict, hems}
-use Rattle.tracing.proofs.Tables.{startsOf, endsOf, pairs-of}
-use Rattle.tracing.proofs.HemLists.{hem-count, hem-lists}
-use mathlib.Core.Bool.{Bool, true, false}
-use Rattle.tracing.specs.Hems.{pairs, Balanced}
+use Rattle.mesh.specs.Listed.{Listed, listedOf}
+use Rattle.mesh.specs.Table.{when}
+use Rattle.edges.specs.Edges.{edgesOf, Verdict, Irregular, Regular, Oriented, Closed, verdict}
+use Rattle.edges.specs.Answers.{verdictOf}
+use Rattle.edges.specs.declared.ShellCondition.{ShellCondition}
+use Rattle.tracing.specs.Hems.{Written}
 use Rattle.tracing.specs.declared.Wires.{Wires}
-use Rattle.tracing.proofs.Balance.{hems-balanced}
-use Rattle.house.specs.House.{houseWires}
-use Rattle.house.specs.Answers.{wired, HouseOf, HouseFound, HouseDone}
-use Rattle.house.specs.Linking.{Houseable, Foundable}
-use Rattle.house.proofs.Closing.{Used, house-used}
-use Rattle.house.proofs.Rising.{hems-rise}
+use Rattle.tracing.proofs.Answering.{result}
+use Rattle.turning.specs.Turning.{houseWiresOf}
+use Rattle.turning.specs.Promise.{Fit, HemsTurn}
+use Rattle.turning.proofs.Promised.{hems-turn}
+use Rattle.hemming.specs.Rows.{Hemmable}
+use Rattle.house.specs.Answers.{wired, WiresDone, HouseDone}
+use Rattle.house.specs.Rows.{WireRows}
 
--- Oriented or Closed is neither Irregular nor Regular
-not-irregular : (v : Verdict) → wired v ≡ true → v ≡ Irregular → ⊥
-not-irregular v q e = let z : _≡_ {A = Bool} false true = sym (ap wired e) ∙ q in let y : _≡_ {A = ℕ} 0 1 = cc in omega arith
+-- ---- the verdict
 
-not-regular : (v : Verdict) → wired v ≡ true → v ≡ Regular → ⊥
-not-regular v q e = let z : _≡_ {A = Bool} false true = sym (ap wired e) ∙ q in let y : _≡_ {A = ℕ} 0 1 = cc in omega arith
+pub fit-of : (v : Verdict) → wired v ≡ true → Fit v
+fit-of Irregular q = true-false (sym q)
+fit-of Regular q = true-false (sym q)
+fit-of Oriented q = inl refl
+fit-of Closed q = inr refl
 
-wired-balanced : (fs : List Ring) → wired (verdict (edgesOf fs)) ≡ true → Balanced (hems (edgesOf fs))
-wired-balanced fs q = hems-balanced (map (map position) fs) (not-irregular (verdict (edgesOf fs)) q) (not-regular (verdict (edgesOf fs)) q)
+-- what the house wires of faces come to
+pub house-turns : (fs : List Ring) → wired (verdict (edgesOf fs)) ≡ true → HemsTurn (map (map position) fs)
+house-turns fs q = hems-turn (map (map position) fs) (fit-of (verdict (edgesOf fs)) q)
 
--- house wires use every hem edge
-pub house-uses : (fs : List Ring) → wired (verdict (edgesOf fs)) ≡ true → Used (hems (edgesOf fs)) (houseWires (hems (edgesOf fs)))
-house-uses fs q = house-used (hems (edgesOf fs)) (wired-balanced fs q)
+-- ---- the wires
 
--- ---- what the tracer is given
+module _
+    {v : Verdict} {cs s : List ℕ} {n : ℕ} {l h d first order twins flat lengths : List ℕ} (p : WireRows v cs s n l h d first order twins flat lengths)
+    (q : wired v ≡ true) where
+  pub rows-hemmable : Hemmable cs s n l h d first order twins flat lengths
+  rows-hemmable = record {
+    edged = p .given .edged;
+    gathered = p .judged .gathered;
+    fit = fit-of (verdict (edgesOf (rings s cs))) (ap wired (sym (p .judged .verdict-is)) ∙ q);
+    next-room = p .next-room;
+    twin-room = p .twin-room;
+    numbers = p .given .numbers;
+    wires = p .given .wires;
+  }
 
-module _ {cs s : List ℕ} {n : ℕ} {flat lengths ss zs : List ℕ} where
-  pub houseable :
-      HouseOf cs s n flat lengths → wired (verdict (edgesOf (rings s cs))) ≡ true
-      → ss ≡ startsOf (hems (edgesOf (rings s cs))) → zs ≡ endsOf (hems (edgesOf (rings s cs))) → Houseable ss zs flat lengths
-  houseable p w a b =
-      let l : length (startsOf (hems (edgesOf (rings s cs)))) ≡ length (hems (edgesOf (rings s cs))) = length-map (hems (edgesOf (rings s cs))) (λ (x : Edge). x .0) in
-      let k : length ss ≡ length (startsOf (hems (edgesOf (rings s cs)))) = ap length a in
-      let q : pairs ss zs ≡ hems (edgesOf (rings s cs)) = ap₂ pairs a b ∙ pairs-of (hems (edgesOf (rings s cs))) in
-      record {
-        edges = rw (a, b) (hem-lists (p .edged));
-        balanced = rw q (wired-balanced (rings s cs) w);
-        rises = rw q (hems-rise (edgesOf (rings s cs)));
-        numbers = omega (arith, hem-count (p .edged), p .numbers);
-        wires = omega (arith, hem-count (p .edged), p .wires);
-      }
+  pub rows-wired :
+      {flat′ lengths′ : List ℕ} {numbers wires : ℕ} → Written (houseWiresOf (rings s cs)) flat lengths flat′ lengths′ numbers wires
+      → WiresDone v (rings s cs) (listedOf flat lengths) (listedOf flat′ lengths′) (record { number = 0; flat = numbers; wires = wires })
+  rows-wired w = result (ap (λ (b : Bool). when (not b) 10) q) w
 
-  -- the same, by the verdict that was found with them
-  pub foundable :
-      {v : Verdict} → HouseOf cs s n flat lengths → v ≡ verdict (edgesOf (rings s cs))
-      → ss ≡ startsOf (hems (edgesOf (rings s cs))) → zs ≡ endsOf (hems (edgesOf (rings s cs))) → Foundable v ss zs flat lengths
-  foundable p e a b = record { houseable = λ w. houseable p (ap wired (sym e) ∙ w) a b }
-
--- what is answered for the two lists and the verdict is answered for the edges
+-- the verdict beside them
 pub house-done :
-    {v : Verdict} {ss zs : List ℕ} {before afterwards : Listed} {answer : Wires} (es : List Edge) → v ≡ verdict es
-    → ss ≡ startsOf (hems es) → zs ≡ endsOf (hems es) → HouseFound v (pairs ss zs) before afterwards answer
-    → HouseDone es before afterwards answer
-house-done {v} {ss} {zs} {before} {afterwards} {answer} es e a b d =
-    let q : pairs ss zs ≡ hems es = ap₂ pairs a b ∙ pairs-of (hems es) in
-    subst (λ (u : Verdict). HouseFound u (hems es) before afterwards answer) e
-    (subst (λ (h : List Edge). HouseFound v h before afterwards answer) q d)
+    {v : ShellCondition} {fs : List Ring} {before afterwards : Listed} {answer : Wires} → verdictOf v ≡ verdict (edgesOf fs)
+    → WiresDone (verdictOf v) fs before afterwards answer → HouseDone fs before afterwards (record { verdict = v; wires = answer })
+house-done {v} {fs} {before} {afterwards} {answer} e a =
+    record { verdict-is = e; answered = subst (λ (u : Verdict). WiresDone u fs before afterwards answer) e a }

@@ -1,16 +1,19 @@
 -- The call's answer: its numbers by the table, and what it answers and leaves. Assumes nothing.
+use mathlib.Core.Path.{_≡_}
 use mathlib.Core.Bool.{Bool, true, false, not}
 use mathlib.Core.List.{List, [], _∷_}
 use Prim.Native.Nat.{ℕ, _≤_}
 use lib.ListN.{length}
-use Rattle.mesh.specs.Mesh.{Mesh, faces}
+use Rattle.mesh.specs.Mesh.{Mesh, Ring, faces}
 use Rattle.mesh.specs.Listed.{Listed}
 use Rattle.mesh.specs.Table.{meshNumber, when, firstOf, lent, short}
 use Rattle.edges.specs.Runs.{Edged}
-use Rattle.edges.specs.Edges.{Edge, edgesOf, Verdict, Irregular, Regular, Oriented, Closed, verdict, hems}
+use Rattle.edges.specs.Edges.{edgesOf, Verdict, Irregular, Regular, Oriented, Closed, verdict}
+use Rattle.edges.specs.Answers.{verdictOf}
 use Rattle.tracing.specs.Answers.{cornerCount, Answered}
 use Rattle.tracing.specs.declared.Wires.{Wires}
-use Rattle.house.specs.House.{houseWires}
+use Rattle.turning.specs.Turning.{houseWiresOf}
+use Rattle.house.specs.declared.Housed.{Housed}
 
 -- 9: a list is shorter than one number per corner
 abbrev pub houseShort : Mesh → ℕ → ℕ → Bool
@@ -33,7 +36,7 @@ houseNumber m flat lengths = firstOf (meshNumber m ∷ when (houseShort m flat l
 -- the call: a mesh is given, and what the two lent lists hold before and afterwards
 abbrev pub HouseAnswer : Mesh → Listed → Listed → Wires → Type 0
 HouseAnswer m before afterwards answer =
-    Answered (houseNumber m (length (before .flat)) (length (before .lengths))) (houseWires (hems (edgesOf (faces m)))) before afterwards answer
+    Answered (houseNumber m (length (before .flat)) (length (before .lengths))) (houseWiresOf (faces m)) before afterwards answer
 
 -- what the wires of a mesh that is accepted are given
 pub record HouseOf (corners sizes : List ℕ) (positions : ℕ) (flat lengths : List ℕ) : Type 0 where
@@ -41,9 +44,11 @@ pub record HouseOf (corners sizes : List ℕ) (positions : ℕ) (flat lengths : 
   pub numbers : cornerCount corners ≤ length flat
   pub wires : cornerCount corners ≤ length lengths
 
--- what they answer and leave: 10, or the wires of the hem edges, by the verdict v that was found with them
-abbrev pub HouseFound : Verdict → List Edge → Listed → Listed → Wires → Type 0
-HouseFound v hem before afterwards answer = Answered (when (not (wired v)) 10) (houseWires hem) before afterwards answer
+-- what they answer and leave, by the verdict v that was found: 10, or the wires
+abbrev pub WiresDone : Verdict → List Ring → Listed → Listed → Wires → Type 0
+WiresDone v fs before afterwards answer = Answered (when (not (wired v)) 10) (houseWiresOf fs) before afterwards answer
 
-abbrev pub HouseDone : List Edge → Listed → Listed → Wires → Type 0
-HouseDone es before afterwards answer = HouseFound (verdict es) (hems es) before afterwards answer
+-- the same, and the verdict of the faces beside it
+pub record HouseDone (fs : List Ring) (before afterwards : Listed) (answer : Housed) : Type 0 where
+  pub verdict-is : verdictOf (answer .verdict) ≡ verdict (edgesOf fs)
+  pub answered : WiresDone (verdict (edgesOf fs)) fs before afterwards (answer .wires)

@@ -1,6 +1,4 @@
--- the rule, the call, and what the rule comes to
-pub mod House
+-- the call; the rule is crate turning's
 pub mod Answers
-pub mod Promises
--- the steps of the code
-pub mod Linking
+-- what the functions rest on
+pub mod Rows

@@ -1,21 +1,23 @@
-// House wires along the hem edges of a mesh (document 01, 'Edges, verdict and wires').
+// House wires along the hem edges of a mesh (document 01, 'Edges, verdict and wires'; document 02, request 5).
 //
-// The tables have all hem edges: they ascend, so that the first at a position is the one with the smallest end.
+// The uses of all edges are sorted once, by lower and higher position. From that order come the verdict (crate edges) and, where it allows
+// them, the wires (crate hemming).
 //
-// `house_wires` checks the mesh; `house_of` is for crates that have checked it, and `house_from` for those that have the hem edges and the
-// verdict too.
+// `house_wires` checks the mesh; `house_of` is for crates that have checked it, and answers the verdict beside the wires.
 ghost use mathlib.Core.Path.{_≡_};
 ghost use Rattle.mesh.specs.Mesh.{meshOf, rings};
 ghost use Rattle.mesh.specs.Listed.{listedOf};
-ghost use Rattle.edges.specs.Edges.{edgesOf};
 ghost use Rattle.edges.specs.Answers.{verdictOf};
-ghost use Rattle.tracing.specs.Hems.{pairs, Written};
-ghost use Rattle.house.specs.House.{houseWires};
-ghost use Rattle.house.specs.Answers.{wired, HouseAnswer, HouseOf, HouseFound, HouseDone};
-ghost use Rattle.house.specs.Linking.{Linkable, LinkedAll, Houseable, HouseIn, Foundable};
+ghost use Rattle.house.specs.Answers.{wired, HouseAnswer, HouseOf, WiresDone, HouseDone};
+ghost use Rattle.house.specs.Rows.{HouseRows, WireRows};
 use edges::ShellCondition;
-use tracing::Traced;
 use tracing::Wires;
+
+// What `house_of` answers: the verdict, and what `house_wires` answers.
+pub struct Housed {
+    pub verdict: ShellCondition,
+    pub wires: Wires,
+}
 
 // The house wires of a mesh, as a flat list of positions and a list of lengths. Room: one number per corner in each. Numbers 0 to
 // 5, 9, and 10 where the verdict is neither Oriented nor Closed.
@@ -45,48 +47,121 @@ pub fn house_wires(
     if lengths.len() < room {
         return tracing::refused(9);
     }
-    house_of(
+    let found = house_of(
         corners,
         sizes,
         positions.len() / mesh::POINT_WIDTH,
         flat,
         lengths,
-    )
+    );
+    found.wires
 }
 
-// The house wires of a mesh that is accepted, with so many positions, where its verdict allows them.
+// The verdict and the house wires of a mesh that is accepted, with so many positions.
 pub fn house_of(
     corners: &[u32],
     sizes: &[u32],
     positions: usize,
     flat: &mut [u32],
     lengths: &mut [u32],
-) -> Wires
+) -> Housed
     requires { ⌜ HouseOf (now corners) (now sizes) positions (now flat) (now lengths) ⌝ }
-    ensures { λ r. ⌜ HouseDone (edgesOf (rings (now (sizes .entry)) (now (corners .entry))))
+    ensures { λ r. ⌜ HouseDone (rings (now (sizes .entry)) (now (corners .entry)))
         (listedOf (now (flat .entry)) (now (lengths .entry)))
         (listedOf (now (flat .exit)) (now (lengths .exit)))
         r ⌝ }
 {
-    let mut starts = [0u32; mesh::CORNERS];
-    let mut ends = [0u32; mesh::CORNERS];
-    let found = edges::hems_of(corners, sizes, positions, &mut starts[..], &mut ends[..]);
-    let n = found.count;
-    let verdict = found.verdict;
-    house_from(verdict, &starts[..n], &ends[..n], flat, lengths)
+    let mut lowers = [0u32; mesh::CORNERS];
+    let mut highers = [0u32; mesh::CORNERS];
+    let mut downs = [0u32; mesh::CORNERS];
+    let mut first = [0u32; mesh::CORNERS];
+    let mut order = [0u32; mesh::CORNERS];
+    let mut twins = [0u32; mesh::CORNERS];
+    let n = corners.len() / mesh::WIDTH;
+    house_in(
+        corners,
+        sizes,
+        positions,
+        &mut lowers[..n],
+        &mut highers[..n],
+        &mut downs[..n],
+        &mut first[..n],
+        &mut order[..n],
+        &mut twins[..n],
+        flat,
+        lengths,
+    )
 }
 
-// The house wires of hem edges that are found already, where the verdict, found with them, allows them. Room: one number and one wire per
-// hem edge.
-pub fn house_from(
+// The same in rows that are lent, one number for each corner. Rows that have served take what comes next.
+fn house_in(
+    corners: &[u32],
+    sizes: &[u32],
+    positions: usize,
+    lowers: &mut [u32],
+    highers: &mut [u32],
+    downs: &mut [u32],
+    first: &mut [u32],
+    order: &mut [u32],
+    twins: &mut [u32],
+    flat: &mut [u32],
+    lengths: &mut [u32],
+) -> Housed
+    requires { ⌜ HouseRows
+        (now corners) (now sizes) positions (now lowers) (now highers) (now downs) (now first) (now order) (now twins) (now flat) (now lengths) ⌝ }
+    ensures { λ r. ⌜ HouseDone (rings (now (sizes .entry)) (now (corners .entry)))
+        (listedOf (now (flat .entry)) (now (lengths .entry)))
+        (listedOf (now (flat .exit)) (now (lengths .exit)))
+        r ⌝ }
+{
+    let verdict = edges::judge(
+        corners,
+        sizes,
+        positions,
+        lowers,
+        highers,
+        downs,
+        first,
+        order,
+    );
+    let wires = wires_in(
+        verdict,
+        corners,
+        sizes,
+        positions,
+        lowers,
+        highers,
+        downs,
+        first,
+        order,
+        twins,
+        flat,
+        lengths,
+    );
+    Housed {
+        verdict: verdict,
+        wires: wires,
+    }
+}
+
+// The wires of sorted uses, where their verdict allows them.
+fn wires_in(
     verdict: ShellCondition,
-    starts: &[u32],
-    ends: &[u32],
+    corners: &[u32],
+    sizes: &[u32],
+    positions: usize,
+    lowers: &mut [u32],
+    highers: &mut [u32],
+    downs: &mut [u32],
+    first: &mut [u32],
+    order: &[u32],
+    twins: &mut [u32],
     flat: &mut [u32],
     lengths: &mut [u32],
 ) -> Wires
-    requires { ⌜ Foundable (verdictOf verdict) (now starts) (now ends) (now flat) (now lengths) ⌝ }
-    ensures { λ r. ⌜ HouseFound (verdictOf verdict) (pairs (now (starts .entry)) (now (ends .entry)))
+    requires { ⌜ WireRows (verdictOf verdict)
+        (now corners) (now sizes) positions (now lowers) (now highers) (now downs) (now first) (now order) (now twins) (now flat) (now lengths) ⌝ }
+    ensures { λ r. ⌜ WiresDone (verdictOf verdict) (rings (now (sizes .entry)) (now (corners .entry)))
         (listedOf (now (flat .entry)) (now (lengths .entry)))
         (listedOf (now (flat .exit)) (now (lengths .exit)))
         r ⌝ }
@@ -94,7 +169,19 @@ pub fn house_from(
     if !is_wired(verdict) {
         return tracing::refused(10);
     }
-    let done = trace_house(starts, ends, flat, lengths);
+    let done = hemming::trace(
+        corners,
+        sizes,
+        positions,
+        lowers,
+        highers,
+        downs,
+        first,
+        order,
+        twins,
+        flat,
+        lengths,
+    );
     Wires {
         number: 0,
         flat: done.flat,
@@ -111,48 +198,5 @@ fn is_wired(verdict: ShellCondition) -> bool
         ShellCondition::Regular => false,
         ShellCondition::Oriented => true,
         ShellCondition::Closed => true,
-    }
-}
-
-// The house wires of hem edges that are balanced and ascend, into `flat` and `lengths`. Room: one number and one wire per hem edge.
-fn trace_house(starts: &[u32], ends: &[u32], flat: &mut [u32], lengths: &mut [u32]) -> Traced
-    requires { ⌜ Houseable (now starts) (now ends) (now flat) (now lengths) ⌝ }
-    ensures { λ r. ⌜ Written (houseWires (pairs (now (starts .entry)) (now (ends .entry))))
-        (now (flat .entry)) (now (lengths .entry)) (now (flat .exit)) (now (lengths .exit))
-        (r .flat) (r .wires) ⌝ }
-{
-    let mut firsts = [tracing::NOBODY; mesh::ENTRIES];
-    let mut nexts = [tracing::NOBODY; mesh::CORNERS];
-    house_in(starts, ends, &mut nexts[..], &mut firsts[..], flat, lengths)
-}
-
-fn house_in(
-    starts: &[u32],
-    ends: &[u32],
-    nexts: &mut [u32],
-    firsts: &mut [u32],
-    flat: &mut [u32],
-    lengths: &mut [u32],
-) -> Traced
-    requires { ⌜ HouseIn (now starts) (now ends) (now nexts) (now firsts) (now flat) (now lengths) ⌝ }
-    ensures { λ r. ⌜ Written (houseWires (pairs (now (starts .entry)) (now (ends .entry))))
-        (now (flat .entry)) (now (lengths .entry)) (now (flat .exit)) (now (lengths .exit))
-        (r .flat) (r .wires) ⌝ }
-{
-    link_all(starts, nexts, firsts);
-    tracing::trace_all(starts, ends, nexts, firsts, flat, lengths)
-}
-
-// Each position has the first hem edge that starts there, and each hem edge the next with the same start.
-fn link_all(starts: &[u32], nexts: &mut [u32], firsts: &mut [u32])
-    requires { ⌜ Linkable (now starts) (now nexts) (now firsts) ⌝ }
-    ensures { λ _. ⌜ LinkedAll (now (starts .entry)) (now (nexts .entry)) (now (firsts .entry)) (now (nexts .exit)) (now (firsts .exit)) ⌝ }
-{
-    let mut k = starts.len();
-    while k > 0 {
-        k -= 1;
-        let s = lists::wide(starts[k]);
-        nexts[k] = firsts[s];
-        firsts[s] = k as u32;
     }
 }

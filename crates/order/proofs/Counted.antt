@@ -14,7 +14,7 @@ use Rattle.order.proofs.Turning.{turned-alike}
 use Rattle.order.proofs.Matched.{same-map}
 
 module _ {A : Type 0} where
-  same-count : (p : A × A → Bool) {m n : List (List A)} → Same m n → count p (meshEdges m) ≡ count p (meshEdges n)
+  pub same-count : (p : A × A → Bool) {m n : List (List A)} → Same m n → count p (meshEdges m) ≡ count p (meshEdges n)
   same-count p none = refl
   same-count p (face {f = f} {g = g} {m = m} {n = n} t s) =
       rw (

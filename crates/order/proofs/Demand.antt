@@ -2,9 +2,8 @@
 -- corner of its ring: there is one verdict, the same hem edges, the same faces together in each panel, and the same house wires.
 -- For all but the panels under the normals setting the same positions are enough. Assumes nothing.
 use mathlib.Core.Path.{_≡_, ap, _∙_}
-use mathlib.Core.Logic.{_⊎_, inl, inr}
 use mathlib.Core.List.{List, []}
-use Prim.Native.Nat.{ℕ, _<_, _≤_}
+use Prim.Native.Nat.{_<_, _≤_}
 use native.Mathlib.Omega.{arith}
 use lib.ListN.{length, getD}
 use Rattle.lists.proofs.Alike.{Alike}
@@ -13,22 +12,17 @@ use Rattle.mesh.specs.Mesh.{Mesh, Ring, position, rings, faces}
 use Rattle.mesh.specs.Table.{meshNumber}
 use Rattle.mesh.proofs.Faces.{length-rings, getD-rings, length-face}
 use Rattle.mesh.proofs.Accepted.{Accepted, accepted}
-use Rattle.edges.specs.Edges.{edgesOf, Verdict, Irregular, Oriented, Closed, verdict, hems}
+use Rattle.edges.specs.Edges.{edgesOf, Irregular, verdict, hems}
 use Rattle.edges.proofs.HemUses.{not-irregular}
 use Rattle.edges.proofs.Reordered.{verdict-alike, hems-undirected, hems-alike}
-use Rattle.house.specs.House.{houseWires}
 use Rattle.ported.specs.Ported.{portedWires}
 use Rattle.order.specs.Same.{Same, Matching}
 use Rattle.order.specs.Demand.{SameEdges, Demand3, OrderIsFree, byPosition, SameByPosition, PositionsAreEnough}
 use Rattle.order.proofs.Matched.{same-map, same-matched}
 use Rattle.order.proofs.Counted.{edges-alike-by}
+use Rattle.order.proofs.Ordered.{same-house}
 use Rattle.order.proofs.Panelwise.{Full, panels-matched}
 use Rattle.order.proofs.ByPosition.{panels-by-position}
-
--- Oriented is not Irregular, and neither is Closed
-tame : (v : Verdict) → (v ≡ Oriented) ⊎ (v ≡ Closed) → v ≡ Irregular → ⊥
-tame v (inl p) q = let z : _≡_ {A = ℕ} 0 1 = cc in omega arith
-tame v (inr p) q = let z : _≡_ {A = ℕ} 0 1 = cc in omega arith
 
 -- what goes by edges goes by positions
 edges-same : (m n : List Ring) → Same (byPosition m) (byPosition n) → SameEdges m n
@@ -39,7 +33,7 @@ edges-same m n s =
       one-verdict = verdict-alike h;
       same-hems = hems-undirected h;
       same-directions = directed;
-      same-wires = λ v. ap houseWires (directed (tame (verdict (edgesOf m)) v));
+      same-wires = λ v. same-house s v;
       same-ported = λ v. ap portedWires (directed v);
     }
 

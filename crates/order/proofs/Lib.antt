@@ -2,6 +2,7 @@ pub mod Turning
 pub mod Matched
 pub mod Rematched
 pub mod Counted
+pub mod Ordered
 pub mod Panelwise
 pub mod ByPosition
 pub mod Demand

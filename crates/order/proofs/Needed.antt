@@ -4,7 +4,7 @@
 -- under the normals setting they are one panel and two. Assumes nothing.
 use mathlib.Core.Path.{_≡_, refl, sym, ap, _∙_}
 use mathlib.Core.Bool.{Bool, true, false}
-use mathlib.Core.List.{[]}
+use mathlib.Core.List.{List, []}
 use Prim.Native.Nat.{ℕ, _<_}
 use native.Mathlib.Omega.{arith}
 use lib.ListN.{length, getD}
@@ -13,7 +13,7 @@ use Rattle.lists.proofs.Counting.{clash}
 use Rattle.mesh.specs.Mesh.{Mesh, faces}
 use Rattle.mesh.specs.Table.{overLimits, uneven, misfit, ungrouped, astray, shapeNumber, meshNumber}
 use Rattle.edges.specs.Edges.{edgesOf, same, key, Irregular, verdict, hems}
-use Rattle.house.specs.House.{walk, wiresIn, houseWires}
+use Rattle.turning.specs.Turning.{turnFrom, onwardIn, onward, trail, trailsIn, houseWires, houseWiresOf}
 use Rattle.keys.specs.Keys.{keyOf}
 use Rattle.searching.specs.Search.{searchFrom, panelsFrom}
 use Rattle.panels.specs.Panels.{panels}
@@ -58,19 +58,21 @@ directions-not-kept kept =
 
 -- ---- where it is Oriented or Closed
 
--- two house wires along the hem edges of the one, three along those of the other
-pub wires-of-both :
-    (length (houseWires (hems (edgesOf (faces thriceUsed)))) ≡ 2) × (length (houseWires (hems (edgesOf (faces exchanged)))) ≡ 3)
-unfolding faces hems key houseWires wiresIn walk
+-- the second position of the first wire
+abbrev second : List (List ℕ) → ℕ
+second ws = getD (getD ws 0 []) 1 0
+
+-- the first house wire of the one goes from 0 to 1, that of the other from 0 to 3
+pub wires-of-both : (second (houseWiresOf (faces thriceUsed)) ≡ 1) × (second (houseWiresOf (faces exchanged)) ≡ 3)
+unfolding faces hems key houseWires trailsIn trail onward onwardIn turnFrom
 wires-of-both = (refl, refl)
 
 -- so it is not true that the house wires are the same whatever the verdict
 pub wires-not-kept :
-    ((m n : Mesh) → meshNumber m ≡ 0 → meshNumber n ≡ 0 → Same (faces m) (faces n)
-    → houseWires (hems (edgesOf (faces m))) ≡ houseWires (hems (edgesOf (faces n)))) → ⊥
+    ((m n : Mesh) → meshNumber m ≡ 0 → meshNumber n ≡ 0 → Same (faces m) (faces n) → houseWiresOf (faces m) ≡ houseWiresOf (faces n)) → ⊥
 wires-not-kept kept =
-    let e : length (houseWires (hems (edgesOf (faces thriceUsed)))) ≡ length (houseWires (hems (edgesOf (faces exchanged)))) =
-    ap length (kept thriceUsed exchanged (both-accepted .0) (both-accepted .1) exchanged-same) in
+    let e : second (houseWiresOf (faces thriceUsed)) ≡ second (houseWiresOf (faces exchanged)) =
+    ap second (kept thriceUsed exchanged (both-accepted .0) (both-accepted .1) exchanged-same) in
     omega (arith, wires-of-both)
 
 -- ---- two accepted meshes

@@ -8,7 +8,7 @@ use Rattle.lists.specs.Lists.{count}
 use Rattle.lists.proofs.Alike.{Alike}
 use Rattle.edges.specs.Edges.{ringEdges}
 use Rattle.edges.proofs.Rings.{ring-turn}
-use Rattle.order.specs.Same.{begun, Turned}
+use Rattle.order.specs.Same.{Turned}
 
 module _ {A : Type 0} where
   -- f is a and b, g is b and a

@@ -1,7 +1,6 @@
 -- What two meshes with the same faces have in common, in the words of the rules: verdict, hem edges, house wires and panels.
 -- Assumes nothing.
 use mathlib.Core.Path.{_≡_}
-use mathlib.Core.Logic.{_⊎_}
 use mathlib.Core.Bool.{Bool, false}
 use mathlib.Core.List.{List, [], map}
 use Prim.Native.Nat.{ℕ, _<_}
@@ -9,8 +8,9 @@ use lib.ListN.{length, getD}
 use Rattle.lists.specs.Lists.{together}
 use Rattle.mesh.specs.Mesh.{Mesh, Ring, position, faces}
 use Rattle.mesh.specs.Table.{meshNumber}
-use Rattle.edges.specs.Edges.{edgesOf, key, Irregular, Oriented, Closed, verdict, hems}
-use Rattle.house.specs.House.{houseWires}
+use Rattle.edges.specs.Edges.{edgesOf, key, Irregular, verdict, hems}
+use Rattle.turning.specs.Turning.{houseWiresOf}
+use Rattle.turning.specs.Promise.{Fit}
 use Rattle.ported.specs.Ported.{portedWires}
 use Rattle.panels.specs.Panels.{panels}
 use Rattle.order.specs.Same.{Turned, Same, Matching}
@@ -24,9 +24,7 @@ pub record SameEdges (m n : List Ring) : Type 0 where
   -- hem edges keep their direction unless the verdict is Irregular
   pub same-directions : (verdict (edgesOf m) ≡ Irregular → ⊥) → hems (edgesOf m) ≡ hems (edgesOf n)
   -- where it is Oriented or Closed the house wires are the same, in the same order
-  pub same-wires :
-      (verdict (edgesOf m) ≡ Oriented) ⊎ (verdict (edgesOf m) ≡ Closed)
-      → houseWires (hems (edgesOf m)) ≡ houseWires (hems (edgesOf n))
+  pub same-wires : Fit (verdict (edgesOf m)) → houseWiresOf m ≡ houseWiresOf n
   -- ported wires are the same unless it is Irregular
   pub same-ported : (verdict (edgesOf m) ≡ Irregular → ⊥) → portedWires (hems (edgesOf m)) ≡ portedWires (hems (edgesOf n))
 

@@ -12,8 +12,8 @@ use Rattle.mesh.specs.Mesh.{Mesh, faces, positionCount, textureCount, normalCou
 use Rattle.mesh.specs.Table.{when, firstOf, lent, short, after}
 use Rattle.panelfile.specs.Reading.{readingNumber, panelMesh}
 use Rattle.cleaning.specs.Cleaning.{cleaned}
-use Rattle.edges.specs.Edges.{Edge, edgesOf, hems, verdict}
-use Rattle.house.specs.House.{houseWires}
+use Rattle.edges.specs.Edges.{edgesOf, verdict}
+use Rattle.turning.specs.Turning.{houseWiresOf}
 use Rattle.house.specs.Answers.{wired}
 use Rattle.panels.specs.Panels.{panels}
 use Rattle.lines.specs.Lines.{Found, sheetText, sheetRoom, refusal}
@@ -22,17 +22,15 @@ use Rattle.sheet.specs.declared.Answer.{Answer}
 -- positions, texture points, normals, faces; the verdict; panels without the normals setting; the house wires, where the verdict allows
 -- them
 unfoldable pub foundIn : Mesh → Found
-foundIn m =
-    let es : List Edge = edgesOf (faces m) in
-    record {
-      positions = positionCount m;
-      textures = textureCount m;
-      normals = normalCount m;
-      faces = length (m .sizes);
-      verdict = verdict es;
-      panels = length (panels false (faces m));
-      wires = cond (wired (verdict es)) (some (houseWires (hems es))) none;
-    }
+foundIn m = record {
+  positions = positionCount m;
+  textures = textureCount m;
+  normals = normalCount m;
+  faces = length (m .sizes);
+  verdict = verdict (edgesOf (faces m));
+  panels = length (panels false (faces m));
+  wires = cond (wired (verdict (edgesOf (faces m)))) (some (houseWiresOf (faces m))) none;
+}
 
 -- a refused file prints only `refused` and its number; any other the sheet of its mesh after cleaning
 unfoldable pub printed : ℕ → Mesh → List ℕ

@@ -8,13 +8,13 @@ use lib.ListN.{length, take}
 use lib.Ieee.{Float}
 use Rattle.lists.specs.Putting.{Front}
 use Rattle.mesh.specs.Limits.{width, entryLimit, cornerLimit, faceLimit, pointNumbers, texelNumbers, cornerNumbers}
-use Rattle.mesh.specs.Mesh.{Mesh, meshOf, rings, positionCount, textureCount, normalCount}
+use Rattle.mesh.specs.Mesh.{Mesh, Ring, meshOf, rings, positionCount, textureCount, normalCount}
 use Rattle.mesh.specs.Table.{meshNumber}
 use Rattle.panelfile.specs.declared.MeshRead.{MeshRead}
 use Rattle.panelfile.specs.Reading.{readingNumber, panelMesh}
-use Rattle.edges.specs.Edges.{Edge, edgesOf, hems, verdict}
+use Rattle.edges.specs.Edges.{edgesOf, verdict}
 use Rattle.edges.specs.Runs.{Edged}
-use Rattle.house.specs.House.{houseWires}
+use Rattle.turning.specs.Turning.{houseWiresOf}
 use Rattle.house.specs.Answers.{wired}
 use Rattle.panels.specs.Panels.{panels}
 use Rattle.keys.specs.Columns.{Keyable}
@@ -78,15 +78,15 @@ pub record Compacting (m : Mesh) (p t n : List Float) (corners : List ℕ) : Typ
 -- what is found in a mesh, by its counts, corners and sizes
 unfoldable pub foundOf : ℕ → ℕ → ℕ → List ℕ → List ℕ → Found
 foundOf p t n corners sizes =
-    let es : List Edge = edgesOf (rings sizes corners) in
+    let fs : List Ring = rings sizes corners in
     record {
       positions = p;
       textures = t;
       normals = n;
       faces = length sizes;
-      verdict = verdict es;
-      panels = length (panels false (rings sizes corners));
-      wires = cond (wired (verdict es)) (some (houseWires (hems es))) none;
+      verdict = verdict (edgesOf fs);
+      panels = length (panels false fs);
+      wires = cond (wired (verdict (edgesOf fs))) (some (houseWiresOf fs)) none;
     }
 
 -- lists at the full limits for the corners and sizes of faces, and room for the sheet
@@ -103,9 +103,7 @@ pub record Findable (p t n : ℕ) (corners sizes out : List ℕ) : Type 0 where
   pub room : sheetRoom ≤ length out
 
 -- and lists of one number for each corner
-pub record WireRoom (p t n : ℕ) (corners sizes starts ends flat lengths out : List ℕ) : Type 0 where
+pub record WireRoom (p t n : ℕ) (corners sizes flat lengths out : List ℕ) : Type 0 where
   pub findable : Findable p t n corners sizes out
-  pub starts-long : length starts ≡ cornerLimit
-  pub ends-long : length ends ≡ cornerLimit
   pub flat-long : length flat ≡ cornerLimit
   pub lengths-long : length lengths ≡ cornerLimit

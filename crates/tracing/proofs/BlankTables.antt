@@ -1,18 +1,13 @@
 -- From blank tables to all wires: what the two functions that fill the tables leave is what the tracer is given, and its wires are the
 -- ported and the house wires. The sizes of the tables are numbers of no matter here. Assumes nothing.
-use mathlib.Core.Path.{_≡_, sym, ap, ap₂, _∙_, subst}
+use mathlib.Core.Path.{_≡_, subst}
 use mathlib.Core.List.{List}
 use Prim.Native.Nat.{ℕ, _≤_, _<_}
 use native.Mathlib.Omega.{arith}
 use lib.ListN.{length, getD, length-replicate, getD-replicate}
-use lib.Seq.{sets}
 use Rattle.mesh.specs.Limits.{entryLimit, cornerLimit}
-use Rattle.tracing.specs.Hems.{pairs, EdgeLists, Written}
-use Rattle.tracing.specs.Tables.{left, Stands, Startable, nobody, blank}
-use Rattle.tracing.specs.Tracing.{traces, AllLeft}
-use Rattle.tracing.proofs.Entries.{Roomy, traces-roomy}
-use Rattle.tracing.proofs.Tables.{length-pairs}
-use Rattle.tracing.proofs.AllWires.{left-length}
+use Rattle.tracing.specs.Hems.{EdgeLists, Written}
+use Rattle.tracing.specs.Tables.{Startable, nobody, blank}
 
 pub blank-length : (n : ℕ) → length (blank n) ≡ n
 unfolding blank

@@ -8,7 +8,7 @@ use lib.ListN.{length, set, length-set, length-append}
 use lib.Seq.{sets}
 use Rattle.lists.proofs.Writing.{sets-snoc}
 use Rattle.edges.specs.Edges.{Edge}
-use Rattle.tracing.specs.Following.{Walk, longer, entry}
+use Rattle.tracing.specs.Following.{Walk, longer}
 use Rattle.tracing.specs.Tables.{left}
 use Rattle.tracing.specs.Tracing.{trace, traceOn, Underway, StepTaken, Begun, Ended}
 use Rattle.tracing.proofs.Entries.{trace-step, trace-home, trace-away}

@@ -1,7 +1,7 @@
 -- The hem edges of a mesh as two lists: how many there are, and that they stand in the two lists that `hems_of` fills. Assumes nothing.
 use mathlib.Core.Path.{_≡_, sym, ap, ap₂, _∙_}
-use mathlib.Core.Bool.{Bool, true, false}
-use mathlib.Core.List.{List, map}
+use mathlib.Core.Bool.{true}
+use mathlib.Core.List.{List}
 use Prim.Native.Nat.{ℕ, _/_, _≤_, _<_}
 use native.Mathlib.Omega.{arith}
 use lib.Dec.{ltb}
@@ -13,16 +13,15 @@ use Rattle.lists.specs.Putting.{Front}
 use Rattle.lists.proofs.Fronts.{front}
 use Rattle.lists.proofs.Parts.{every-at}
 use Rattle.mesh.specs.Limits.{width, entryLimit, cornerLimit}
-use Rattle.mesh.specs.Mesh.{Ring, position, rings}
-use Rattle.edges.specs.Edges.{Edge, edgesOf, Verdict, Irregular, Regular, verdict, hems}
-use Rattle.tracing.specs.Hems.{pairs, EdgeLists, Balanced}
+use Rattle.mesh.specs.Mesh.{rings}
+use Rattle.edges.specs.Edges.{Edge, edgesOf, hems}
+use Rattle.tracing.specs.Hems.{pairs, EdgeLists}
 use Rattle.edges.specs.Runs.{Edged}
 use Rattle.edges.specs.Answers.{Hemmed}
 use Rattle.edges.specs.declared.Hems.{Hems}
 use Rattle.edges.proofs.OfHems.{hems-few, hems-every}
 use Rattle.uses.proofs.Sides.{inside, length-uses, uses-inside}
 use Rattle.tracing.specs.Answers.{cornerCount}
-use Rattle.tracing.proofs.Balance.{hems-balanced}
 use Rattle.tracing.proofs.Tables.{startsOf, endsOf, pairs-of}
 
 -- ---- the hem edges as lists of starts and ends

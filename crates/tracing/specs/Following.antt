@@ -1,6 +1,6 @@
 -- What is left of some edges, and wires that follow them, as document 01 has it for ported wires: take the smallest start left, follow and
 -- remove. Assumes nothing.
-use mathlib.Core.Bool.{Bool, true, false, cond}
+use mathlib.Core.Bool.{true, false, cond}
 use mathlib.Core.Option.{Option, none, some}
 use mathlib.Core.List.{List, [], _∷_}
 use Prim.Native.Nat.{ℕ, zero, suc, min}

@@ -1,12 +1,12 @@
 -- Hem edges as two lists, starts and ends, and what the wires along them are given and give. Assumes nothing.
 use mathlib.Core.Path.{_≡_}
 use mathlib.Core.List.{List, [], _∷_, map}
-use Prim.Native.Nat.{ℕ, _*_, _≤_, _<_}
+use Prim.Native.Nat.{ℕ, _≤_, _<_}
 use lib.Dec.{eqb}
 use lib.ListN.{length, getD}
 use lib.Seq.{sets}
 use Rattle.lists.specs.Lists.{count, joined}
-use Rattle.mesh.specs.Limits.{entryLimit, cornerLimit}
+use Rattle.mesh.specs.Limits.{cornerLimit}
 use Rattle.edges.specs.Edges.{Edge}
 
 -- the edges from each start to its end
@@ -22,16 +22,9 @@ pub record EdgeLists (starts ends : List ℕ) (n : ℕ) : Type 0 where
   pub from : (k : ℕ) → k < length starts → getD starts k 0 < n
   pub into : (k : ℕ) → k < length starts → getD ends k 0 < n
 
--- how many edges start at v, and how many end there
+-- how many edges start at v
 abbrev pub outs : ℕ → List Edge → ℕ
 outs v h = count (λ e. eqb v (e .0)) h
-
-abbrev pub ins : ℕ → List Edge → ℕ
-ins v h = count (λ e. eqb v (e .1)) h
-
--- they go out of each position as often as they come in
-abbrev pub Balanced : List Edge → Type 0
-Balanced h = (v : ℕ) → outs v h ≡ ins v h
 
 -- wires as a flat list and a list of lengths, with how many numbers and how many wires there are
 pub record Written (ws : List (List ℕ)) (flat lengths flat′ lengths′ : List ℕ) (numbers wires : ℕ) : Type 0 where

@@ -4,8 +4,7 @@ use mathlib.Core.Path.{_≡_}
 use mathlib.Core.List.{List, [], _∷_}
 use Prim.Native.Nat.{ℕ, suc, _≤_, _<_}
 use lib.Dec.{leb}
-use lib.ListN.{length, getD, set, replicate}
-use lib.Seq.{sets}
+use lib.ListN.{length, getD, replicate}
 use Rattle.lists.specs.Lists.{keepIf}
 use Rattle.mesh.specs.Limits.{largest, entryLimit, cornerLimit}
 use Rattle.edges.specs.Edges.{Edge}

@@ -1,7 +1,7 @@
 // Wires are traced through two tables: for each position the first of its hem edges that is left, and for each hem edge the next
-// with the same start. Taking an edge puts its next in its place. How the tables are filled makes the kind of wires: crates ported and
-// house do so. A wire begins at the first position with an edge left, and the positions before it are never looked at again; so the
-// work is one step for each position and each hem edge.
+// with the same start. Taking an edge puts its next in its place. Crate ported fills the tables. A wire begins at the first position with
+// an edge left, and the positions before it are never looked at again; so the work is one step for each position and each hem edge.
+// House wires go by uses and not by position (crate trailing); they share what is answered.
 ghost use mathlib.Core.Path.{_≡_};
 ghost use Rattle.tracing.specs.Tables.{left};
 ghost use Rattle.tracing.specs.Tracing.{trace, traces, Underway, StepTaken, Begun, Ended, Unwritten, OneMore, AllLeft};

@@ -43,10 +43,10 @@ module _ (cs s : List ℕ) (n : ℕ) (e : Edged cs s n) where
       (ltb-true (useAt es u .0) n (and-left (ltb (useAt es u .0) n) (ltb (useAt es u .1) n) i))
       (ltb-true (useAt es u .1) n (and-right (ltb (useAt es u .0) n) (ltb (useAt es u .1) n) i))
 
-  lower-column : Column (length es) (digit n (lowers es))
+  pub lower-column : Column (length es) (digit n (lowers es))
   lower-column = record { long = length-map es lowerOf; below = λ u h. rw (lower-at es u) (use-below u h .0) }
 
-  higher-column : Column (length es) (digit n (highers es))
+  pub higher-column : Column (length es) (digit n (highers es))
   higher-column = record { long = length-map es higherOf; below = λ u h. rw (higher-at es u) (use-below u h .1) }
 
   -- ---- from the columns to the order
@@ -102,7 +102,7 @@ module _ (cs s : List ℕ) (n : ℕ) (e : Edged cs s n) where
         ∙ ap (λ (k : ℕ). passed (digit n l ∷ digit n h ∷ []) (span 0 k)) lower-long
         ∙ ap₂ (λ (a b : List ℕ). passed (digit n a ∷ digit n b ∷ []) (span 0 (length es))) (g .columns .lower) (g .columns .higher)
 
-    order-row : Row (length es) order
+    pub order-row : Row (length es) order
     order-row =
         subst (Row (length es)) (sym uses-order)
         (passed-row (length es) (digit n (lowers es) ∷ digit n (highers es) ∷ []) (span 0 (length es)) (lower-column, (higher-column, tt)) (row-span (length es)))

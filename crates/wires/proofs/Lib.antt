@@ -1,1 +1,2 @@
+pub mod OnlyEdge
 pub mod SingleStarts

@@ -1,5 +1,6 @@
 -- Where no two hem edges start at one position, the map of the ported wires takes up every hem edge and none takes another's place: at
--- each start it has the one edge that the list has. So both kinds of wires are one. Assumes nothing.
+-- each start it has the one edge that the list has, which is what turning through the cloth leads to. So both kinds of wires are one.
+-- Assumes nothing.
 use mathlib.Core.Path.{_≡_, refl, sym, ap, _∙_}
 use mathlib.Core.Bool.{Bool, true, false, cond}
 use mathlib.Core.List.{List, [], _∷_, _++_, append-nil, append-assoc}
@@ -10,15 +11,18 @@ use lib.ListN.{length, length-append}
 use borrow.Author.Tests.{eqb-true, eq-eqb}
 use Rattle.lists.specs.Lists.{bump, keepIf}
 use Rattle.lists.proofs.Counting.{bump-plus}
-use Rattle.edges.specs.Edges.{Edge, meshEdges, hems}
+use Rattle.edges.specs.Edges.{Edge, meshEdges, verdict, hems}
+use Rattle.edges.proofs.HemUses.{not-irregular, not-regular}
 use Rattle.tracing.specs.Hems.{outs}
-use Rattle.house.specs.House.{houseWires}
-use Rattle.ported.specs.Ported.{put, fill, portedWires}
 use Rattle.tracing.specs.Tracing.{traces}
-use Rattle.wires.specs.Promises.{OneEach, PortedIsHouse}
-use Rattle.tracing.proofs.Balance.{hems-balanced}
 use Rattle.tracing.proofs.Twins.{from, Twin, outs-from, twin-traces}
-use Rattle.house.proofs.Rising.{hems-rise, house-traced}
+use Rattle.turning.specs.Turning.{onward, houseWires}
+use Rattle.turning.specs.Promise.{Fit}
+use Rattle.turning.proofs.Onward.{onward-round, onward-start}
+use Rattle.turning.proofs.Promised.{fit-irregular, fit-regular}
+use Rattle.ported.specs.Ported.{put, fill, portedWires}
+use Rattle.wires.specs.Promises.{OneEach, PortedIsHouse}
+use Rattle.wires.proofs.OnlyEdge.{traces-trails}
 
 none-from : (s : ℕ) (t : List Edge) → outs s t ≡ 0 → from s t ≡ []
 none-from s t o = go (from s t) (sym (outs-from s t) ∙ o)
@@ -93,7 +97,15 @@ ported-traced h u =
     let t : Twin (fill [] h) h = record { at = fill-from [] h (λ s. let one : outs s h ≤ 1 = u s in omega arith) } in
     twin-traces (length h) (suc (length h)) t
 
+-- and so are the house wires
+house-traced : (fs : List (List ℕ)) → Fit (verdict (meshEdges fs)) → OneEach (hems (meshEdges fs)) → traces (hems (meshEdges fs)) ≡ houseWires fs
+unfolding traces houseWires
+house-traced fs v u =
+    let h : List Edge = hems (meshEdges fs) in
+    let i : _ = fit-irregular (verdict (meshEdges fs)) v in
+    let ni : _ = not-irregular (meshEdges fs) i in
+    let nr : _ = not-regular (meshEdges fs) i (fit-regular (verdict (meshEdges fs)) v) in
+    traces-trails (onward fs) (length h) (suc (length h)) (length h) h (omega arith) (omega arith) (onward-round fs ni nr) (onward-start fs ni nr) u
+
 pub ported-is-house : PortedIsHouse
-ported-is-house fs n r u =
-    let h = hems (meshEdges fs) in
-    ported-traced h u ∙ sym (house-traced h (hems-rise (meshEdges fs)) (hems-balanced fs n r))
+ported-is-house fs v u = ported-traced (hems (meshEdges fs)) u ∙ house-traced fs v u

@@ -38,6 +38,9 @@ fn cases(call: Call, corners: usize, is_short: bool) -> Vec<Case> {
         return shapes::of_triangles(corners / 12);
     }
     let mut cases = shapes::all(corners);
+    if [Call::HemEdges, Call::ExtractBoundaries, Call::HouseWires].contains(&call) {
+        cases.push(shapes::touching_holes(corners));
+    }
     if call == Call::PutTogetherSameAttrs {
         cases.push(shapes::spread_points(corners));
         if !is_short {

@@ -59,6 +59,16 @@ fn tube(corners: usize) -> Mesh {
     mesh((0..around * (along + 1)).map(place).collect(), faces)
 }
 
+/// A tube of quadrangles, 16 around, of which two rows in three have every second one left out, by turns: rings of holes, each touching the next.
+pub fn touching_holes(corners: usize) -> Case {
+    let (around, along) = (16, 3 * corners / 128);
+    let at = |x: usize, y: usize| (y * around + x % around) as u32;
+    let cells = (0..along).flat_map(|y| (0..around).map(move |x| (x, y))).filter(|(x, y)| y % 3 == 2 || (x + y % 3) % 2 == 1);
+    let faces = cells.map(|(x, y)| vec![at(x, y), at(x + 1, y), at(x + 1, y + 1), at(x, y + 1)]).collect();
+    let place = |i: usize| circle(i % around, around, (i / around) as f64 / along as f64);
+    Case { name: "touching holes", mesh: mesh((0..around * (along + 1)).map(place).collect(), faces), tolerance: 1.0 / 1024.0 }
+}
+
 /// Rings of quadrangles, 16 around, between two poles of triangles: closed.
 fn ball(corners: usize) -> Mesh {
     let (around, rings) = (16, corners / 64 - 1);

@@ -12,8 +12,17 @@ pub fn random(random: &Random) -> Vec<u8> {
         1..=8 => return faults::random(random),
         _ => {}
     }
-    let mesh = meshes::random(random).mesh;
-    let mut records = records(random, &mesh);
+    of_mesh(random, &meshes::random(random).mesh)
+}
+
+/// A random file of a mesh whose hems touch.
+pub fn with_touching_hems(random: &Random) -> Vec<u8> {
+    of_mesh(random, &meshes::with_touching_hems(random).mesh)
+}
+
+/// A file made from a mesh, and then perhaps spoilt.
+fn of_mesh(random: &Random, mesh: &Mesh) -> Vec<u8> {
+    let mut records = records(random, mesh);
     if random.once_in(12) {
         over_a_limit(random, &mut records);
     }

@@ -1,7 +1,7 @@
 //! Meshes: every small one, and random ones of every size up to the limits.
 
 use crate::random::Random;
-use crate::{coordinates, damage, shapes};
+use crate::{coordinates, damage, pinched, shapes};
 use judge::mesh::Corner;
 use judge::reading::numbers::mesh_number;
 use judge::{Mesh, MISSING};
@@ -14,7 +14,8 @@ pub struct Case {
 }
 
 /// The shapes that are gone through one by one: how many corners a face has, how many positions there are, how many faces.
-const EXHAUSTIVE: [(usize, usize, usize); 7] = [(3, 4, 0), (3, 4, 1), (3, 4, 2), (3, 4, 3), (4, 4, 1), (5, 5, 1), (6, 6, 1)];
+const EXHAUSTIVE: [(usize, usize, usize); 8] =
+    [(3, 4, 0), (3, 4, 1), (3, 4, 2), (3, 4, 3), (4, 4, 1), (5, 5, 1), (6, 6, 1), (3, 5, 2)];
 
 fn variants((corners, positions, faces): (usize, usize, usize)) -> u64 {
     (positions as u64).pow((corners * faces) as u32)
@@ -25,8 +26,8 @@ pub fn exhaustive_count() -> u64 {
     EXHAUSTIVE.iter().map(|shape| variants(*shape)).sum()
 }
 
-/// Up to three triangles over four positions, and single faces of 4 to 6 corners over that many positions: the one with this index. A
-/// corner's texture point is its place in its face; its normal goes by the seed.
+/// Up to three triangles over four positions, single faces of 4 to 6 corners over that many positions, and two triangles over five positions: the
+/// one with this index. A corner's texture point is its place in its face; its normal goes by the seed.
 pub fn exhaustive(index: u64, random: &Random) -> Case {
     let (mut shape, mut left) = (EXHAUSTIVE[0], index);
     for next in EXHAUSTIVE {
@@ -57,6 +58,19 @@ pub fn random(random: &Random) -> Case {
     let tolerance = coordinates::tolerance(random);
     let corners = corners(random);
     let (faces, positions) = shapes::faces(random, corners);
+    furnished(random, faces, positions, tolerance, 4)
+}
+
+/// A random mesh whose hems touch: nearly all are Oriented or Closed, and few are damaged.
+pub fn with_touching_hems(random: &Random) -> Case {
+    let tolerance = coordinates::tolerance(random);
+    let corners = corners(random).max(6);
+    let (faces, positions) = pinched::faces(random, corners);
+    furnished(random, faces, positions, tolerance, 16)
+}
+
+/// Faces by positions, with coordinates, texture points and normals; one mesh in so many is damaged.
+fn furnished(random: &Random, faces: Vec<Vec<u32>>, positions: usize, tolerance: f64, damaged: usize) -> Case {
     let mut mesh = Mesh {
         positions: coordinates::list(random, with_unused(random, positions), 3, tolerance * random_half(random)),
         ..Mesh::default()
@@ -79,7 +93,7 @@ pub fn random(random: &Random) -> Case {
         .collect();
     faces.sort_by_key(|face| face.len().min(5));
     let mut mesh = mesh.with_faces(&faces);
-    if random.once_in(4) {
+    if random.once_in(damaged) {
         damage::mesh(random, &mut mesh);
     }
     Case { mesh, tolerance }

@@ -113,11 +113,16 @@ impl Subject {
     /// The mesh, or the file, with this index.
     pub fn of(random: &Random, is_file: bool, index: u64) -> Subject {
         if is_file {
-            let question = Question { file: files::random(random), ..Question::default() };
+            let file = if random.once_in(5) { files::with_touching_hems(random) } else { files::random(random) };
+            let question = Question { file, ..Question::default() };
             return Subject { question, any_order: Question::default(), surface: Question::default(), is_small: false };
         }
         let is_small = index < meshes::exhaustive_count();
-        let Case { mut mesh, tolerance } = if is_small { meshes::exhaustive(index, random) } else { meshes::random(random) };
+        let Case { mut mesh, tolerance } = match is_small {
+            true => meshes::exhaustive(index, random),
+            false if random.once_in(3) => meshes::with_touching_hems(random),
+            false => meshes::random(random),
+        };
         if !is_small && random.once_in(8) {
             damage::coordinates(random, &mut mesh);
         }

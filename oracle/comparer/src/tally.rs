@@ -91,11 +91,11 @@ fn shows(call: Call) -> Option<&'static str> {
         Call::RemoveDegenerateFaces => Some("removed or split"),
         Call::Push => Some("grouped anew"),
         Call::PutTogetherSameAttrs => Some("merged"),
-        Call::ExtractBoundaries | Call::HouseWires => Some("several wires"),
+        Call::ExtractBoundaries => Some("several wires"),
         Call::Components => Some("several panels"),
         Call::WritePanel => Some("read back, and written again"),
         Call::CleanPanel => Some("another file than it was"),
-        Call::LoopSubdivision => Some("with a position that has four hem edges or more"),
+        Call::HouseWires | Call::LoopSubdivision => Some("with a position that has four hem edges or more"),
         _ => None,
     }
 }
@@ -105,10 +105,10 @@ fn is_telling(call: Call, question: &Question, compared: &Compared) -> bool {
         Call::RemoveUnusedAttrs | Call::RemoveDegenerateFaces | Call::PutTogetherSameAttrs | Call::Push => {
             matches!(&compared.right.lists[0], Numbers::Words(corners) if *corners != question.mesh.corners)
         }
-        Call::ExtractBoundaries | Call::HouseWires | Call::Components => count(compared, 1) > 1,
+        Call::ExtractBoundaries | Call::Components => count(compared, 1) > 1,
         Call::WritePanel => compared.with_way_back,
         Call::CleanPanel => matches!(&compared.right.lists[0], Numbers::Bytes(file) if *file != question.file),
-        Call::LoopSubdivision => is_pinched(&question.mesh),
+        Call::HouseWires | Call::LoopSubdivision => is_pinched(&question.mesh),
         _ => false,
     }
 }

@@ -101,6 +101,8 @@ fn differences_become_small() {
     assert_eq!(both_rings.mesh.sizes, [5]);
     let from_0_again = smallest(Call::RemoveDegenerateFaces, "faces behind the triangles numbered from 0 again");
     assert_eq!(from_0_again.mesh.sizes, [3, 4]);
+    let touching = smallest(Call::HouseWires, "the smallest end, as document 01 had it");
+    assert!(touching.mesh.corner_count() <= 6, "{:?}", touching);
     let after_the_end = smallest(Call::ReadPanel, "an index asked before bytes after the end");
     assert!(after_the_end.file.len() <= 4 + 1 + 36 + 4 + 1);
     let wraps = smallest(Call::MeshNumber, "sizes added in 32 bits");

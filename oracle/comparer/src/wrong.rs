@@ -1,7 +1,7 @@
 //! Wrong answers that look right: what a product with one misreading of document 01 would say.
 
 use crate::wrong_merging::{merging, Misread};
-use crate::{wrong_broken, wrong_files, wrong_removal, wrong_smoothing};
+use crate::{wrong_broken, wrong_files, wrong_house, wrong_removal, wrong_smoothing};
 use judge::mesh::{Corner, Merged, Pushed, Verdict};
 use judge::reading::merging::put_together_same_attrs;
 use judge::reading::{cleaning, edges, numbers, panel_file, panels};
@@ -48,11 +48,7 @@ fn of_its_own(call: Call) -> &'static [(&'static str, Wrong)] {
             ("edges used exactly once", |q, right| accepted(right, || Answer::hem_edges(&hems_used_once(&q.mesh)))),
         ],
         Call::ExtractBoundaries => &[("an earlier edge not replaced", |q, right| accepted(right, || earlier_kept(&q.mesh)))],
-        Call::HouseWires => &[
-            ("the largest end taken", |q, right| accepted(right, || largest_end(&q.mesh))),
-            ("ported wires given", |q, right| accepted(right, || Answer::rows(&edges::ported_wires(&q.mesh)))),
-            ("room asked after the verdict", verdict_before_room),
-        ],
+        Call::HouseWires => wrong_house::HOUSE,
         Call::Components => &[
             ("normals looked at without the setting", |q, right| {
                 accepted(right, || Answer::rows(&panels::components(&q.mesh, true)))
@@ -66,7 +62,7 @@ fn of_its_own(call: Call) -> &'static [(&'static str, Wrong)] {
         }
         Call::WritePanel => wrong_files::WRITER,
         Call::CleanPanel => wrong_files::CLEANER,
-        Call::Sheet => &[("panels by normals", panels_by_normals)],
+        Call::Sheet => &[("panels by normals", panels_by_normals), ("hems by the smallest end", hems_by_the_smallest_end)],
         Call::LoopSubdivision => wrong_smoothing::SMOOTHING,
         Call::Push => &[
             ("quadrangles among the larger faces", |q, right| accepted(right, || pushed_by(q, |n| (n >= 3).then(|| n.min(4))))),
@@ -250,27 +246,6 @@ fn earlier_kept(mesh: &Mesh) -> Answer {
     Answer::rows(&wires)
 }
 
-fn largest_end(mesh: &Mesh) -> Answer {
-    let mut unused: BTreeSet<[u32; 2]> = edges::hem_edges(mesh).into_iter().collect();
-    let mut wires = vec![];
-    while let Some([first, _]) = unused.iter().next().copied() {
-        let (mut wire, mut at) = (vec![], first);
-        while wire.is_empty() || at != first {
-            let edge = *unused.range(..[at, MISSING]).next_back().unwrap();
-            unused.remove(&edge);
-            wire.push(at);
-            at = edge[1];
-        }
-        wires.push(wire);
-    }
-    Answer::rows(&wires)
-}
-
-fn verdict_before_room(question: &Question, right: &Answer) -> Option<Answer> {
-    let is_weak = || [Verdict::Irregular, Verdict::Regular].contains(&edges::verdict(&question.mesh));
-    (right.number == 9 && is_weak()).then(|| Answer::refused(Call::HouseWires, 10))
-}
-
 fn missing_normal_is_0(question: &Question, right: &Answer) -> Option<Answer> {
     let mut mesh = question.mesh.clone();
     (2..mesh.corners.len()).step_by(3).filter(|i| question.mesh.corners[*i] == MISSING).for_each(|i| mesh.corners[i] = 0);
@@ -341,13 +316,26 @@ fn no_negative_zero(_: &Question, right: &Answer) -> Option<Answer> {
     accepted(right, || answer.clone())
 }
 
+fn text(right: &Answer) -> String {
+    match &right.lists[0] {
+        Numbers::Bytes(bytes) => String::from_utf8_lossy(bytes).into_owned(),
+        _ => String::new(),
+    }
+}
+
+/// The lines of the hems by the rule that request 5 took back.
+fn hems_by_the_smallest_end(question: &Question, right: &Answer) -> Option<Answer> {
+    let text = text(right);
+    let at = text.find("hem ").filter(|_| right.number == 0)?;
+    let wires = wrong_house::smallest_end(&cleaning::cleaned(panel_file::read(&question.file).ok()?));
+    let line = |wire: &Vec<u32>| format!("hem{}\n", wire.iter().map(|position| format!(" {position}")).collect::<String>());
+    Some(Answer::sheet(text[..at].to_string() + &wires.iter().map(line).collect::<String>()))
+}
+
 /// The line of the panels, by the whole mesh with its normals.
 fn panels_by_normals(question: &Question, right: &Answer) -> Option<Answer> {
     let mesh = panel_file::read(&question.file).ok()?;
-    let text = match &right.lists[0] {
-        Numbers::Bytes(bytes) => String::from_utf8_lossy(bytes).into_owned(),
-        _ => String::new(),
-    };
+    let text = text(right);
     let unfolded = cleaning::remove_degenerate_faces(&mesh);
     let mesh = Mesh { corners: unfolded.corners, sizes: unfolded.sizes, ..mesh };
     let count = |use_normal: bool| format!("panels {}\n", panels::components(&mesh, use_normal).len());

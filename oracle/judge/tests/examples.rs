@@ -156,7 +156,7 @@ fn of_equal_distances_the_first_in_walk_order() {
 fn example_12_ported_wires() {
     let mesh = by_positions(&[&[0, 1, 4], &[1, 2, 3]]);
     assert_eq!(ask(Call::ExtractBoundaries, &mesh), "[Words([0, 1, 4, 2, 3, 1]), Words([3, 3])] [Is(6), Is(2)]");
-    assert_eq!(ask(Call::HouseWires, &mesh), "[Words([0, 1, 2, 3, 1, 4]), Words([6])] [Is(6), Is(1)]");
+    assert_eq!(ask(Call::HouseWires, &mesh), "[Words([0, 1, 4, 1, 2, 3]), Words([3, 3])] [Is(6), Is(2)]");
 }
 
 #[test]

@@ -10,6 +10,7 @@ mod panel_files;
 mod record;
 mod smoothing;
 mod subjects;
+mod touching;
 
 use comparer::check::{rust_differs, rust_knows};
 use comparer::meshes::Case;
@@ -129,6 +130,14 @@ impl Lister {
         self.short_rooms_of(Call::RemoveDegenerateFaces, &mut question);
     }
 
+    /// A mesh, put to both calls that follow its hems, with exact rooms.
+    fn wires(&mut self, mesh: &Mesh) {
+        self.list.mesh(mesh);
+        for call in [Call::ExtractBoundaries, Call::HouseWires] {
+            self.case(call, &Question { mesh: mesh.clone(), rooms: stated_rooms(call, mesh), ..Question::default() });
+        }
+    }
+
     fn merging(&mut self, mesh: &Mesh, tolerance: f64) {
         self.list.mesh(mesh);
         let rooms = vec![mesh.corners.len()];
@@ -187,6 +196,7 @@ fn list() -> Lister {
     let examples = subjects::examples();
     [&examples[10], &examples[11]].iter().for_each(|mesh| lister.short_rooms(mesh, 0.5));
     lister.short_rooms_of_removal(&examples[17]);
+    touching::meshes().iter().for_each(|mesh| lister.wires(mesh));
     subjects::that_merge().iter().for_each(|case| lister.merging(&case.mesh, case.tolerance));
     for asked in [merging::tolerances(), merging::coordinates(), merging::quotients(), merging::merges()] {
         asked.iter().for_each(|(mesh, tolerance)| lister.merging(mesh, *tolerance));

@@ -362,7 +362,8 @@ impl<'a> Mesh<'a> {
         rows!(self, bh_extract_boundaries, 2 * self.corner_count())
     }
 
-    /// The house wires: positions. Only where the verdict is Oriented or Closed.
+    /// The house wires: positions. Each turns through the cloth, from a face to the one across its edge, until it comes to the next hem edge; so
+    /// pieces that touch at a point have no wire in common, and two openings of one piece that touch at one point are one wire. Only where the verdict is Oriented or Closed.
     pub fn house_wires(self) -> Result<Rows, Refusal> {
         rows!(self, bh_house_wires, self.corner_count())
     }

@@ -1,34 +1,22 @@
--- `edges::hem` meets its contract: what is gathered can be scanned, the first scan comes to the verdict and the second to the hem edges.
--- Assumes nothing.
-use mathlib.Core.Path.{_∙_}
+-- `edges::hem` meets its contract: what is gathered can be scanned, and the scan comes to the hem edges. Assumes nothing.
 use Rattle.uses.proofs.Gathering.{uses-ready, uses-room}
-use Rattle.edges.proofs.Composed.{uses-verdict, uses-hemmed}
+use Rattle.edges.proofs.Composed.{uses-hemmed}
 use native.Mathlib.Omega.{arith}
 use borrow.Author.Needs.{needs}
 use Rattle.edges.proofs.hem.Statement.{statement}
 use Rattle.edges.proofs.hem.Tie as tie
 
-gather-requires : tie.Need-gather-requires
-gather-requires c κs = search needs
-
-tally-uses-requires : tie.Need-tally-uses-requires
-tally-uses-requires c κs =
-    let far = c .before .before .before .before .before .before .before .before .before .before .before .before .before .before .before .before .before .before in
-    let entry = far .before .before .before .before .before .before .before .before .before .before .before in
-    let gather = c .before .before .before .before .before .before .before .before .before .before .before .before .before .before .gather in
-    uses-ready (entry .args .corners .now) (entry .args .sizes .now) _ (entry .pre .edged) _ _ _ _ (gather .ensures)
-
-name-of-requires : tie.Need-name-of-requires
-name-of-requires c κs = search needs
+judge-requires : tie.Need-judge-requires
+judge-requires c κs = search needs
 
 put-hems-requires : tie.Need-put-hems-requires
 put-hems-requires c κs =
-    let far = c .before .before .before .before .before .before .before .before .before .before .before .before .before .before .before .before .before .before in
-    let entry = far .before .before .before .before .before .before .before .before .before .before .before .before .before .before .before .before .before .before .before in
-    let gather = far .before .before .before .before .gather in
-    let long = uses-room (entry .args .corners .now) (entry .args .sizes .now) _ (entry .pre .edged) _ _ _ _ (gather .ensures) in
+    let far = c .before .before .before .before .before .before .before .before .before .before .before .before .before .before .before .before in
+    let entry = far .before .before .before .before .before .before .before .before .before .before .before .before .before .before .before in
+    let judge = c .before .before .before .before .before .before .before .before .before .before .before .before .before .before .before .before .judge in
+    let long = uses-room (entry .args .corners .now) (entry .args .sizes .now) _ (entry .pre .edged) _ _ _ _ (judge .ensures .gathered) in
     record {
-      ready = uses-ready (entry .args .corners .now) (entry .args .sizes .now) _ (entry .pre .edged) _ _ _ _ (gather .ensures);
+      ready = uses-ready (entry .args .corners .now) (entry .args .sizes .now) _ (entry .pre .edged) _ _ _ _ (judge .ensures .gathered);
       room = record { for-starts = omega (arith, long, entry .pre .room .for-starts); for-ends = omega (arith, long, entry .pre .room .for-ends) };
     }
 
@@ -56,23 +44,17 @@ same-length-7 c = search needs
 returns : tie.Need-returns
 returns c =
     let far = c .before .before .before .before .before .before .before .before .before .before .before .before .before .before .before .before .before .before in
-    let back = far .before .before .before .before .before .before .before .before .before .before .before .before in
-    let entry = back .before .before .before .before .before .before .before .before .before .before .before .before in
-    let gather = far .before .before .before .before .before .before .before .before .before .gather in
-    let tally-uses = c .before .before .before .before .before .before .before .before .before .before .before .before .tally-uses in
-    let name-of = c .before .before .before .before .before .before .before .before .before .before .before .name-of in
+    let entry = far .before .before .before .before .before .before .before .before .before .before .before .before .before .before .before .before .before .before in
+    let judge = c .before .before .before .before .before .before .before .before .before .before .before .before .before .before .before .before .before .before .before .before .before .judge in
     let put-hems = c .before .before .before .before .put-hems in
-    uses-hemmed (entry .args .corners .now) (entry .args .sizes .now) _ (entry .pre .edged) _ _ _ _ (gather .ensures) _ _ _ _ _ _
-    (name-of .ensures ∙ uses-verdict (entry .args .corners .now) (entry .args .sizes .now) _ (entry .pre .edged) _ _ _ _ (gather .ensures) _ (tally-uses .ensures))
-    (put-hems .ensures)
+    uses-hemmed (entry .args .corners .now) (entry .args .sizes .now) _ (entry .pre .edged) _ _ _ _ (judge .ensures .gathered) _ _ _ _ _ _
+    (judge .ensures .verdict-is) (put-hems .ensures)
 
 pub hem-spec : {M : Type 1} → statement M
 hem-spec =
     tie.close
     (tie.spec
-    gather-requires
-    tally-uses-requires
-    name-of-requires
+    judge-requires
     put-hems-requires
     same-length
     same-length-2

@@ -39,7 +39,13 @@ returns c =
     let far = c .before .before .before .before .before .before .before .before .before .before .before .before .before .before .before .before .before .before in
     let entry = far .before .before .before .before .before .before .before .before .before .before .before in
     let gather = c .before .before .before .before .before .before .before .before .before .before .before .before .before .before .before .before .gather in
-    c .name-of .ensures ∙ uses-verdict (entry .args .corners .now) (entry .args .sizes .now) _ (entry .pre .edged) _ _ _ _ (gather .ensures) _ (c .before .tally-uses .ensures)
+    let tally = c .before .tally-uses in
+    record {
+      gathered = gather .ensures;
+      verdict-is =
+          c .name-of .ensures
+          ∙ uses-verdict (entry .args .corners .now) (entry .args .sizes .now) _ (entry .pre .edged) _ _ _ _ (gather .ensures) _ (tally .ensures);
+    }
 
 pub judge-spec : {M : Type 1} → statement M
 judge-spec =

@@ -62,7 +62,7 @@ judge-requires c κs =
     record { edged = entry .pre; rooms = record { lower = l; higher = l; down = l; earlier = l; later = l } }
 
 returns : tie.Need-returns
-returns c = c .before .before .before .before .before .judge .ensures
+returns c = c .before .before .before .before .before .judge .ensures .verdict-is
 
 pub verdict-of-spec : {M : Type 1} → statement M
 verdict-of-spec =

@@ -1,81 +1,105 @@
--- The first parts of the two lists are the starts and the ends of the hem edges; where the verdict is Oriented or Closed these are
--- balanced, which is what `house_from` asks for. Assumes nothing.
-use mathlib.Core.Path.{refl}
+-- `house::house_of` meets its contract: it is `house_in` with the first places of six rows of 4,096, one for each corner. Assumes nothing.
+use Rattle.lists.proofs.Buckets.{length-front}
+use mathlib.Core.Path.{sym}
+use Prim.Native.Nat.{ℕ, _/_, _≤_}
+use lib.ListN.{length}
+use Rattle.mesh.specs.Limits.{width, cornerLimit}
+use native.Mathlib.Omega.{arith}
 use borrow.Author.Needs.{needs}
-use Rattle.tracing.proofs.HemLists.{starts-fit, starts-counted, starts-are, ends-fit, ends-counted, ends-are}
-use Rattle.house.proofs.Given.{foundable, house-done}
 use Rattle.house.proofs.house_of.Statement.{statement}
 use Rattle.house.proofs.house_of.Tie as tie
 
-slice-aggregate-hems-of : tie.Need-slice-aggregate-hems-of
-slice-aggregate-hems-of c = search needs
+array-borrow-prefix-lowers : tie.Need-array-borrow-prefix-lowers
+array-borrow-prefix-lowers c = search needs
 
-slice-aggregate-hems-of-2 : tie.Need-slice-aggregate-hems-of-2
-slice-aggregate-hems-of-2 c = search needs
+slice-aggregate-house-in : tie.Need-slice-aggregate-house-in
+slice-aggregate-house-in c =
+    let entry = c .before .before .before .before .before in
+    let h : length (entry .args .corners .now) / width ≤ cornerLimit = omega (arith, entry .pre .edged .sound .fits) in
+    sym (length-front 0 (length (entry .args .corners .now) / width) cornerLimit h)
 
-hems-of-requires : tie.Need-hems-of-requires
-hems-of-requires c κs = search needs
+array-borrow-prefix-highers : tie.Need-array-borrow-prefix-highers
+array-borrow-prefix-highers c = search needs
 
-array-share-prefix-starts : tie.Need-array-share-prefix-starts
-array-share-prefix-starts c =
-    let pre = c .before .before .before .before .before .before .before .before .before .pre in
-    let hems-of = c .before .before .hems-of in
-    starts-fit (pre .edged) refl refl (hems-of .ensures)
+slice-aggregate-house-in-2 : tie.Need-slice-aggregate-house-in-2
+slice-aggregate-house-in-2 c =
+    let entry = c .before .before .before .before .before .before in
+    let h : length (entry .args .corners .now) / width ≤ cornerLimit = omega (arith, entry .pre .edged .sound .fits) in
+    sym (length-front 0 (length (entry .args .corners .now) / width) cornerLimit h)
 
-slice-aggregate-house-from : tie.Need-slice-aggregate-house-from
-slice-aggregate-house-from c =
-    let pre = c .before .before .before .before .before .before .before .before .before .before .pre in
-    let hems-of = c .before .before .before .hems-of in
-    starts-counted (pre .edged) refl refl (hems-of .ensures)
+array-borrow-prefix-downs : tie.Need-array-borrow-prefix-downs
+array-borrow-prefix-downs c = search needs
 
-array-share-prefix-ends : tie.Need-array-share-prefix-ends
-array-share-prefix-ends c =
-    let pre = c .before .before .before .before .before .before .before .before .before .before .pre in
-    let hems-of = c .before .before .before .hems-of in
-    ends-fit (pre .edged) refl refl (hems-of .ensures)
+slice-aggregate-house-in-3 : tie.Need-slice-aggregate-house-in-3
+slice-aggregate-house-in-3 c =
+    let entry = c .before .before .before .before .before .before .before in
+    let h : length (entry .args .corners .now) / width ≤ cornerLimit = omega (arith, entry .pre .edged .sound .fits) in
+    sym (length-front 0 (length (entry .args .corners .now) / width) cornerLimit h)
 
-slice-aggregate-house-from-2 : tie.Need-slice-aggregate-house-from-2
-slice-aggregate-house-from-2 c =
-    let pre = c .before .before .before .before .before .before .before .before .before .before .before .pre in
-    let hems-of = c .before .before .before .before .hems-of in
-    ends-counted (pre .edged) refl refl (hems-of .ensures)
+array-borrow-prefix-first : tie.Need-array-borrow-prefix-first
+array-borrow-prefix-first c = search needs
 
-house-from-requires : tie.Need-house-from-requires
-house-from-requires c κs =
-    let pre = c .before .before .before .before .before .before .before .before .before .before .before .before .before .pre in
-    let hems-of = c .before .before .before .before .before .before .hems-of in
-    foundable pre (hems-of .ensures .verdict)
-    (starts-are (pre .edged) refl refl (hems-of .ensures))
-    (ends-are (pre .edged) refl refl (hems-of .ensures))
+slice-aggregate-house-in-4 : tie.Need-slice-aggregate-house-in-4
+slice-aggregate-house-in-4 c =
+    let entry = c .before .before .before .before .before .before .before .before in
+    let h : length (entry .args .corners .now) / width ≤ cornerLimit = omega (arith, entry .pre .edged .sound .fits) in
+    sym (length-front 0 (length (entry .args .corners .now) / width) cornerLimit h)
+
+array-borrow-prefix-order : tie.Need-array-borrow-prefix-order
+array-borrow-prefix-order c = search needs
+
+slice-aggregate-house-in-5 : tie.Need-slice-aggregate-house-in-5
+slice-aggregate-house-in-5 c =
+    let entry = c .before .before .before .before .before .before .before .before .before in
+    let h : length (entry .args .corners .now) / width ≤ cornerLimit = omega (arith, entry .pre .edged .sound .fits) in
+    sym (length-front 0 (length (entry .args .corners .now) / width) cornerLimit h)
+
+array-borrow-prefix-twins : tie.Need-array-borrow-prefix-twins
+array-borrow-prefix-twins c = search needs
+
+slice-aggregate-house-in-6 : tie.Need-slice-aggregate-house-in-6
+slice-aggregate-house-in-6 c =
+    let entry = c .before .before .before .before .before .before .before .before .before .before in
+    let h : length (entry .args .corners .now) / width ≤ cornerLimit = omega (arith, entry .pre .edged .sound .fits) in
+    sym (length-front 0 (length (entry .args .corners .now) / width) cornerLimit h)
+
+house-in-requires : tie.Need-house-in-requires
+house-in-requires c κs =
+    let entry = c .before .before .before .before .before .before .before .before .before .before .before .before in
+    let h : length (entry .args .corners .now) / width ≤ cornerLimit = omega (arith, entry .pre .edged .sound .fits) in
+    let l = length-front {B = ℕ} 0 (length (entry .args .corners .now) / width) cornerLimit h in
+    record {
+      given = entry .pre;
+      rooms = record { lower = l; higher = l; down = l; earlier = l; later = l };
+      twin-room = l;
+    }
 
 same-length : tie.Need-same-length
-same-length c = search needs
+same-length c = c .before .before .before .flat .given
 
 same-length-2 : tie.Need-same-length-2
-same-length-2 c = search needs
+same-length-2 c = c .before .lengths .given
 
 returns : tie.Need-returns
-returns c =
-    let pre = c .before .before .before .before .before .before .before .before .before .before .before .before .before .before .before .before .before .before .pre in
-    let hems-of = c .before .before .before .before .before .before .before .before .before .before .before .hems-of in
-    let house-from = c .before .before .before .before .house-from in
-    house-done _ (hems-of .ensures .verdict)
-    (starts-are (pre .edged) refl refl (hems-of .ensures))
-    (ends-are (pre .edged) refl refl (hems-of .ensures))
-    (house-from .ensures)
+returns c = c .before .before .before .before .before .before .before .before .before .before .house-in .ensures
 
 pub house-of-spec : {M : Type 1} → statement M
 house-of-spec =
     tie.close
     (tie.spec
-    slice-aggregate-hems-of
-    slice-aggregate-hems-of-2
-    hems-of-requires
-    array-share-prefix-starts
-    slice-aggregate-house-from
-    array-share-prefix-ends
-    slice-aggregate-house-from-2
-    house-from-requires
+    array-borrow-prefix-lowers
+    slice-aggregate-house-in
+    array-borrow-prefix-highers
+    slice-aggregate-house-in-2
+    array-borrow-prefix-downs
+    slice-aggregate-house-in-3
+    array-borrow-prefix-first
+    slice-aggregate-house-in-4
+    array-borrow-prefix-order
+    slice-aggregate-house-in-5
+    array-borrow-prefix-twins
+    slice-aggregate-house-in-6
+    house-in-requires
     same-length
     same-length-2
     returns)

@@ -56,20 +56,20 @@ house-of-requires c κs =
     record { edged = edged m (sym (number .ensures) ∙ if1 .left); numbers = if2 .left; wires = if3 .left }
 
 same-length : tie.Need-same-length
-same-length c = search needs
+same-length c = c .before .before .before .before .flat .given
 
 same-length-2 : tie.Need-same-length-2
-same-length-2 c = search needs
+same-length-2 c = c .before .before .lengths .given
 
 returns-4 : tie.Need-returns-4
 unfolding faces
 returns-4 c =
-    let number = c .before .before .before .before .before .before .before .before .before .before .number in
-    let if1 = c .before .before .before .before .before .before .before .before .before .if1 in
-    let if2 = c .before .before .before .before .before .before .before .before .if2 in
-    let if3 = c .before .before .before .before .before .before .before .if3 in
-    let house-of = c .before .before .before .before .house-of in
-    renumbered (house-verdict _ _ _ (sym (number .ensures) ∙ if1 .left) (if2 .left) (if3 .left)) (house-of .ensures)
+    let number = c .before .before .before .before .before .before .before .before .before .before .before .number in
+    let if1 = c .before .before .before .before .before .before .before .before .before .before .if1 in
+    let if2 = c .before .before .before .before .before .before .before .before .before .if2 in
+    let if3 = c .before .before .before .before .before .before .before .before .if3 in
+    let house-of = c .before .before .before .before .before .house-of in
+    renumbered (house-verdict _ _ _ (sym (number .ensures) ∙ if1 .left) (if2 .left) (if3 .left)) (house-of .ensures .answered)
 
 pub house-wires-spec : {M : Type 1} → statement M
 house-wires-spec =

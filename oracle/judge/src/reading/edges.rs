@@ -1,7 +1,7 @@
-//! 'Edges, verdict and wires'.
+//! 'Edges, verdict and wires', but house wires, which are request 5's.
 
 use crate::mesh::{Mesh, Verdict};
-use std::collections::{BTreeMap, BTreeSet};
+use std::collections::BTreeMap;
 
 /// The uses of each edge, as (start, end), in face order; an edge is its lower and its higher position.
 fn uses(mesh: &Mesh) -> BTreeMap<[u32; 2], Vec<[u32; 2]>> {
@@ -46,27 +46,6 @@ pub fn ported_wires(mesh: &Mesh) -> Vec<Vec<u32>> {
         while let Some(position) = at.filter(|position| *position != start) {
             wire.push(position);
             at = next.remove(&position);
-        }
-        wires.push(wire);
-    }
-    wires
-}
-
-/// The house wires of a mesh that is Oriented or Closed.
-pub fn house_wires(mesh: &Mesh) -> Vec<Vec<u32>> {
-    let mut unused: BTreeSet<[u32; 2]> = hem_edges(mesh).into_iter().collect();
-    let mut wires = vec![];
-    while let Some([first, _]) = unused.iter().next().copied() {
-        let mut wire = vec![];
-        let mut at = first;
-        loop {
-            let edge = *unused.range([at, 0]..).next().filter(|edge| edge[0] == at).expect("a hem edge goes on from here");
-            unused.remove(&edge);
-            wire.push(at);
-            at = edge[1];
-            if at == first {
-                break;
-            }
         }
         wires.push(wire);
     }

@@ -4,6 +4,7 @@
 pub mod cleaning;
 pub mod door;
 pub mod edges;
+pub mod house;
 pub mod merging;
 pub mod numbers;
 pub mod panel_file;
@@ -33,7 +34,7 @@ pub fn answer(call: Call, question: &Question) -> Answer {
         Call::ShellCondition => Answer::verdict(edges::verdict(mesh)),
         Call::HemEdges => Answer::hem_edges(&edges::hem_edges(mesh)),
         Call::ExtractBoundaries => Answer::rows(&edges::ported_wires(mesh)),
-        Call::HouseWires => Answer::rows(&edges::house_wires(mesh)),
+        Call::HouseWires => Answer::rows(&house::house_wires(mesh)),
         Call::Components => Answer::rows(&panels::components(mesh, question.use_normal)),
         Call::ReadPanel => Answer::read(panel_file::read(file).unwrap()),
         Call::WritePanel => Answer::bytes(writing::write(mesh)),

@@ -1,6 +1,6 @@
 //! The sheet that `meshsheet` prints.
 
-use super::{cleaning, edges, panel_file, panels};
+use super::{cleaning, edges, house, panel_file, panels};
 use crate::mesh::{Mesh, Verdict};
 
 /// The most bytes of a file.
@@ -27,7 +27,7 @@ fn sheet_of(mesh: &Mesh) -> String {
     if [Verdict::Irregular, Verdict::Regular].contains(&verdict) {
         return sheet + "hems refused 10\n";
     }
-    for wire in edges::house_wires(mesh) {
+    for wire in house::house_wires(mesh) {
         let positions: String = wire.iter().map(|position| format!(" {position}")).collect();
         sheet += &format!("hem{positions}\n");
     }

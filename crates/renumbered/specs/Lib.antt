@@ -1,0 +1,3 @@
+pub mod Renumbered
+pub mod Points
+pub mod Compacted

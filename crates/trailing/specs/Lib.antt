@@ -1,0 +1,2 @@
+-- the wires that rows over places have, and what the functions rest on
+pub mod Trailing
