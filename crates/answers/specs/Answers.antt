@@ -10,8 +10,8 @@ use Rattle.mesh.specs.Mesh.{Mesh}
 use Rattle.mesh.specs.Table.{shapeNumber}
 use Rattle.mesh.specs.Face.{offsetOf, facePart}
 use Rattle.faces.specs.declared.Pushed.{Pushed}
-use Rattle.compaction.specs.declared.Compacted.{Compacted}
-use Rattle.folded.specs.declared.Removed.{Removed}
+use Rattle.unused.specs.declared.Compacted.{Compacted}
+use Rattle.removal.specs.declared.Removed.{Removed}
 use Rattle.together.specs.declared.Merged.{Merged}
 use Rattle.smoothing.specs.declared.Smoothed.{Smoothed}
 use Rattle.edges.specs.Edges.{Verdict}

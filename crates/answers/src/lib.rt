@@ -6,14 +6,14 @@ ghost use mathlib.Core.Path.{_≡_};
 ghost use Rattle.mesh.specs.Mesh.{meshOf};
 ghost use Rattle.edges.specs.Answers.{verdictOf};
 ghost use Rattle.answers.specs.Answers as want;
-use compaction::Compacted;
 use edges::HemEdges;
 use edges::ShellCondition;
 use faces::Pushed;
-use folded::Removed;
 use merging::Merged;
+use removal::Removed;
 use smoothing::Smoothed;
 use tracing::Wires;
+use unused::Compacted;
 
 // The part of a face: where it starts in the list of corners, and how many numbers it is. An empty part starts at 0.
 pub fn part(

@@ -14,8 +14,8 @@ use Rattle.mesh.specs.Table.{overLimits, uneven, misfit, ungrouped, astray, sha
 use Rattle.grouping.specs.Push.{pushed}
 use Rattle.splitting.specs.Splitting.{mateOf, firstMated, foldedBy, splitByIn, splitBy, piecesBy}
 use Rattle.folding.specs.Folding.{folded, trianglePieces, foldOf, quadranglePieces, pieces}
-use Rattle.folded.specs.Folded.{removed}
-use Rattle.compaction.specs.Compaction.{renumber, entries, usedPositions, usedTextures, usedNormals, renumbered, compacted}
+use Rattle.removal.specs.Folded.{removed}
+use Rattle.unused.specs.Compaction.{renumber, entries, usedPositions, usedTextures, usedNormals, renumbered, compacted}
 use Rattle.edges.specs.Edges.{key, verdict, hems}
 use Rattle.turning.specs.Turning.{turnFrom, onwardIn, onward, trail, trailsIn, houseWires}
 use Rattle.order.specs.Same.{Same, none, face, swap}

@@ -19,8 +19,8 @@ use Rattle.mesh.specs.Mesh.{Mesh, Ring, position, faces}
 use Rattle.mesh.specs.Table.{meshNumber}
 use Rattle.splitting.specs.Splitting.{twice, foldedBy}
 use Rattle.folding.specs.Folding.{folded}
-use Rattle.folded.specs.Folded.{unfoldedMesh}
-use Rattle.folded.proofs.Accepted.{removed-accepted, faces-stay}
+use Rattle.removal.specs.Folded.{unfoldedMesh}
+use Rattle.removal.proofs.Accepted.{removed-accepted, faces-stay}
 use Rattle.order.specs.Same.{Turned, Same, none, face, swap, then}
 use Rattle.order.specs.Demand.{byPosition}
 use Rattle.order.proofs.Turning.{Halves, halves}

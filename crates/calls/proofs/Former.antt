@@ -2,7 +2,7 @@
 use mathlib.Core.Path.{refl}
 use Rattle.lists.specs.FirstUses.{firstUses, place}
 use Rattle.mesh.specs.Mesh.{faces}
-use Rattle.compaction.specs.Compaction.{renumber, entries, usedPositions, usedTextures, usedNormals, renumbered, compacted}
+use Rattle.unused.specs.Compaction.{renumber, entries, usedPositions, usedTextures, usedNormals, renumbered, compacted}
 use Rattle.edges.specs.Edges.{key, hems}
 use Rattle.calls.specs.Former.{formerWalk, formerFrom, formerHems, OneHemBefore}
 

@@ -9,7 +9,7 @@ use Rattle.lists.specs.Lists.{some}
 use Rattle.mesh.specs.Mesh.{Mesh, faces}
 use Rattle.mesh.specs.Table.{meshNumber}
 use Rattle.folding.specs.Folding.{folded}
-use Rattle.compaction.specs.Compaction.{compacted}
+use Rattle.unused.specs.Compaction.{compacted}
 use Rattle.edges.specs.Edges.{Oriented, edgesOf, verdict}
 use Rattle.turning.specs.Turning.{houseWiresOf}
 use Rattle.order.specs.Same.{Same}

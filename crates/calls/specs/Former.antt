@@ -9,7 +9,7 @@ use Prim.Native.Nat.{ℕ, zero, suc}
 use lib.Dec.{eqb}
 use lib.ListN.{length}
 use Rattle.mesh.specs.Mesh.{Mesh, faces}
-use Rattle.compaction.specs.Compaction.{compacted}
+use Rattle.unused.specs.Compaction.{compacted}
 use Rattle.edges.specs.Edges.{Edge, edgesOf, hems}
 use Rattle.tracing.specs.Following.{lesser, leastStart, without, Walk, longer}
 use Rattle.calls.specs.Begun.{touching, touchingLater}

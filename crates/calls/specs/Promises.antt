@@ -5,7 +5,7 @@ use Rattle.lists.specs.Lists.{some}
 use Rattle.mesh.specs.Mesh.{Mesh, faces}
 use Rattle.mesh.specs.Table.{meshNumber}
 use Rattle.folding.specs.Folding.{folded}
-use Rattle.folded.specs.Folded.{removed, unfoldedMesh}
+use Rattle.removal.specs.Folded.{removed, unfoldedMesh}
 use Rattle.order.specs.Same.{Same}
 use Rattle.calls.specs.Order.{CallsAgree}
 

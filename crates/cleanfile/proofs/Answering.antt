@@ -11,12 +11,13 @@ use Rattle.mesh.specs.Mesh.{Mesh}
 use Rattle.mesh.specs.Table.{meshNumber, short}
 use Rattle.floating.specs.Limits.{finite}
 use Rattle.floating.proofs.Finite.{Finite, finite-lists, lists-finite}
-use Rattle.panelfile.specs.declared.MeshRead.{MeshRead}
-use Rattle.panelfile.specs.Reading.{readingNumber, panelMesh}
-use Rattle.panelfile.proofs.Values.{read-finite}
-use Rattle.saving.specs.Pieces.{finiteMesh, fileOf, fileLength, fileLimit}
-use Rattle.saving.specs.Working.{Ready, Stored}
-use Rattle.saving.proofs.Parting.{file-is-long, file-fits}
+use Rattle.reading.specs.declared.MeshRead.{MeshRead}
+use Rattle.reading.specs.Reading.{readingNumber, panelMesh}
+use Rattle.reading.proofs.Values.{read-finite}
+use Rattle.written.specs.Pieces.{finiteMesh, fileOf, fileLength, fileLimit}
+use Rattle.written.specs.Answer.{Ready}
+use Rattle.saving.specs.Working.{Stored}
+use Rattle.written.proofs.Parting.{file-is-long, file-fits}
 use Rattle.opening.specs.Opening.{frontOf, Opened}
 use Rattle.opening.proofs.Fronts.{fronts-are}
 use Rattle.opening.proofs.Reading.{opened-accepted}

@@ -10,14 +10,14 @@ use borrow.Author.Tests.{ltb-false}
 use Rattle.lists.proofs.Bools.{or-false-left}
 use Rattle.mesh.specs.Table.{when, short}
 use Rattle.mesh.proofs.Numbers.{first-head, first-tail, when-not}
-use Rattle.panelfile.specs.Reading.{readingNumber, panelMesh}
-use Rattle.saving.specs.Pieces.{fileLength, fileLimit}
-use Rattle.saving.proofs.Parting.{file-fits}
-use Rattle.reopened.specs.Promises.{DoubleMesh}
-use Rattle.reopened.specs.Said.{isDouble}
-use Rattle.reopened.proofs.Saying.{doubles}
-use Rattle.reopened.proofs.Reading.{doubles-are, read-doubles}
-use Rattle.reopened.proofs.Reopened.{reopens}
+use Rattle.reading.specs.Reading.{readingNumber, panelMesh}
+use Rattle.written.specs.Pieces.{fileLength, fileLimit}
+use Rattle.written.proofs.Parting.{file-fits}
+use Rattle.written.specs.Promises.{DoubleMesh}
+use Rattle.written.specs.Said.{isDouble}
+use Rattle.written.proofs.Saying.{doubles}
+use Rattle.written.proofs.Reading.{doubles-are, read-doubles}
+use Rattle.written.proofs.Reopened.{reopens}
 use Rattle.opening.proofs.Reading.{opened-accepted}
 use Rattle.opening.proofs.Kept.{Passes, cleaned-passes}
 use Rattle.cleanfile.specs.Cleaning.{meshLeft, cleaningNumber}

@@ -9,8 +9,8 @@ use lib.Dec.{ltb}
 use Rattle.mesh.specs.Mesh.{Mesh}
 use Rattle.mesh.specs.Table.{when, firstOf, lent, short, after}
 use Rattle.cleaning.specs.Cleaning.{cleaned}
-use Rattle.panelfile.specs.Reading.{readingNumber, panelMesh}
-use Rattle.saving.specs.Pieces.{fileOf, fileLength, fileLimit}
+use Rattle.reading.specs.Reading.{readingNumber, panelMesh}
+use Rattle.written.specs.Pieces.{fileOf, fileLength, fileLimit}
 use Rattle.cleanfile.specs.declared.Cleaned.{Cleaned}
 
 -- the mesh that is left of a file, and its file

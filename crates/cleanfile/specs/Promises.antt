@@ -4,8 +4,8 @@ use mathlib.Core.Path.{_≡_}
 use mathlib.Core.List.{List, []}
 use lib.ListN.{length}
 use Rattle.mesh.specs.Table.{meshNumber}
-use Rattle.panelfile.specs.Reading.{readingNumber}
-use Rattle.reopened.specs.Promises.{Reopens}
+use Rattle.reading.specs.Reading.{readingNumber}
+use Rattle.written.specs.Promises.{Reopens}
 use Rattle.cleanfile.specs.declared.Cleaned.{Cleaned}
 use Rattle.cleanfile.specs.Cleaning.{meshLeft, PanelCleaned}
 

@@ -6,7 +6,7 @@ use lib.ListN.{length}
 use lib.Seq.{sets}
 use Rattle.mesh.specs.Mesh.{Mesh}
 use Rattle.mesh.specs.Table.{after}
-use Rattle.saving.specs.Pieces.{fileOf, fileLength, fileLimit}
+use Rattle.written.specs.Pieces.{fileOf, fileLength, fileLimit}
 use Rattle.opening.specs.Opening.{FullRoom}
 use Rattle.cleanfile.specs.declared.Cleaned.{Cleaned}
 

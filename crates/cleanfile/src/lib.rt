@@ -7,8 +7,8 @@ ghost use mathlib.Core.List.{[]};
 ghost use Prim.Native.Nat.{_≤_};
 ghost use lib.ListN.{length};
 ghost use Rattle.mesh.specs.Mesh.{meshOf};
-ghost use Rattle.panelfile.specs.Reading.{readingNumber};
-ghost use Rattle.saving.specs.Pieces.{fileLimit};
+ghost use Rattle.reading.specs.Reading.{readingNumber};
+ghost use Rattle.written.specs.Pieces.{fileLimit};
 ghost use Rattle.cleanfile.specs.Cleaning.{meshLeft, PanelCleaned};
 ghost use Rattle.cleanfile.specs.Working.{FileRoom, refusedBy, Answered};
 

@@ -7,12 +7,12 @@ use lib.Seq.{sets}
 use Rattle.mesh.specs.Mesh.{Mesh, faces, positionCount, textureCount, normalCount}
 use Rattle.mesh.specs.Table.{meshNumber, after}
 use Rattle.grouping.specs.Push.{cornerCount}
-use Rattle.folded.specs.declared.Removed.{Removed}
-use Rattle.folded.specs.Origins.{originsOf}
-use Rattle.folded.specs.Folded as removal
-use Rattle.folded.proofs.Accepted.{removed-accepted}
-use Rattle.compaction.specs.declared.Compacted.{Compacted}
-use Rattle.compaction.specs.Compaction as compaction
+use Rattle.removal.specs.declared.Removed.{Removed}
+use Rattle.removal.specs.Origins.{originsOf}
+use Rattle.removal.specs.Folded as removal
+use Rattle.removal.proofs.Accepted.{removed-accepted}
+use Rattle.unused.specs.declared.Compacted.{Compacted}
+use Rattle.unused.specs.Compaction as compaction
 use Rattle.cleaning.specs.Promises.{handedOn, CanComeInARow}
 use Rattle.cleaning.proofs.InARow.{handed-on}
 

@@ -1,7 +1,7 @@
 -- A mesh that was cleaned is accepted: each of the two steps leaves an accepted mesh. Assumes nothing.
-use Rattle.folded.specs.Folded.{unfoldedMesh}
-use Rattle.folded.proofs.Accepted.{removed-accepted}
-use Rattle.compaction.proofs.Laws.{accepted-compacted}
+use Rattle.removal.specs.Folded.{unfoldedMesh}
+use Rattle.removal.proofs.Accepted.{removed-accepted}
+use Rattle.unused.proofs.Laws.{accepted-compacted}
 use Rattle.cleaning.specs.Cleaning.{cleaned}
 use Rattle.cleaning.specs.Promises.{CleanedIsAccepted}
 

@@ -21,15 +21,15 @@ use Rattle.mesh.proofs.Numbers.{first-head, first-tail, when-not}
 use Rattle.mesh.proofs.Accepted.{accepted}
 use Rattle.mesh.proofs.Faces.{sizes-back}
 use Rattle.grouping.specs.Push.{cornerCount}
-use Rattle.folded.specs.declared.Removed.{Removed}
-use Rattle.folded.specs.Origins.{originsOf}
-use Rattle.folded.specs.Folded as removal
-use Rattle.folded.proofs.Result.{removed-count, removed-length}
-use Rattle.folded.proofs.Accepted.{faces-unfolded, flat-removed, removed-accepted}
-use Rattle.folded.proofs.CameFrom.{as-many-origins, each-has-its-origin}
-use Rattle.compaction.specs.declared.Compacted.{Compacted}
-use Rattle.compaction.specs.Compaction as compaction
-use Rattle.compaction.proofs.Laws.{corners-kept, faces-compacted}
+use Rattle.removal.specs.declared.Removed.{Removed}
+use Rattle.removal.specs.Origins.{originsOf}
+use Rattle.removal.specs.Folded as removal
+use Rattle.removal.proofs.Result.{removed-count, removed-length}
+use Rattle.removal.proofs.Accepted.{faces-unfolded, flat-removed, removed-accepted}
+use Rattle.removal.proofs.CameFrom.{as-many-origins, each-has-its-origin}
+use Rattle.unused.specs.declared.Compacted.{Compacted}
+use Rattle.unused.specs.Compaction as compaction
+use Rattle.unused.proofs.Laws.{corners-kept, faces-compacted}
 use Rattle.cleaning.specs.Promises.{handedOn, facesAfter, InARow, Came, OriginsHold}
 
 -- a call that answers 0 had an accepted mesh and room

@@ -8,11 +8,11 @@ use Rattle.mesh.specs.Limits.{width}
 use Rattle.mesh.specs.Mesh.{Mesh, meshOf, Ring, rings, faces}
 use Rattle.mesh.specs.Table.{meshNumber}
 use Rattle.folding.specs.Folding.{pieces}
-use Rattle.folded.specs.declared.Removed.{Removed}
-use Rattle.folded.specs.Folded as removal
-use Rattle.folded.specs.Promises.{faceAt}
-use Rattle.compaction.specs.declared.Compacted.{Compacted}
-use Rattle.compaction.specs.Compaction as compaction
+use Rattle.removal.specs.declared.Removed.{Removed}
+use Rattle.removal.specs.Folded as removal
+use Rattle.removal.specs.Promises.{faceAt}
+use Rattle.unused.specs.declared.Compacted.{Compacted}
+use Rattle.unused.specs.Compaction as compaction
 use Rattle.cleaning.specs.Cleaning.{cleaned}
 
 -- of an accepted mesh it is accepted too

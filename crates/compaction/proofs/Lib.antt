@@ -1,11 +1,1 @@
-pub mod Uses
-pub mod Entries
-pub mod Renumbering
-pub mod Turn
 pub mod Loop
-pub mod Accepting
-pub mod Answer
-pub mod Columns
-pub mod Laws
-pub mod Again
-pub mod Using

@@ -16,10 +16,11 @@ use Rattle.lists.proofs.Writing.{sets-append}
 use Rattle.mesh.specs.Limits.{pointWidth, texelWidth, width, entryLimit}
 use Rattle.mesh.specs.Mesh.{Corner, Ring, missing, cornersIn, cornerAt}
 use Rattle.mesh.proofs.Corners.{length-cornersIn, getD-cornersIn}
-use Rattle.compaction.specs.declared.Compacted.{Compacted}
-use Rattle.compaction.specs.Compaction.{usesOf, renumber, entries, Result}
-use Rattle.compaction.specs.Working.{column, usesTo, newCorner, Pointed, Tables, Before, Taken, Done}
-use Rattle.compaction.proofs.Turn.{tables-begin, length-column, uses-within}
+use Rattle.unused.specs.declared.Compacted.{Compacted}
+use Rattle.unused.specs.Compaction.{usesOf, renumber, entries, Result}
+use Rattle.unused.specs.Working.{column, newCorner, Pointed, Done}
+use Rattle.oneindex.specs.Working.{usesTo, Tables, Before, Taken}
+use Rattle.oneindex.proofs.Turn.{tables-begin, length-column, uses-within}
 
 -- ---- one column, k corners of which are read
 

@@ -2,24 +2,14 @@
 //
 // Corners are read in face order. Positions, then texture points, then normals are each renumbered by first use, from 0; the new
 // lists hold the old entries in that order, bit for bit. A missing index stays missing. The definitions that a caller cites stand
-// in specs/Compaction.antt.
-ghost use mathlib.Core.Path.{_≡_};
-ghost use Prim.Native.Nat.{_*_};
-ghost use lib.Seq.{sets};
+// in unused's specs/Compaction.antt; one index of one corner is renumbered by crate oneindex.
 ghost use Rattle.mesh.specs.Mesh.{meshOf};
-ghost use Rattle.compaction.specs.Compaction as want;
-ghost use Rattle.compaction.specs.Working.{Entry, Before, Taken, Ready, Done, Refused};
+ghost use Rattle.unused.specs.Compaction as want;
+ghost use Rattle.unused.specs.Working.{Ready, Done, Refused};
 use mesh::MISSING;
 use mesh::POINT_WIDTH;
 use mesh::TEXEL_WIDTH;
-
-// The number returned, and how many positions, texture points and normals the new lists hold.
-pub struct Compacted {
-    pub number: u32,
-    pub positions: usize,
-    pub textures: usize,
-    pub normals: usize,
-}
+pub use unused::Compacted;
 
 // Takes the mesh in five lists and lends four for the result: corners, positions, texture points and normals; the face sizes
 // don't change. Each result list needs the room of the list that it is made from. Answers 0 and the counts of the new entries;
@@ -106,9 +96,9 @@ pub fn compact(
     let mut n: u32 = 0;
     let mut k: usize = 0;
     while k < count {
-        p = take_in(positions, POINT_WIDTH, corners, k, 0, &mut pmap, p, ps, cs);
-        t = take_in(textures, TEXEL_WIDTH, corners, k, 1, &mut tmap, t, ts, cs);
-        n = take_in(normals, POINT_WIDTH, corners, k, 2, &mut nmap, n, ns, cs);
+        p = oneindex::take_in(positions, POINT_WIDTH, corners, k, 0, &mut pmap, p, ps, cs);
+        t = oneindex::take_in(textures, TEXEL_WIDTH, corners, k, 1, &mut tmap, t, ts, cs);
+        n = oneindex::take_in(normals, POINT_WIDTH, corners, k, 2, &mut nmap, n, ns, cs);
         k += 1;
     }
     Compacted {
@@ -116,54 +106,5 @@ pub fn compact(
         positions: p as usize,
         textures: t as usize,
         normals: n as usize,
-    }
-}
-
-// One column of one corner: the index that corner k has in column q gets its new number, and where this is its first use, its
-// entry goes behind those that were used before. Answers how many entries are used now.
-fn take_in(
-    attrs: &[f64],
-    w: usize,
-    corners: &[u32],
-    k: usize,
-    q: usize,
-    old2new: &mut [u32],
-    used: u32,
-    fresh: &mut [f64],
-    out: &mut [u32],
-) -> u32
-    requires { ⌜ Before (now attrs) w (now corners) k q (now old2new) used (now fresh) (now out) ⌝ }
-    ensures { λ r. ⌜ Taken (now (attrs .entry)) w (now (corners .entry)) k q (now (old2new .exit)) r (now (fresh .entry)) (now (fresh .exit)) (now (out .entry)) (now (out .exit)) ⌝ }
-{
-    let at = mesh::WIDTH * k + q;
-    let i = corners[at];
-    if i == MISSING {
-        out[at] = i;
-        return used;
-    }
-    let x = i as usize;
-    let m = old2new[x];
-    if m != MISSING {
-        out[at] = m;
-        return used;
-    }
-    old2new[x] = used;
-    out[at] = used;
-    put_entry(attrs, w, x, fresh, used as usize);
-    used + 1
-}
-
-// The entry i of one list becomes the entry j of another, w numbers wide, bit for bit.
-fn put_entry(from: &[f64], w: usize, i: usize, to: &mut [f64], j: usize)
-    requires { ⌜ Entry (now from) w i ⌝ }
-    requires { ⌜ Entry (now to) w j ⌝ }
-    ensures { λ _. ⌜ now (to .exit) ≡ sets (now (to .entry)) (j * w) (want.entryAt w (now (from .entry)) i) ⌝ }
-{
-    let a = i * w;
-    let b = j * w;
-    to[b] = from[a];
-    to[b + 1] = from[a + 1];
-    if w == POINT_WIDTH {
-        to[b + 2] = from[a + 2];
     }
 }

@@ -9,8 +9,8 @@ use Rattle.mesh.specs.Listed.{Listed, listedOf}
 use Rattle.mesh.specs.Table.{meshNumber}
 use Rattle.mesh.specs.Face.{facePart}
 use Rattle.faces.specs.Faces.{facesOf}
-use Rattle.compaction.specs.Compaction as compaction
-use Rattle.folded.specs.Folded as removal
+use Rattle.unused.specs.Compaction as compaction
+use Rattle.removal.specs.Folded as removal
 use Rattle.smoothed.specs.Refusals as smoothed
 use Rattle.edges.specs.Answers.{answerOf, judged, hemsIn}
 use Rattle.edges.proofs.Answering.{answer-only}

@@ -10,8 +10,8 @@ use Rattle.mesh.specs.Listed.{Listed}
 use Rattle.mesh.specs.Table.{meshNumber}
 use Rattle.mesh.specs.Face.{facePart}
 use Rattle.faces.specs.Faces.{Grouped}
-use Rattle.compaction.specs.Compaction.{Compaction}
-use Rattle.folded.specs.Folded.{Removal}
+use Rattle.unused.specs.Compaction.{Compaction}
+use Rattle.removal.specs.Folded.{Removal}
 use Rattle.merging.specs.Merging.{PutTogether}
 use Rattle.smoothed.specs.Refusals.{Result}
 use Rattle.smoothing.specs.declared.Smoothed.{Smoothed}
@@ -23,8 +23,8 @@ use Rattle.ported.specs.Answers.{PortedAnswer}
 use Rattle.house.specs.Answers.{HouseAnswer}
 use Rattle.panels.specs.Contract.{PanelsAnswer}
 use Rattle.panels.specs.declared.Answer.{Answer}
-use Rattle.panelfile.specs.Answer.{PanelRead}
-use Rattle.saving.specs.Answer.{PanelWritten}
+use Rattle.reading.specs.Answer.{PanelRead}
+use Rattle.written.specs.Answer.{PanelWritten}
 use Rattle.cleanfile.specs.Cleaning.{PanelCleaned}
 use Rattle.sheet.specs.Sheet.{Printed}
 

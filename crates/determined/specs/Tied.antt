@@ -9,8 +9,8 @@ use denote.Ref.{RefT, now}
 use Rattle.mesh.specs.Mesh.{Mesh, meshOf}
 use Rattle.mesh.specs.Listed.{Listed, listedOf}
 use Rattle.faces.specs.Faces.{FaceLists, facesOf}
-use Rattle.compaction.specs.Compaction as compaction
-use Rattle.folded.specs.Folded as removal
+use Rattle.unused.specs.Compaction as compaction
+use Rattle.removal.specs.Folded as removal
 use Rattle.smoothed.specs.Refusals as smoothed
 use Rattle.edges.specs.Answers.{HemLists, hemsIn}
 use Rattle.determined.specs.Determined.{Call, number, face, pushCall, compactionCall, removalCall, mergingCall, smoothingCall, verdictCall}

@@ -8,9 +8,9 @@ use Rattle.mesh.specs.Table.{meshNumber, shapeNumber, overLimits, uneven, misfi
 use Rattle.grouping.specs.Push.{pushed}
 use Rattle.splitting.specs.Splitting.{mateOf, firstMated, foldedBy, splitByIn, splitBy, piecesBy}
 use Rattle.folding.specs.Folding.{trianglePieces, foldOf, quadranglePieces, pieces}
-use Rattle.folded.specs.Folded.{removed}
-use Rattle.folded.specs.Examples.{leaves}
-use Rattle.compaction.specs.Compaction.{renumber, entries, usedPositions, usedTextures, usedNormals, renumbered, compacted}
+use Rattle.removal.specs.Folded.{removed}
+use Rattle.removal.specs.Examples.{leaves}
+use Rattle.unused.specs.Compaction.{renumber, entries, usedPositions, usedTextures, usedNormals, renumbered, compacted}
 use Rattle.floating.specs.Limits.{unfit, boundless, far}
 use Rattle.floating.specs.Points.{row}
 use Rattle.floating.specs.Scaling as scaling

@@ -23,8 +23,8 @@ use Rattle.edges.proofs.SameEdge.{same-true, same-refl}
 use Rattle.ported.specs.Ported.{portedWires}
 use Rattle.turning.specs.Turning.{houseWiresOf}
 use Rattle.panels.specs.Panels.{panels}
-use Rattle.folded.proofs.Examples.{leaves-is}
-use Rattle.compaction.specs.Compaction.{compacted}
+use Rattle.removal.proofs.Examples.{leaves-is}
+use Rattle.unused.specs.Compaction.{compacted}
 use Rattle.merging.specs.Merging.{mergeNumber, texturePairs, mergedCorners}
 use Rattle.examples.specs.Twelve.{facesBy, tri, triangle, threeFaces, exchanged, touching, sixPositions, threeTextures}
 use Rattle.examples.specs.Twelve.{verdictNumber, hasVerdict, hasHem, hasPorted, hasHouse, hasPanels, compacts, merges, examples, allHold}

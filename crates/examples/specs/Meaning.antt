@@ -15,9 +15,9 @@ use Rattle.edges.specs.Edges.{Edge, edgesOf, Verdict, Irregular, Regular, Orien
 use Rattle.ported.specs.Ported.{portedWires}
 use Rattle.turning.specs.Turning.{houseWiresOf}
 use Rattle.panels.specs.Panels.{panels}
-use Rattle.folded.specs.Folded.{removed}
-use Rattle.folded.specs.Examples.{LeavesIs, corner}
-use Rattle.compaction.specs.Compaction.{compacted}
+use Rattle.removal.specs.Folded.{removed}
+use Rattle.removal.specs.Examples.{LeavesIs, corner}
+use Rattle.unused.specs.Compaction.{compacted}
 use Rattle.merging.specs.Merging.{mergeNumber, texturePairs, mergedCorners}
 use Rattle.examples.specs.Twelve as test
 use Rattle.examples.specs.Twelve.{facesBy, tri, sixPositions, threeTextures}

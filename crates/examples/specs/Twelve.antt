@@ -15,8 +15,8 @@ use Rattle.edges.specs.Edges.{Edge, same, edgesOf, Verdict, Irregular, Regular,
 use Rattle.ported.specs.Ported.{portedWires}
 use Rattle.turning.specs.Turning.{houseWiresOf}
 use Rattle.panels.specs.Panels.{panels}
-use Rattle.folded.specs.Examples.{leaves, corner}
-use Rattle.compaction.specs.Compaction.{compacted}
+use Rattle.removal.specs.Examples.{leaves, corner}
+use Rattle.unused.specs.Compaction.{compacted}
 use Rattle.merging.specs.Merging.{mergeNumber, texturePairs, mergedCorners}
 
 -- ---- edges, verdict, wires and panels

@@ -9,8 +9,8 @@ use Rattle.lists.specs.Lists.{has, joined}
 use Rattle.mesh.specs.Mesh.{Mesh, Ring, Corner, position, texture, normal, cornersIn, faces, positionCount, textureCount, normalCount}
 use Rattle.mesh.specs.Table.{meshNumber}
 use Rattle.mesh.proofs.Faces.{length-rings}
-use Rattle.compaction.specs.Compaction.{compacted, usedPositions, usedTextures, usedNormals}
-use Rattle.compaction.proofs.Laws.{face-order, positions-counted, textures-counted, normals-counted}
+use Rattle.unused.specs.Compaction.{compacted, usedPositions, usedTextures, usedNormals}
+use Rattle.unused.proofs.Laws.{face-order, positions-counted, textures-counted, normals-counted}
 use Rattle.edges.specs.Edges.{edgesOf, verdict}
 use Rattle.panels.specs.Panels.{panels}
 use Rattle.order.specs.Same.{Same}
@@ -19,7 +19,7 @@ use Rattle.order.proofs.Matched.{same-map}
 use Rattle.calls.proofs.Counts.{same-length}
 use Rattle.calls.proofs.Seats.{as-many-panels}
 use Rattle.lines.specs.Lines.{meshLine, verdictLine, panelsLine}
-use Rattle.sheet.specs.Sheet.{foundIn}
+use Rattle.finding.specs.Found.{foundOf, foundIn}
 use Rattle.renumbered.specs.Renumbered.{OneToOne}
 use Rattle.exports.specs.Covers.{renumberedBy, OneCover, CoverKept}
 use Rattle.exports.specs.Sheets.{firstLines, SameButAttributes}
@@ -83,7 +83,7 @@ module _ (g : ℕ → ℕ) (m n : Mesh) (y : meshNumber m ≡ 0) (z : meshNumber
       ∙ sym (ap length (compaction-keeps n z .same-panels))
 
   pub but-attributes : SameButAttributes (foundIn (compacted m)) (foundIn (compacted n))
-  unfolding foundIn
+  unfolding foundIn foundOf
   but-attributes = record { same-positions = positions-same; same-faces = sizes-same; same-verdict = verdict-same; same-panels = panels-same }
 
 -- ---- of those whose positions have the same numbers
@@ -113,7 +113,7 @@ module _ (m n : Mesh) (y : meshNumber m ≡ 0) (z : meshNumber n ≡ 0) (s : Sam
       ∙ sym (normals-counted n z)
 
   pub lines-same : firstLines (foundIn (compacted m)) ≡ firstLines (foundIn (compacted n))
-  unfolding foundIn
+  unfolding foundIn foundOf
   lines-same =
       let c : OneCover (λ i. i) (faces m) (faces n) = own-cover (faces m) (faces n) (same-map position s) in
       λ i.

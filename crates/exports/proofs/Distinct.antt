@@ -15,8 +15,8 @@ use Rattle.lists.proofs.Others.{eqb-self, once-head, once-tail}
 use Rattle.mesh.specs.Mesh.{Ring, position, missing}
 use Rattle.splitting.specs.Splitting.{twice, foldedBy}
 use Rattle.folding.specs.Folding.{folded}
-use Rattle.compaction.specs.Compaction.{usesOf}
-use Rattle.compaction.proofs.Uses.{has-uses, uses-once}
+use Rattle.unused.specs.Compaction.{usesOf}
+use Rattle.unused.proofs.Uses.{has-uses, uses-once}
 use Rattle.renumbered.specs.Renumbered.{positionsOf, OneToOne}
 use Rattle.renumbered.proofs.Images.{Telling, image-in, in-image}
 use Rattle.exports.proofs.Rewritten.{rewritten, ring-rewritten}

@@ -19,9 +19,9 @@ use Rattle.mesh.specs.Table.{meshNumber, when, short}
 use Rattle.mesh.proofs.Numbers.{first-head, first-tail}
 use Rattle.mesh.proofs.After.{after-done}
 use Rattle.folding.specs.Folding.{folded}
-use Rattle.folded.specs.Folded.{unfoldedMesh}
-use Rattle.folded.proofs.Accepted.{removed-accepted}
-use Rattle.compaction.specs.Compaction.{entryAt}
+use Rattle.removal.specs.Folded.{unfoldedMesh}
+use Rattle.removal.proofs.Accepted.{removed-accepted}
+use Rattle.unused.specs.Compaction.{entryAt}
 use Rattle.edges.specs.Edges.{Verdict, edgesOf, verdict}
 use Rattle.turning.specs.Turning.{houseWiresOf}
 use Rattle.turning.specs.Promise.{Fit}
@@ -29,12 +29,13 @@ use Rattle.house.specs.Answers.{wired}
 use Rattle.order.specs.Same.{Same}
 use Rattle.order.proofs.Matched.{same-map}
 use Rattle.calls.proofs.Cleaned.{folded-same, folded-by-position}
-use Rattle.folded.proofs.Accepted.{faces-stay}
-use Rattle.panelfile.specs.Reading.{finish, readAll, readingNumber, panelMesh}
-use Rattle.panelfile.proofs.Ending.{read-accepted}
+use Rattle.removal.proofs.Accepted.{faces-stay}
+use Rattle.reading.specs.Reading.{finish, readAll, readingNumber, panelMesh}
+use Rattle.reading.proofs.Ending.{read-accepted}
 use Rattle.lines.specs.Lines.{sheetText, sheetRoom, hemLines}
 use Rattle.cleaning.specs.Cleaning.{cleaned}
-use Rattle.sheet.specs.Sheet.{foundIn, printed, fileLimit, fileNumber, sheetOf, sheetNumber}
+use Rattle.finding.specs.Found.{foundOf, foundIn}
+use Rattle.sheet.specs.Sheet.{printed, fileLimit, fileNumber, sheetOf, sheetNumber}
 use Rattle.renumbered.specs.Points.{hemPoints, SamePoints}
 use Rattle.renumbered.proofs.Compacted.{compaction-keeps-all}
 use Rattle.exports.specs.Covers.{OneCover}
@@ -128,7 +129,7 @@ fit-wired v (inl e) = ap wired e
 fit-wired v (inr e) = ap wired e
 
 pub hems-are-printed : HemsArePrinted
-unfolding foundIn
+unfolding foundIn foundOf
 hems-are-printed file v =
     let m : Mesh = cleaned (panelMesh file) in
     ap (λ (b : Bool). cond b (Option.some (houseWiresOf (faces m))) Option.none) (fit-wired (verdict (edgesOf (faces m))) v)
@@ -138,7 +139,7 @@ module _ (g : ℕ → ℕ) (m n : Mesh) (y : meshNumber m ≡ 0) (z : meshNumber
   cleaned-hems :
       OneCover g (faces (unfoldedMesh m)) (faces (unfoldedMesh n)) → SamePoints g (unfoldedMesh m) (unfoldedMesh n)
       → Same (hemPoints (cleaned m)) (hemPoints (cleaned n))
-  unfolding cleaned foundIn
+  unfolding cleaned foundIn foundOf
   cleaned-hems c k =
       let y′ = removed-accepted m y in
       hems-of-one-cover g (unfoldedMesh m) (unfoldedMesh n) y′ (removed-accepted n z) c k

@@ -17,8 +17,8 @@ use Rattle.lists.proofs.Others.{eqb-self}
 use Rattle.mesh.specs.Mesh.{missing}
 use Rattle.order.specs.Same.{Turned, Same, none, face, swap, then}
 use Rattle.order.proofs.Turning.{Halves, halves}
-use Rattle.compaction.specs.Compaction.{usesOf}
-use Rattle.compaction.proofs.Uses.{has-uses, uses-once}
+use Rattle.unused.specs.Compaction.{usesOf}
+use Rattle.unused.proofs.Uses.{has-uses, uses-once}
 use Rattle.renumbered.proofs.Counted.{counts-alike}
 
 -- ---- a test of some corner does not depend on the order

@@ -7,7 +7,7 @@ use Prim.Native.Nat.{ℕ}
 use Rattle.lists.specs.Lists.{count}
 use Rattle.mesh.specs.Mesh.{Mesh, Ring, faces}
 use Rattle.mesh.specs.Table.{meshNumber}
-use Rattle.compaction.specs.Compaction.{compacted}
+use Rattle.unused.specs.Compaction.{compacted}
 use Rattle.edges.specs.Edges.{Edge, edgesOf, Irregular, verdict, hems}
 use Rattle.turning.specs.Turning.{houseWiresOf}
 use Rattle.turning.specs.Promise.{Fit}

@@ -10,15 +10,16 @@ use lib.ListN.{length, take}
 use Rattle.lists.specs.Lists.{some}
 use Rattle.mesh.specs.Mesh.{faces}
 use Rattle.folding.specs.Folding.{folded}
-use Rattle.folded.specs.Folded.{unfoldedMesh}
+use Rattle.removal.specs.Folded.{unfoldedMesh}
 use Rattle.turning.specs.Turning.{houseWiresOf}
 use Rattle.turning.specs.Promise.{Fit}
 use Rattle.order.specs.Same.{Same}
 use Rattle.order.specs.Demand.{byPosition}
-use Rattle.panelfile.specs.Reading.{panelMesh}
+use Rattle.reading.specs.Reading.{panelMesh}
 use Rattle.lines.specs.Lines.{Found, sheetRoom, meshLine, verdictLine, panelsLine, hemLines}
 use Rattle.cleaning.specs.Cleaning.{cleaned}
-use Rattle.sheet.specs.Sheet.{foundIn, fileNumber, Printed}
+use Rattle.finding.specs.Found.{foundIn}
+use Rattle.sheet.specs.Sheet.{fileNumber, Printed}
 use Rattle.sheet.specs.declared.Answer.{Answer}
 use Rattle.renumbered.specs.Points.{hemPoints, SamePoints}
 use Rattle.exports.specs.Covers.{OneCover}

@@ -1,8 +1,8 @@
 -- What the calls on files answer, in the terms that a program in C has: the number returned, and counts written to places that the
 -- caller lends. Each definition makes a call's own answer of these. Assumes nothing.
 use Prim.Native.Nat.{ℕ}
-use Rattle.panelfile.specs.declared.MeshRead.{MeshRead}
-use Rattle.saving.specs.declared.Saved.{Saved}
+use Rattle.reading.specs.declared.MeshRead.{MeshRead}
+use Rattle.written.specs.declared.Saved.{Saved}
 use Rattle.sheet.specs.declared.Answer.{Answer as Sheet}
 use Rattle.cleanfile.specs.declared.Cleaned.{Cleaned}
 

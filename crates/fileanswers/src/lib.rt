@@ -2,7 +2,8 @@
 // the sheet, the cleaning of a file.
 ghost use mathlib.Core.Path.{_≡_};
 ghost use Rattle.fileanswers.specs.Answers as want;
-use panelfile::MeshRead;
+use reading::MeshRead;
+use written::Saved;
 
 // The reader: positions, texture points, normals, corners and faces.
 pub fn read(
@@ -24,7 +25,7 @@ pub fn read(
 }
 
 // The writer: the file's length.
-pub fn saved(written: saving::Saved, length: &mut usize) -> u32
+pub fn saved(written: Saved, length: &mut usize) -> u32
     ensures { λ r. ⌜ want.savedBy r (now (length .exit)) ≡ written ⌝ }
 {
     *length = written.length;

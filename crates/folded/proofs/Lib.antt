@@ -1,14 +1,2 @@
-pub mod Passing
-pub mod Result
-pub mod Accepted
-pub mod Scratch
-pub mod Unfolded
-pub mod TwoParts
-pub mod Answer
-pub mod Examples
-pub mod Testing
-pub mod CameFrom
-pub mod Ascending
-pub mod Origins
-pub mod Telling
-pub mod Behind
+pub mod Looking
+pub mod Keeping

@@ -15,12 +15,12 @@ use Rattle.mesh.specs.Table.{meshNumber}
 use Rattle.mesh.proofs.Accepted.{Accepted, accepted}
 use Rattle.mesh.proofs.After.{after-done}
 use Rattle.mesh.proofs.MeshFronts.{front-positions, front-textures, front-normals}
-use Rattle.compaction.specs.declared.Compacted.{Compacted}
-use Rattle.compaction.specs.Compaction.{compacted, resultOf, Compaction}
-use Rattle.compaction.specs.Working.{Ready, Done}
-use Rattle.compaction.proofs.Answer.{ready, done}
-use Rattle.compaction.proofs.Laws.{corners-kept, accepted-compacted}
-use Rattle.panelfile.specs.declared.MeshRead.{MeshRead}
+use Rattle.unused.specs.declared.Compacted.{Compacted}
+use Rattle.unused.specs.Compaction.{compacted, resultOf, Compaction}
+use Rattle.unused.specs.Working.{Ready, Done}
+use Rattle.unused.proofs.Answer.{ready, done}
+use Rattle.unused.proofs.Laws.{corners-kept, accepted-compacted}
+use Rattle.reading.specs.declared.MeshRead.{MeshRead}
 use Rattle.opening.specs.Opening.{Fronts}
 use Rattle.opening.specs.Working.{unfoldedFront, EntryRoom, Kept}
 use Rattle.opening.proofs.Fronts.{front-length, copied, whole}

@@ -9,7 +9,7 @@ use lib.Seq.{sets, take-length}
 use Rattle.lists.specs.Putting.{Front}
 use Rattle.lists.proofs.Fronts.{front}
 use Rattle.mesh.specs.Mesh.{Mesh}
-use Rattle.panelfile.specs.declared.MeshRead.{MeshRead}
+use Rattle.reading.specs.declared.MeshRead.{MeshRead}
 use Rattle.opening.specs.Opening.{frontOf, Fronts}
 
 pub front-length : {A : Type 0} {l xs : List A} {k : ℕ} → Front l xs k → length xs ≡ k

@@ -10,8 +10,8 @@ use Rattle.lists.specs.Lists.{every, each}
 use Rattle.lists.proofs.Bools.{and-both}
 use Rattle.lists.proofs.Parts.{every-append, every-take, every-drop}
 use Rattle.mesh.specs.Mesh.{Mesh}
-use Rattle.folded.specs.Folded.{unfoldedMesh}
-use Rattle.compaction.specs.Compaction.{entryAt, entries, usedPositions, usedTextures, usedNormals, compacted}
+use Rattle.removal.specs.Folded.{unfoldedMesh}
+use Rattle.unused.specs.Compaction.{entryAt, entries, usedPositions, usedTextures, usedNormals, compacted}
 use Rattle.cleaning.specs.Cleaning.{cleaned}
 
 -- every coordinate of a mesh passes a test

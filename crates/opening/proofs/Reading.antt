@@ -12,10 +12,10 @@ use Rattle.mesh.proofs.Accepted.{accepted}
 use Rattle.mesh.proofs.After.{after-done, after-refused, after-length}
 use Rattle.mesh.proofs.Numbers.{first-head}
 use Rattle.mesh.proofs.MeshFronts.{front-positions, front-textures, front-normals, front-corners, front-sizes}
-use Rattle.panelfile.specs.declared.MeshRead.{MeshRead}
-use Rattle.panelfile.specs.Reading.{readAll, finish, fullRoom, readingNumber, panelMesh}
-use Rattle.panelfile.specs.Answer.{PanelRead, refusedWith}
-use Rattle.panelfile.proofs.Ending.{read-accepted}
+use Rattle.reading.specs.declared.MeshRead.{MeshRead}
+use Rattle.reading.specs.Reading.{readAll, finish, fullRoom, readingNumber, panelMesh}
+use Rattle.reading.specs.Answer.{PanelRead, refusedWith}
+use Rattle.reading.proofs.Ending.{read-accepted}
 use Rattle.cleaning.specs.Cleaning.{cleaned}
 use Rattle.cleaning.proofs.Cleaned.{cleaned-accepted}
 use Rattle.opening.specs.Opening.{FullRoom, frontOf, Fronts, Opened}

@@ -13,13 +13,13 @@ use Rattle.mesh.specs.Mesh.{Mesh, meshOf, faces, rings}
 use Rattle.mesh.specs.Table.{meshNumber}
 use Rattle.mesh.proofs.Accepted.{accepted}
 use Rattle.mesh.proofs.MeshFronts.{front-corners, front-sizes}
-use Rattle.folded.specs.Folded.{removed, unfoldedMesh, resultOf, Removal}
-use Rattle.folded.specs.Origins.{originsOf}
-use Rattle.folded.specs.Working.{Given, Left}
-use Rattle.folded.proofs.Answer.{given, done}
-use Rattle.folded.proofs.Accepted.{removed-accepted, flat-removed}
-use Rattle.compaction.specs.Compaction.{compacted}
-use Rattle.panelfile.specs.declared.MeshRead.{MeshRead}
+use Rattle.removal.specs.Folded.{removed, unfoldedMesh, resultOf, Removal}
+use Rattle.removal.specs.Origins.{originsOf}
+use Rattle.removal.specs.Working.{Given, Left}
+use Rattle.removal.proofs.Answer.{given, done}
+use Rattle.removal.proofs.Accepted.{removed-accepted, flat-removed}
+use Rattle.unused.specs.Compaction.{compacted}
+use Rattle.reading.specs.declared.MeshRead.{MeshRead}
 use Rattle.cleaning.specs.Cleaning.{cleaned}
 use Rattle.opening.specs.Opening.{frontOf, Fronts}
 use Rattle.opening.specs.Working.{unfoldedFront, FaceRoom, Unfolded, Kept}

@@ -7,9 +7,9 @@ use lib.ListN.{length, take}
 use Rattle.lists.specs.Putting.{Front}
 use Rattle.mesh.specs.Limits.{pointWidth, texelWidth, width, faceLimit, pointNumbers, texelNumbers, cornerNumbers}
 use Rattle.mesh.specs.Mesh.{Mesh, meshOf}
-use Rattle.panelfile.specs.declared.MeshRead.{MeshRead}
-use Rattle.panelfile.specs.Reading.{readingNumber, panelMesh}
-use Rattle.panelfile.specs.Answer.{refusedWith}
+use Rattle.reading.specs.declared.MeshRead.{MeshRead}
+use Rattle.reading.specs.Reading.{readingNumber, panelMesh}
+use Rattle.reading.specs.Answer.{refusedWith}
 use Rattle.cleaning.specs.Cleaning.{cleaned}
 
 -- five lists at the full limits

@@ -8,7 +8,7 @@ use Rattle.lists.specs.Putting.{Front}
 use Rattle.mesh.specs.Limits.{pointWidth, texelWidth, width, faceLimit, pointNumbers, texelNumbers, cornerNumbers}
 use Rattle.mesh.specs.Mesh.{Mesh, meshOf}
 use Rattle.mesh.specs.Table.{meshNumber}
-use Rattle.panelfile.specs.declared.MeshRead.{MeshRead}
+use Rattle.reading.specs.declared.MeshRead.{MeshRead}
 use Rattle.opening.specs.Opening.{FullRoom, frontOf, Fronts}
 
 -- the mesh at the front of five lists is accepted, and the lists are at the full limits; with lists for what is left of its faces

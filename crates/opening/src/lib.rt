@@ -5,7 +5,7 @@
 // function makes them and `.._in` fills them. The definitions that a caller cites stand in specs/Opening.antt.
 ghost use mathlib.Core.Path.{_≡_};
 ghost use Rattle.mesh.specs.Mesh.{meshOf};
-ghost use Rattle.compaction.specs.Compaction.{compacted};
+ghost use Rattle.unused.specs.Compaction.{compacted};
 ghost use Rattle.cleaning.specs.Cleaning.{cleaned};
 ghost use Rattle.opening.specs.Opening.{FullRoom, frontOf, Opened};
 ghost use Rattle.opening.specs.Working.{unfoldedFront, Standing, FaceRoom, Unfolded, EntryRoom, Kept};

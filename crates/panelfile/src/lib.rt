@@ -1,23 +1,12 @@
 // The panel file: its records, and the reader that turns its bytes into a mesh or into a number of the table.
 //
 // A file is records, each a two-byte length, a two-byte kind and a body, little-endian, up to an end record. The reader takes one
-// record after the other into lists of its own, by crate steps, so that a refused file writes nothing; then it looks at what follows the
-// end record and at the indices, groups the faces as `push` does, and copies.
-mod reading;
-
+// record after the other into lists of its own, so that a refused file writes nothing; then it looks at what follows the end record and at
+// the indices, groups the faces as `push` does, and copies. The rules stand in crate reading, and its steps in crate drawing.
 ghost use mathlib.Core.Path.{_≡_};
 ghost use Rattle.mesh.specs.Mesh.{meshOf};
-ghost use Rattle.panelfile.specs.Answer.{PanelRead};
-
-// The reader's answer: its number, and how many positions, texture points, normals, corners and faces the mesh has.
-pub struct MeshRead {
-    pub number: u32,
-    pub positions: usize,
-    pub textures: usize,
-    pub normals: usize,
-    pub corners: usize,
-    pub faces: usize,
-}
+ghost use Rattle.reading.specs.Answer.{PanelRead};
+pub use reading::MeshRead;
 
 // Reads a panel file into five lent lists.
 //
@@ -38,26 +27,26 @@ pub fn read_panel(
         (meshOf (now (positions .exit)) (now (textures .exit)) (now (normals .exit)) (now (corners .exit)) (now (sizes .exit)))
         r ⌝ }
 {
-    if reading::is_short(
+    if drawing::is_short(
         positions.len(),
         textures.len(),
         normals.len(),
         corners.len(),
         sizes.len(),
     ) {
-        return reading::refused(9);
+        return drawing::refused(9);
     }
     let mut p = [0.0f64; mesh::POINT_NUMBERS];
     let mut t = [0.0f64; mesh::TEXEL_NUMBERS];
     let mut n = [0.0f64; mesh::POINT_NUMBERS];
     let mut c = [0u32; mesh::CORNER_NUMBERS];
     let mut s = [0u32; mesh::FACES];
-    let x = reading::read_records(file, &mut p, &mut t, &mut n, &mut c, &mut s);
-    let number = reading::number_at_end(file, x, &p, &t, &n, &c, &s);
+    let x = drawing::read_records(file, &mut p, &mut t, &mut n, &mut c, &mut s);
+    let number = drawing::number_at_end(file, x, &p, &t, &n, &c, &s);
     if number != 0 {
-        return reading::refused(number);
+        return drawing::refused(number);
     }
-    reading::hand_over(
+    drawing::hand_over(
         file,
         x,
         &p,

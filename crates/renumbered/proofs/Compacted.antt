@@ -1,5 +1,5 @@
 -- What compaction keeps, put together. Assumes nothing.
-use Rattle.compaction.specs.Compaction.{renumber, usedPositions, compacted}
+use Rattle.unused.specs.Compaction.{renumber, usedPositions, compacted}
 use Rattle.renumbered.specs.Compacted.{CompactionKeeps}
 use Rattle.renumbered.proofs.Points.{points-same}
 use Rattle.renumbered.proofs.Compacting.{compaction-points}

@@ -19,12 +19,12 @@ use Rattle.mesh.specs.Edges.{Edged}
 use Rattle.mesh.specs.Table.{meshNumber}
 use Rattle.mesh.proofs.Corners.{length-cornersIn, getD-cornersIn}
 use Rattle.mesh.proofs.Edges.{edged}
-use Rattle.compaction.specs.Compaction.{usesOf, renumber, usedPositions, compacted}
-use Rattle.compaction.proofs.Uses.{uses-below}
-use Rattle.compaction.proofs.Entries.{entry-again}
-use Rattle.compaction.proofs.Renumbering.{renumber-present, used}
-use Rattle.compaction.proofs.Accepting.{pointed-positions}
-use Rattle.compaction.proofs.Laws.{face-order, face-positions, position-same}
+use Rattle.unused.specs.Compaction.{usesOf, renumber, usedPositions, compacted}
+use Rattle.unused.proofs.Uses.{uses-below}
+use Rattle.unused.proofs.Entries.{entry-again}
+use Rattle.unused.proofs.Renumbering.{renumber-present, used}
+use Rattle.unused.proofs.Accepting.{pointed-positions}
+use Rattle.unused.proofs.Laws.{face-order, face-positions, position-same}
 use Rattle.renumbered.specs.Renumbered.{positionsOf, Renumbers}
 use Rattle.renumbered.specs.Points.{pointAt, SamePoints}
 

@@ -24,8 +24,8 @@ use Rattle.keys.specs.Keys.{Key, keyOf, sameKey, Use, usesFrom}
 use Rattle.searching.specs.Search.{panelsFrom}
 use Rattle.panels.specs.Panels.{joinsFrom, joins, panels}
 use Rattle.panels.proofs.Sharing.{sameKey-true, sameKey-refl}
-use Rattle.compaction.specs.Compaction.{renumbered, compacted}
-use Rattle.compaction.proofs.Laws.{face-order, faces-compacted, position-same, normal-same}
+use Rattle.unused.specs.Compaction.{renumbered, compacted}
+use Rattle.unused.proofs.Laws.{face-order, faces-compacted, position-same, normal-same}
 use Rattle.turning.proofs.Edgewise.{both, ring-changed, bothPass, ring-passes, rings-own}
 use Rattle.renumbered.proofs.Joining.{keyed, joins-agree, numbered-passes}
 

@@ -11,7 +11,7 @@ use Rattle.mesh.specs.Mesh.{Mesh, Ring, position, faces}
 use Rattle.mesh.specs.Table.{meshNumber}
 use Rattle.edges.specs.Edges.{edgesOf, meshEdges, verdict}
 use Rattle.order.specs.Demand.{byPosition}
-use Rattle.compaction.specs.Compaction.{renumber, usedPositions, compacted}
+use Rattle.unused.specs.Compaction.{renumber, usedPositions, compacted}
 use Rattle.renumbered.specs.Renumbered.{positionsOf, Renumbers, moved, Kept, NumbersDoNotMatter}
 use Rattle.turning.proofs.Edgewise.{edges-changed, edges-pass}
 use Rattle.renumbered.proofs.Moved.{between, verdict-moved}

@@ -7,7 +7,7 @@ use Prim.Native.Nat.{ℕ}
 use Rattle.lists.specs.Lists.{count}
 use Rattle.mesh.specs.Mesh.{Mesh, faces}
 use Rattle.mesh.specs.Table.{meshNumber}
-use Rattle.compaction.specs.Compaction.{renumber, usedPositions, compacted}
+use Rattle.unused.specs.Compaction.{renumber, usedPositions, compacted}
 use Rattle.edges.specs.Edges.{Edge, edgesOf, verdict, hems}
 use Rattle.panels.specs.Panels.{panels}
 use Rattle.turning.specs.Turning.{houseWiresOf}

@@ -7,7 +7,7 @@ use lib.Ieee.{Float}
 use Rattle.lists.specs.Lists.{has}
 use Rattle.mesh.specs.Limits.{pointWidth}
 use Rattle.mesh.specs.Mesh.{Mesh, faces}
-use Rattle.compaction.specs.Compaction.{entryAt}
+use Rattle.unused.specs.Compaction.{entryAt}
 use Rattle.turning.specs.Turning.{houseWiresOf}
 use Rattle.renumbered.specs.Renumbered.{positionsOf}
 

@@ -8,9 +8,9 @@ use borrow.Author.Tests.{lt-ltb, le-ltb}
 use Rattle.mesh.specs.Mesh.{Mesh}
 use Rattle.mesh.specs.Table.{firstOf, short}
 use Rattle.mesh.proofs.Numbers.{first-is}
-use Rattle.panelfile.specs.declared.MeshRead.{MeshRead}
-use Rattle.panelfile.specs.Reading.{readingNumber, panelMesh}
-use Rattle.saving.specs.Pieces.{fileLimit}
+use Rattle.reading.specs.declared.MeshRead.{MeshRead}
+use Rattle.reading.specs.Reading.{readingNumber, panelMesh}
+use Rattle.written.specs.Pieces.{fileLimit}
 use Rattle.cleaning.specs.Cleaning.{cleaned}
 use Rattle.smoothed.specs.Refusals.{resultOf}
 use Rattle.opening.specs.Opening.{frontOf, Opened}

@@ -13,7 +13,7 @@ use Rattle.lists.proofs.Bools.{and-left, and-right, and-both}
 use Rattle.lists.proofs.Parts.{every-append}
 use Rattle.mesh.specs.Mesh.{Mesh, Ring}
 use Rattle.verdicts.specs.Edges.{Edge}
-use Rattle.reopened.specs.Said.{isDouble}
+use Rattle.written.specs.Said.{isDouble}
 use Rattle.smoothed.specs.Smoothed.{edgesByUse}
 use Rattle.smoothed.specs.Around.{Condition, Corner, Boundary, Inner, condition, single}
 use Rattle.smoothed.specs.Positions.{axes, coordinate, movedBy, middleOf, smoothedPositions}

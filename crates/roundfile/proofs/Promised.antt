@@ -18,15 +18,15 @@ use Rattle.mesh.proofs.Accepted.{accepted}
 use Rattle.mesh.proofs.After.{after-length}
 use Rattle.mesh.proofs.Faces.{length-rings}
 use Rattle.mesh.proofs.Numbers.{first-head, first-tail, when-not}
-use Rattle.panelfile.specs.Reading.{readingNumber, panelMesh}
-use Rattle.saving.specs.Pieces.{finiteMesh, fileLength, fileLimit}
-use Rattle.saving.proofs.Parting.{file-fits}
+use Rattle.reading.specs.Reading.{readingNumber, panelMesh}
+use Rattle.written.specs.Pieces.{finiteMesh, fileLength, fileLimit}
+use Rattle.written.proofs.Parting.{file-fits}
 use Rattle.cleaning.specs.Cleaning.{cleaned}
-use Rattle.reopened.specs.Promises.{DoubleMesh}
-use Rattle.reopened.specs.Said.{isDouble}
-use Rattle.reopened.proofs.Saying.{doubles}
-use Rattle.reopened.proofs.Reading.{doubles-are, read-doubles}
-use Rattle.reopened.proofs.Reopened.{reopens}
+use Rattle.written.specs.Promises.{DoubleMesh}
+use Rattle.written.specs.Said.{isDouble}
+use Rattle.written.proofs.Saying.{doubles}
+use Rattle.written.proofs.Reading.{doubles-are, read-doubles}
+use Rattle.written.proofs.Reopened.{reopens}
 use Rattle.opening.proofs.Kept.{Passes, cleaned-passes}
 use Rattle.smoothed.specs.Smoothed.{fold}
 use Rattle.smoothed.specs.Promise.{smoothedMesh, Given}

@@ -17,10 +17,10 @@ use Rattle.mesh.proofs.After.{after-done}
 use Rattle.mesh.proofs.Numbers.{first-is}
 use Rattle.mesh.proofs.MeshFronts.{front-positions, front-corners, front-sizes}
 use Rattle.floating.specs.Near.{nought}
-use Rattle.saving.specs.declared.Saved.{Saved}
-use Rattle.saving.specs.Pieces.{finiteMesh, fileLength, fileLimit}
-use Rattle.saving.specs.Answer.{savingNumber, PanelWritten}
-use Rattle.saving.proofs.Parting.{file-fits}
+use Rattle.written.specs.declared.Saved.{Saved}
+use Rattle.written.specs.Pieces.{finiteMesh, fileLength, fileLimit}
+use Rattle.written.specs.Answer.{savingNumber, PanelWritten}
+use Rattle.written.proofs.Parting.{file-fits}
 use Rattle.opening.proofs.Fronts.{front-length}
 use Rattle.smoothed.specs.Promise.{smoothedMesh}
 use Rattle.smoothed.specs.Refusals.{Result, resultOf, smoothingNumber, tooShort}

@@ -7,8 +7,8 @@ use lib.ListN.{length}
 use lib.Ieee.{Float}
 use Rattle.mesh.specs.Mesh.{Mesh}
 use Rattle.cleaning.specs.Cleaning.{cleaned}
-use Rattle.panelfile.specs.Reading.{panelMesh}
-use Rattle.reopened.specs.Promises.{Reopens}
+use Rattle.reading.specs.Reading.{panelMesh}
+use Rattle.written.specs.Promises.{Reopens}
 use Rattle.smoothed.specs.Promise.{Given, Promised}
 use Rattle.smoothed.specs.Refusals.{positionsOf, tooShort}
 use Rattle.roundfile.specs.declared.Rounded.{Rounded}

@@ -13,8 +13,8 @@ use Rattle.mesh.specs.Mesh.{Mesh}
 use Rattle.mesh.specs.Table.{when, firstOf, lent, short, after}
 use Rattle.floating.specs.Near.{nought}
 use Rattle.cleaning.specs.Cleaning.{cleaned}
-use Rattle.panelfile.specs.Reading.{readingNumber, panelMesh}
-use Rattle.saving.specs.Pieces.{finiteMesh, fileOf, fileLength, fileLimit}
+use Rattle.reading.specs.Reading.{readingNumber, panelMesh}
+use Rattle.written.specs.Pieces.{finiteMesh, fileOf, fileLength, fileLimit}
 use Rattle.smoothed.specs.Refusals.{Result, lists, resultOf, smoothingNumber}
 use Rattle.roundfile.specs.declared.Rounded.{Rounded}
 

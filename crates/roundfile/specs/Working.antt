@@ -7,7 +7,7 @@ use lib.Seq.{sets}
 use Rattle.mesh.specs.Limits.{faceLimit, pointNumbers, cornerNumbers}
 use Rattle.mesh.specs.Mesh.{Mesh}
 use Rattle.mesh.specs.Table.{after}
-use Rattle.saving.specs.Pieces.{fileOf, fileLength, fileLimit}
+use Rattle.written.specs.Pieces.{fileOf, fileLength, fileLimit}
 use Rattle.smoothed.specs.Refusals.{Result}
 use Rattle.opening.specs.Opening.{FullRoom}
 use Rattle.roundfile.specs.declared.Rounded.{Rounded}

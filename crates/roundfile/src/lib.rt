@@ -7,7 +7,7 @@ ghost use mathlib.Core.Path.{_≡_};
 ghost use Prim.Native.Nat.{_≤_};
 ghost use lib.ListN.{length};
 ghost use Rattle.mesh.specs.Mesh.{meshOf};
-ghost use Rattle.saving.specs.Pieces.{fileLimit};
+ghost use Rattle.written.specs.Pieces.{fileLimit};
 ghost use Rattle.smoothed.specs.Refusals.{resultOf, lists};
 ghost use Rattle.roundfile.specs.Rounding.{meshRounded, smoothedNumber, openedNumber, PanelRounded};
 ghost use Rattle.roundfile.specs.Working.{FileRoom, SmoothRoom, refusedBy, Answered};

@@ -12,20 +12,14 @@ use Rattle.lists.specs.Lists.{each}
 use Rattle.lists.proofs.Parts.{every-take, every-drop}
 use Rattle.floating.specs.Limits.{finite}
 use Rattle.floating.proofs.Rows.{row-fits}
-use Rattle.saving.specs.Pieces.{coordinateBytes, headerOf}
-use Rattle.saving.specs.Working.{Stored, entryRecord, firstRows, Coordinates, AnEntry, Entries}
-use Rattle.saving.proofs.Storing.{length-coordinate, length-header, stored-both}
-use Rattle.saving.proofs.Listing.{Putting, putting-begins, putting-turns, putting-room, putting-ends, length-each}
+use Rattle.written.specs.Pieces.{coordinateBytes, headerOf}
+use Rattle.written.specs.Parts.{entryRecord, firstRows}
+use Rattle.written.proofs.Lengths.{length-header, length-coordinates, length-entry}
+use Rattle.saving.specs.Working.{Stored, Coordinates, AnEntry, Entries}
+use Rattle.saving.proofs.Storing.{stored-both}
+use Rattle.saving.proofs.Listing.{Putting, putting-begins, putting-turns, putting-room, putting-ends}
 
 -- ---- one
-
-pub length-coordinates : (l : List Float) → length (each coordinateBytes l) ≡ 8 * length l
-length-coordinates = length-each coordinateBytes 8 length-coordinate
-
-pub length-entry : (kind : ℕ) (l : List Float) → length (entryRecord kind l) ≡ 4 + 8 * length l
-unfolding entryRecord
-length-entry kind l =
-    omega (arith, length-append (headerOf (8 * length l) kind) (each coordinateBytes l), length-header (8 * length l) kind, length-coordinates l)
 
 module _ (kind : ℕ) (l : List Float) (o o1 : List ℕ) (at a : ℕ) (h : Stored (headerOf (8 * length l) kind) o o1 at a) where
   pub coordinates-fit : AnEntry kind l o at → length o1 ≡ length o → Coordinates l o1 a

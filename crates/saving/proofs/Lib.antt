@@ -2,5 +2,4 @@ pub mod Storing
 pub mod Listing
 pub mod Entries
 pub mod Faces
-pub mod Parting
 pub mod Saving

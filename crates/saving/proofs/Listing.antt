@@ -11,9 +11,9 @@ use Rattle.lists.specs.Lists.{each}
 use Rattle.lists.proofs.Growing.{Growing, grow-begins, grow-part, grow-ends, grow-room}
 use Rattle.little.specs.Little.{wordBytes}
 use Rattle.little.proofs.Written.{length-word}
-use Rattle.saving.specs.Pieces.{coordinateBytes}
+use Rattle.written.specs.Pieces.{coordinateBytes}
+use Rattle.written.proofs.Lengths.{length-coordinate}
 use Rattle.saving.specs.Working.{Stored, Fits}
-use Rattle.saving.proofs.Storing.{length-coordinate}
 
 module _ {A : Type 0} (f : A → List ℕ) where
   -- `to` is the place behind the bytes of the first k elements
@@ -45,15 +45,6 @@ module _ {A : Type 0} (f : A → List ℕ) where
       let g : Growing o o' at to (each f xs) [] = rw e at (p .grows) in
       let z : to + 0 ≡ at + length (each f xs) = g .place in
       record { file = grow-ends o o' at to (each f xs) g; place = omega arith }
-
--- ---- as many bytes for each
-
-module _ {A : Type 0} (f : A → List ℕ) (n : ℕ) (h : (a : A) → length (f a) ≡ n) where
-  pub length-each : (l : List A) → length (each f l) ≡ n * length l
-  length-each [] = sym (native.Mathlib.Nat.mul-zero n)
-  length-each (a ∷ l) =
-      length-append (f a) (each f l) ∙ ap₂ (λ (x y : ℕ). x + y) (h a) (length-each l)
-      ∙ native.Mathlib.Nat.add-comm n (n * length l) ∙ sym (native.Mathlib.Nat.mul-suc n (length l))
 
 -- ---- numbers of four bytes, and coordinates
 

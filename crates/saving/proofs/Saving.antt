@@ -1,27 +1,22 @@
--- A mesh that can be written: there is room for each part behind the others; and the number of the call. Assumes nothing.
-use mathlib.Core.Path.{_≡_, refl, sym, _∙_}
-use mathlib.Core.Bool.{Bool, true, false, not, _||_}
-use mathlib.Core.List.{List, [], _∷_, _++_}
-use Prim.Native.Nat.{ℕ, zero, suc, _+_, _/_, _≤_, _<_}
+-- A mesh that can be written: there is room for each part behind the others; and whether its lists are finite, one after the other. Assumes
+-- nothing.
+use mathlib.Core.Path.{_≡_, sym, _∙_}
+use mathlib.Core.Bool.{Bool, true, false}
+use mathlib.Core.List.{List, _++_}
+use Prim.Native.Nat.{ℕ, _+_, _/_, _≤_}
 use native.Mathlib.Omega.{arith}
 use lib.ListN.{length}
-use lib.Dec.{ltb}
 use lib.Ieee.{Float}
-use borrow.Author.Tests.{lt-ltb, le-ltb, ltb-false, not-false}
 use Rattle.lists.specs.Lists.{every}
-use Rattle.lists.proofs.Bools.{or-false-left}
 use Rattle.mesh.specs.Mesh.{Mesh}
-use Rattle.mesh.specs.Table.{meshNumber, when, lent, short}
-use Rattle.mesh.proofs.Numbers.{first-head, first-tail, when-not}
 use Rattle.mesh.proofs.Accepted.{Accepted, accepted}
 use Rattle.floating.specs.Limits.{finite, allFinite}
 use Rattle.floating.proofs.Finite.{Finite, finite-lists}
-use Rattle.saving.specs.declared.Saved.{Saved}
-use Rattle.saving.specs.Pieces.{finiteMesh, fileOf, fileLength}
-use Rattle.saving.specs.Answer.{savingNumber, PanelWritten}
-use Rattle.saving.specs.Working.{Stored, Entries, Faces, Ready}
+use Rattle.written.specs.Pieces.{fileOf}
+use Rattle.written.specs.Answer.{Ready}
+use Rattle.written.proofs.Parting.{P, T, N, F, E, file-parts, parts-length, file-length}
+use Rattle.saving.specs.Working.{Stored, Entries, Faces}
 use Rattle.saving.proofs.Storing.{stored-both, stored-as, still-long}
-use Rattle.saving.proofs.Parting.{P, T, N, F, E, file-parts, parts-length, file-length}
 
 -- ---- the parts one behind the other
 
@@ -91,7 +86,7 @@ module _ (m : Mesh) (o : List ℕ) (r : Ready m o) where
               (stored-both (N m) (F m ++ E m) o2 o3 o5 b c e s3
               (stored-both (F m) (E m) o3 o4 o5 c d e s4 s5))))
 
--- ---- the number
+-- ---- finite
 
 -- one list after the other, with b and c whether the first and the second are finite
 module _ (p t n : List Float) (b : Bool) (eb : b ≡ every finite p) where
@@ -107,52 +102,3 @@ module _ (p t n : List Float) (b : Bool) (eb : b ≡ every finite p) where
     pub third-decides : c ≡ true → (d : Bool) → d ≡ every finite n → d ≡ allFinite p t n
     unfolding allFinite
     third-decides h d e = rw (sym eb ∙ hb, sym ec ∙ h) e
-
-module _ (m : Mesh) (room : ℕ) where
-  pub number-first : (n : ℕ) → n ≡ meshNumber m → (n ≡ 0 → ⊥) → n ≡ savingNumber m room
-  unfolding savingNumber
-  number-first zero e h = absurd (h refl)
-  number-first (suc n) e h = rw (sym e)
-
-  pub number-broken : meshNumber m ≡ 0 → finiteMesh m ≡ false → 14 ≡ savingNumber m room
-  unfolding savingNumber
-  number-broken e f = rw (e, f)
-
-  pub number-short : meshNumber m ≡ 0 → finiteMesh m ≡ true → room < fileLength m → 9 ≡ savingNumber m room
-  unfolding savingNumber short
-  number-short e f l = rw (e, f, lt-ltb room (fileLength m) l)
-
-  pub number-well : meshNumber m ≡ 0 → finiteMesh m ≡ true → fileLength m ≤ room → 0 ≡ savingNumber m room
-  unfolding savingNumber short
-  number-well e f l = rw (e, f, le-ltb room (fileLength m) l)
-
--- a mesh whose number is 0 can be written
-pub ready : (m : Mesh) (o : List ℕ) → savingNumber m (length o) ≡ 0 → Ready m o
-unfolding savingNumber short
-ready m o h =
-    let f = finiteMesh m in
-    let e = ltb (length o) (fileLength m) in
-    let rest = when (e || false) 9 ∷ [] in
-    let h1 = first-tail (meshNumber m) (when (not f) 14 ∷ rest) h in
-    let n : (e || false) ≡ false = when-not (e || false) 8 (first-head (when (e || false) 9) [] (first-tail (when (not f) 14) rest h1)) in
-    record {
-      accepted = first-head (meshNumber m) (when (not f) 14 ∷ rest) h;
-      are-finite = not-false f (when-not (not f) 13 (first-head (when (not f) 14) rest h1));
-      room = ltb-false (length o) (fileLength m) (or-false-left e false n);
-    }
-
--- ---- the whole call
-
-abbrev saved : ℕ → ℕ → Saved
-saved number length = record { number = number; length = length }
-
-pub call-refused : (m : Mesh) (o : List ℕ) (n : ℕ) → n ≡ savingNumber m (length o) → (n ≡ 0 → ⊥) → PanelWritten m o o (saved n 0)
-call-refused m o zero e h = absurd (h refl)
-call-refused m o (suc n) e h = record { number = e; byte-count = refl; bytes = refl }
-
-pub call-done : (m : Mesh) (o o' : List ℕ) (r : ℕ) → 0 ≡ savingNumber m (length o) → Stored (fileOf m) o o' 0 r → PanelWritten m o o' (saved 0 r)
-call-done m o o' r e s = record {
-  number = e;
-  byte-count = omega (arith, s .place, file-length m (accepted m (ready m o (sym e) .accepted)));
-  bytes = s .file;
-}

@@ -8,8 +8,9 @@ use lib.Seq.{sets, length-sets}
 use lib.Ieee.{Float, binary64, toBits}
 use Rattle.lists.proofs.Writing.{sets-append}
 use Rattle.little.specs.Little.{halfBytes, wordBytes, longBytes}
-use Rattle.little.proofs.Written.{length-half, length-word, length-long}
-use Rattle.saving.specs.Pieces.{coordinateBytes, headerOf}
+use Rattle.little.proofs.Written.{length-half, length-word}
+use Rattle.written.specs.Pieces.{coordinateBytes, headerOf}
+use Rattle.written.proofs.Lengths.{length-coordinate}
 use Rattle.saving.specs.Working.{Stored}
 
 -- ---- two parts
@@ -29,10 +30,6 @@ still-long a o o' at r f = ap length (f .file) ∙ length-sets o at a
 
 -- ---- a header
 
-pub length-header : (n kind : ℕ) → length (headerOf n kind) ≡ 4
-unfolding headerOf
-length-header n kind = omega (arith, length-append (halfBytes n) (halfBytes kind), length-half n, length-half kind)
-
 pub header-stored :
     (n kind : ℕ) (o o1 o2 : List ℕ) (at : ℕ) → o1 ≡ sets o at (halfBytes n) → o2 ≡ sets o1 (at + 2) (halfBytes kind)
     → Stored (headerOf n kind) o o2 at (at + 4)
@@ -43,10 +40,6 @@ header-stored n kind o o1 o2 at e f =
     (record { file = f; place = omega (arith, length-half kind) })
 
 -- ---- a coordinate, and a number of four bytes
-
-pub length-coordinate : (x : Float) → length (coordinateBytes x) ≡ 8
-unfolding coordinateBytes
-length-coordinate x = length-long _
 
 pub coordinate-stored :
     (x : Float) (b : ℕ) (o o' : List ℕ) (at : ℕ) → b ≡ toBits binary64 x → o' ≡ sets o at (longBytes b)

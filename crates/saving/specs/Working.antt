@@ -1,18 +1,18 @@
 -- What the writer's inner functions store, for their contracts. Assumes nothing.
-use Prim.Native.Nat.{ℕ, zero, suc, _+_, _*_, _%_, _≤_, _<_}
+use Prim.Native.Nat.{ℕ, _+_, _*_, _%_, _≤_, _<_}
 use mathlib.Core.Path.{_≡_}
 use mathlib.Core.Bool.{true}
-use mathlib.Core.List.{List, [], _∷_, _++_}
-use lib.ListN.{length, getD, take, drop}
+use mathlib.Core.List.{List}
+use lib.ListN.{length, getD}
 use lib.Seq.{sets}
 use lib.Ieee.{Float}
 use Rattle.lists.specs.Lists.{each, every}
 use Rattle.mesh.specs.Limits.{width, ringLimit}
-use Rattle.mesh.specs.Mesh.{Mesh, Ring, cornersIn, rings}
-use Rattle.mesh.specs.Table.{meshNumber}
+use Rattle.mesh.specs.Mesh.{cornersIn, rings}
 use Rattle.mesh.specs.Face.{Sound}
 use Rattle.floating.specs.Limits.{finite}
-use Rattle.saving.specs.Pieces.{finiteMesh, coordinateBytes, aFace, headerOf, recordOf, fileLength}
+use Rattle.written.specs.Pieces.{coordinateBytes}
+use Rattle.written.specs.Parts.{entryRecord, firstRows, faceRecord}
 
 -- the bytes are stored from a place on, and r is the place behind them
 pub record Stored (bytes o o' : List ℕ) (at r : ℕ) : Type 0 where
@@ -24,15 +24,6 @@ abbrev pub Fits : List ℕ → List ℕ → ℕ → Type 0
 Fits bytes o at = at + length bytes ≤ length o
 
 -- ---- positions, texture points and normals: one rule over the width
-
--- the record of an entry with these coordinates
-unfoldable pub entryRecord : ℕ → List Float → List ℕ
-entryRecord kind l = headerOf (8 * length l) kind ++ each coordinateBytes l
-
--- the first n entries of a flat list, w coordinates each
-abbrev pub firstRows : ℕ → ℕ → List Float → List (List Float)
-firstRows w zero s = []
-firstRows w (suc n) s = take w s ∷ firstRows w n (drop w s)
 
 -- finite coordinates, an entry, and n entries, with room for their bytes
 pub record Coordinates (l : List Float) (o : List ℕ) (at : ℕ) : Type 0 where
@@ -52,9 +43,6 @@ pub record Entries (w n kind : ℕ) (s : List Float) (o : List ℕ) (at : ℕ) :
 
 -- ---- faces
 
-unfoldable pub faceRecord : Ring → List ℕ
-faceRecord f = recordOf (aFace f)
-
 -- a face of at most 32 corners, and faces of at most 32 corners each, with room for their records
 pub record AFace (part o : List ℕ) (at : ℕ) : Type 0 where
   pub whole : length part % width ≡ 0
@@ -65,10 +53,3 @@ pub record Faces (cs s o : List ℕ) (at : ℕ) : Type 0 where
   pub sound : Sound cs s
   pub small : (k : ℕ) → k < length s → getD s k 0 ≤ ringLimit
   pub fits : Fits (each faceRecord (rings s cs)) o at
-
--- ---- the mesh m can be written to the buffer o
-
-pub record Ready (m : Mesh) (o : List ℕ) : Type 0 where
-  pub accepted : meshNumber m ≡ 0
-  pub are-finite : finiteMesh m ≡ true
-  pub room : fileLength m ≤ length o

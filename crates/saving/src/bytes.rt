@@ -9,8 +9,9 @@ ghost use Rattle.lists.specs.Lists.{each};
 ghost use Rattle.floating.specs.Limits.{finite};
 ghost use Rattle.little.specs.Little.{wordBytes};
 ghost use Rattle.mesh.specs.Mesh.{cornersIn, rings};
-ghost use Rattle.saving.specs.Pieces.{coordinateBytes, headerOf};
-ghost use Rattle.saving.specs.Working.{Stored, Fits, entryRecord, firstRows, faceRecord, Coordinates, AnEntry, Entries, AFace, Faces};
+ghost use Rattle.written.specs.Pieces.{coordinateBytes, headerOf};
+ghost use Rattle.written.specs.Parts.{entryRecord, firstRows, faceRecord};
+ghost use Rattle.saving.specs.Working.{Stored, Fits, Coordinates, AnEntry, Entries, AFace, Faces};
 
 // ---- parts of a record
 

@@ -1,25 +1,20 @@
 // A mesh as a panel file: positions, texture points, normals, faces in their order, end.
 //
-// What is written is said in specs/Pieces.antt, record by record; what the call answers in specs/Answer.antt. The crate `reopened` proves
-// that the reader gives the same mesh back.
+// What is written is said in crate written, record by record (specs/Pieces.antt), and what the call answers (specs/Answer.antt). There it is
+// proved that the reader gives the same mesh back.
 mod bytes;
 
 ghost use mathlib.Core.Path.{_≡_};
 ghost use Rattle.mesh.specs.Mesh.{meshOf};
 ghost use Rattle.mesh.specs.Table.{meshNumber};
 ghost use Rattle.floating.specs.Limits.{allFinite};
-ghost use Rattle.saving.specs.Pieces.{fileOf, fileLength};
-ghost use Rattle.saving.specs.Answer.{savingNumber, PanelWritten};
-ghost use Rattle.saving.specs.Working.{Stored, Ready};
+ghost use Rattle.written.specs.Pieces.{fileOf, fileLength};
+ghost use Rattle.written.specs.Answer.{savingNumber, PanelWritten, Ready};
+ghost use Rattle.saving.specs.Working.{Stored};
+pub use written::Saved;
 
 // How long the largest file is that a mesh can make.
 pub const FILE: usize = 76 * mesh::ENTRIES + 5 * mesh::FACES + 4 * mesh::CORNER_NUMBERS + 4;
-
-// The writer's answer: its number, and how many bytes the file has.
-pub struct Saved {
-    pub number: u32,
-    pub length: usize,
-}
 
 // Writes a mesh as a panel file into a lent buffer.
 //

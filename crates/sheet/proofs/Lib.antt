@@ -1,4 +1,2 @@
-pub mod Reading
-pub mod Cleaning
-pub mod Finding
+pub mod Left
 pub mod Printing

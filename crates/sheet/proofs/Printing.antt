@@ -8,23 +8,22 @@ use lib.ListN.{length, take}
 use lib.Seq.{sets}
 use borrow.Author.Tests.{lt-ltb, le-ltb}
 use Rattle.mesh.specs.Limits.{width, cornerNumbers}
-use Rattle.mesh.specs.Mesh.{Mesh, faces, positionCount, textureCount, normalCount}
+use Rattle.mesh.specs.Mesh.{Mesh, rings, faces, positionCount, textureCount, normalCount}
 use Rattle.mesh.specs.Table.{firstOf, short, meshNumber}
 use Rattle.mesh.proofs.Accepted.{Accepted, accepted}
 use Rattle.edges.proofs.Answering.{edged}
 use Rattle.keys.proofs.Valid.{keyable}
 use Rattle.lines.specs.Lines.{sheetText, sheetRoom, refusal}
 use Rattle.lines.specs.Working.{Sheeted}
-use Rattle.panelfile.specs.declared.MeshRead.{MeshRead}
-use Rattle.panelfile.specs.Reading.{readingNumber, panelMesh}
+use Rattle.reading.specs.declared.MeshRead.{MeshRead}
+use Rattle.reading.specs.Reading.{readingNumber, panelMesh}
 use Rattle.cleaning.specs.Cleaning.{cleaned}
-use Rattle.sheet.specs.Sheet.{foundIn, printed, fileLimit, fileNumber, sheetOf, sheetNumber, Printed}
-use Rattle.sheet.specs.Working.{Kept, Cleaned, Findable, foundOf}
+use Rattle.finding.specs.Found.{foundOf, foundIn}
+use Rattle.finding.specs.Working.{Findable}
+use Rattle.sheet.specs.Sheet.{printed, fileLimit, fileNumber, sheetOf, sheetNumber, Printed}
+use Rattle.sheet.specs.Working.{Kept, Cleaned}
 
 -- ---- the file's number, and its mesh after cleaning
-
-pub sheeted-as : {a b out out′ : List ℕ} {n : ℕ} → a ≡ b → Sheeted a out out′ n → Sheeted b out out′ n
-sheeted-as e w = rw (sym e) w
 
 printed-refused : (n : ℕ) (m : Mesh) → (n ≡ 0 → ⊥) → refusal n ≡ printed n m
 unfolding printed
@@ -37,8 +36,8 @@ printed-done zero m h = refl
 printed-done (suc n) m h = cc
 
 -- what is found in a mesh is found by its counts, corners and sizes
-found-by : (m : Mesh) → foundOf (positionCount m) (textureCount m) (normalCount m) (m .corners) (m .sizes) ≡ foundIn m
-unfolding foundOf foundIn faces
+found-by : (m : Mesh) → foundOf (positionCount m) (textureCount m) (normalCount m) (length (m .sizes)) (rings (m .sizes) (m .corners)) ≡ foundIn m
+unfolding foundIn faces
 found-by m = refl
 
 -- what of an accepted mesh the search rests on
@@ -73,7 +72,8 @@ module _ {file c s : List ℕ} {r : MeshRead} (left : Cleaned file r c s) where
     kept-findable room = rw (k .positions, k .textures, k .normals, k .corner-front .is, k .size-front .is) (findable (cleaned (panelMesh file)) (k .accepted) room)
 
     pub kept-text :
-        sheetText (foundOf (r .positions) (r .textures) (r .normals) (take (width * r .corners) c) (take (r .faces) s))
+        sheetText
+        (foundOf (r .positions) (r .textures) (r .normals) (length (take (r .faces) s)) (rings (take (r .faces) s) (take (width * r .corners) c)))
         ≡ printed (readingNumber [] file) (panelMesh file)
     kept-text =
         rw (k .positions, k .textures, k .normals, k .corner-front .is, k .size-front .is)

@@ -1,36 +1,18 @@
 -- The sheet of a panel file (added), as document 01, 'The panel file and the sheet', has it: from the file's bytes to the sheet's.
--- Its lines stand in lines' specs/Lines.antt. Assumes nothing.
+-- What it says of a mesh stands in finding's specs/Found.antt, its lines in lines' specs/Lines.antt. Assumes nothing.
 use Prim.Native.Nat.{ℕ, zero, suc, _≤_}
 use mathlib.Core.Path.{_≡_}
-use mathlib.Core.Bool.{cond, false}
-use mathlib.Core.Option.{none, some}
 use mathlib.Core.List.{List, [], _∷_}
 use lib.ListN.{length}
 use lib.Seq.{sets}
 use lib.Dec.{ltb}
-use Rattle.mesh.specs.Mesh.{Mesh, faces, positionCount, textureCount, normalCount}
+use Rattle.mesh.specs.Mesh.{Mesh}
 use Rattle.mesh.specs.Table.{when, firstOf, lent, short, after}
-use Rattle.panelfile.specs.Reading.{readingNumber, panelMesh}
+use Rattle.reading.specs.Reading.{readingNumber, panelMesh}
 use Rattle.cleaning.specs.Cleaning.{cleaned}
-use Rattle.edges.specs.Edges.{edgesOf, verdict}
-use Rattle.turning.specs.Turning.{houseWiresOf}
-use Rattle.house.specs.Answers.{wired}
-use Rattle.panels.specs.Panels.{panels}
-use Rattle.lines.specs.Lines.{Found, sheetText, sheetRoom, refusal}
+use Rattle.lines.specs.Lines.{sheetText, sheetRoom, refusal}
+use Rattle.finding.specs.Found.{foundIn}
 use Rattle.sheet.specs.declared.Answer.{Answer}
-
--- positions, texture points, normals, faces; the verdict; panels without the normals setting; the house wires, where the verdict allows
--- them
-unfoldable pub foundIn : Mesh → Found
-foundIn m = record {
-  positions = positionCount m;
-  textures = textureCount m;
-  normals = normalCount m;
-  faces = length (m .sizes);
-  verdict = verdict (edgesOf (faces m));
-  panels = length (panels false (faces m));
-  wires = cond (wired (verdict (edgesOf (faces m)))) (some (houseWiresOf (faces m))) none;
-}
 
 -- a refused file prints only `refused` and its number; any other the sheet of its mesh after cleaning
 unfoldable pub printed : ℕ → Mesh → List ℕ

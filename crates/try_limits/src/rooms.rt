@@ -2,8 +2,8 @@
 // sheet with exactly its room, and with one byte less.
 use crate::fronts;
 use crate::show;
-use compaction::Compacted;
 use mesh::MISSING;
+use unused::Compacted;
 
 // Compaction: the number, and the counts of positions, texture points and normals.
 pub(crate) fn compaction_rooms() {

@@ -1,4 +1,4 @@
-// Cases of the calls that go by faces: those that lend nothing, mesh_number, face and shell_condition, in `removal` the one that lends
+// Cases of the calls that go by faces: those that lend nothing, mesh_number, face and shell_condition, in `removing` the one that lends
 // three lists of u32, and in `pairs` those that lend two.
 //
 // `list` is the list of answers, `at` where the case's own words begin; then come the five lists of the mesh.
@@ -6,11 +6,11 @@ use crate::cases;
 use crate::cases::Outcome;
 use crate::list;
 use crate::pairs;
-use crate::removal;
+use crate::removing;
 use edges::Judged;
 use edges::ShellCondition;
 
-// The calls that lend nothing, by the kind of their records; `removal` and `pairs` have the others.
+// The calls that lend nothing, by the kind of their records; `removing` and `pairs` have the others.
 const MESH_NUMBER: u32 = 1;
 
 const FACE: u32 = 2;
@@ -40,8 +40,8 @@ pub(crate) fn ask(
     if kind == VERDICT {
         return shell_condition(list, at, positions, textures, normals, corners, sizes);
     }
-    if kind == removal::REMOVAL {
-        return removal::ask(list, at, positions, textures, normals, corners, sizes);
+    if kind == removing::REMOVAL {
+        return removing::ask(list, at, positions, textures, normals, corners, sizes);
     }
     pairs::two_lists(list, at, kind, positions, textures, normals, corners, sizes)
 }

@@ -4,7 +4,7 @@
 use crate::bytes;
 use crate::cases::Outcome;
 use crate::list;
-use crate::reading;
+use crate::reader;
 
 // The calls, by the kind of their records.
 pub const READING: u32 = 11;
@@ -32,7 +32,7 @@ fn ask_in(list: &[u8], subject: usize, kind: u32, at: usize, all: &mut [u8]) -> 
 
 fn ask_of(list: &[u8], kind: u32, at: usize, file: &[u8]) -> Outcome {
     if kind == READING {
-        return reading::read_panel(list, at, file);
+        return reader::read_panel(list, at, file);
     }
     bytes::clean_panel(list, at, file)
 }

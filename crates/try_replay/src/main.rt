@@ -15,8 +15,8 @@ mod lent;
 mod list;
 mod pairs;
 mod questions;
-mod reading;
-mod removal;
+mod reader;
+mod removing;
 mod surfaces;
 mod tally;
 

@@ -1,5 +1,5 @@
 -- `barleyhinge::bh_read_panel` meets its contract: what the call promises of its answer, taken apart. Assumes nothing.
-use Rattle.panelfile.specs.Answer.{PanelRead}
+use Rattle.reading.specs.Answer.{PanelRead}
 use Rattle.barleyhinge.proofs.Taken.{taken}
 use borrow.Author.Needs.{needs}
 use Rattle.barleyhinge.proofs.bh_read_panel.Statement.{statement}

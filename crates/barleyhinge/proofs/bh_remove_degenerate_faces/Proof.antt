@@ -1,5 +1,5 @@
 -- `barleyhinge::bh_remove_degenerate_faces` meets its contract: what the call promises of its answer, taken apart. Assumes nothing.
-use Rattle.folded.specs.Folded.{Removal}
+use Rattle.removal.specs.Folded.{Removal}
 use Rattle.barleyhinge.proofs.Taken.{taken}
 use borrow.Author.Needs.{needs}
 use Rattle.barleyhinge.proofs.bh_remove_degenerate_faces.Statement.{statement}

@@ -1,5 +1,5 @@
 -- `barleyhinge::bh_remove_unused_attrs` meets its contract: what the call promises of its answer, taken apart. Assumes nothing.
-use Rattle.compaction.specs.Compaction.{Compaction}
+use Rattle.unused.specs.Compaction.{Compaction}
 use Rattle.barleyhinge.proofs.Taken.{taken}
 use borrow.Author.Needs.{needs}
 use Rattle.barleyhinge.proofs.bh_remove_unused_attrs.Statement.{statement}

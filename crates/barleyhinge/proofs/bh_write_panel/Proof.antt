@@ -1,5 +1,5 @@
 -- `barleyhinge::bh_write_panel` meets its contract: what the call promises of its answer, taken apart. Assumes nothing.
-use Rattle.saving.specs.Answer.{PanelWritten}
+use Rattle.written.specs.Answer.{PanelWritten}
 use Rattle.barleyhinge.proofs.Taken.{taken}
 use borrow.Author.Needs.{needs}
 use Rattle.barleyhinge.proofs.bh_write_panel.Statement.{statement}

@@ -4,7 +4,7 @@ use Prim.Native.Nat.{_/_, _-_}
 use mathlib.Core.Path.{refl, _∙_}
 use lib.ListN.{length}
 use Rattle.mesh.specs.Limits.{width}
-use Rattle.compaction.specs.Compaction.{resultOf}
+use Rattle.unused.specs.Compaction.{resultOf}
 use Rattle.compaction.proofs.Loop.{Going, going-begins, going-turns, going-ends, going-long, column-before, column-few, column-long}
 use borrow.Author.Needs.{needs}
 use native.Mathlib.Omega.{arith}

@@ -1,7 +1,7 @@
 -- `compaction::remove_unused_attrs` meets its contract: each refusal is a row of the table, and what is left is `compact`; the laws stand in
 -- proofs/Answer.antt.
 use mathlib.Core.Path.{sym, _∙_}
-use Rattle.compaction.proofs.Answer.{refused-mesh, refused-corners, refused-positions, refused-textures, refused-normals, ready, done}
+use Rattle.unused.proofs.Answer.{refused-mesh, refused-corners, refused-positions, refused-textures, refused-normals, ready, done}
 use borrow.Author.Needs.{needs}
 use Rattle.compaction.proofs.remove_unused_attrs.Statement.{statement}
 use Rattle.compaction.proofs.remove_unused_attrs.Tie as tie

@@ -2,7 +2,7 @@
 use Prim.Native.Nat.{_-_}
 use lib.ListN.{length}
 use Rattle.mesh.proofs.Walking.{walk-here, walk-fits}
-use Rattle.folded.proofs.Unfolded.{Looking, looking-begins, looking-face, looking-turns, looking-finds, looking-ends}
+use Rattle.folded.proofs.Looking.{Looking, looking-begins, looking-face, looking-turns, looking-finds, looking-ends}
 use borrow.Author.Needs.{needs}
 use native.Mathlib.Omega.{arith}
 use Rattle.folded.proofs.any_folded.Statement.{statement}

@@ -1,7 +1,7 @@
 -- `folded::keep_all` meets its contract: the lists of corners and sizes are those of the faces, and each face has its own number. Assumes nothing.
 use mathlib.Core.Path.{sym}
 use lib.Seq.{length-take-le}
-use Rattle.folded.proofs.Unfolded.{few-numbers, left-all, faces-few}
+use Rattle.folded.proofs.Keeping.{few-numbers, left-all, faces-few}
 use native.Mathlib.Omega.{arith}
 use borrow.Author.Needs.{needs}
 use Rattle.folded.proofs.keep_all.Statement.{statement}

@@ -1,6 +1,6 @@
 -- `folded::remove` meets its contract: where no face is folded, all of them are what is left. Assumes nothing.
 use mathlib.Core.Path.{sym, _∙_}
-use Rattle.folded.proofs.Unfolded.{left-same}
+use Rattle.removal.proofs.Unfolded.{left-same}
 use borrow.Author.Needs.{needs}
 use Rattle.folded.proofs.remove.Statement.{statement}
 use Rattle.folded.proofs.remove.Tie as tie

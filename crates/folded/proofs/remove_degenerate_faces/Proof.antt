@@ -1,6 +1,6 @@
 -- `folded::remove_degenerate_faces` meets its contract: each way out gives its row of the table, and 0 the faces that are left. Assumes nothing.
 use mathlib.Core.Path.{sym, _∙_}
-use Rattle.folded.proofs.Answer.{refused-mesh, refused-corners, refused-sizes, refused-origins, given, done}
+use Rattle.removal.proofs.Answer.{refused-mesh, refused-corners, refused-sizes, refused-origins, given, done}
 use borrow.Author.Needs.{needs}
 use Rattle.folded.proofs.remove_degenerate_faces.Statement.{statement}
 use Rattle.folded.proofs.remove_degenerate_faces.Tie as tie

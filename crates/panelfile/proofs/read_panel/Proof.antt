@@ -1,7 +1,7 @@
 -- `panelfile::read_panel` meets its contract: rooms first, then the number at the end, then the mesh. Assumes nothing.
 use mathlib.Core.Path.{sym, _∙_}
-use Rattle.panelfile.proofs.Ending.{not-short}
-use Rattle.panelfile.proofs.Calling.{call-short, call-refused, call-done}
+use Rattle.reading.proofs.Ending.{not-short}
+use Rattle.reading.proofs.Calling.{call-short, call-refused, call-done}
 use borrow.Author.Needs.{needs}
 use Rattle.panelfile.proofs.read_panel.Statement.{statement}
 use Rattle.panelfile.proofs.read_panel.Tie as tie

@@ -1,7 +1,7 @@
 -- `saving::file_length` meets its contract: an accepted mesh is within the limits, so that the sum fits. Assumes nothing.
 use mathlib.Core.Path.{refl}
 use Rattle.mesh.proofs.Accepted.{accepted}
-use Rattle.saving.specs.Pieces.{fileLength}
+use Rattle.written.specs.Pieces.{fileLength}
 use native.Mathlib.Omega.{arith}
 use borrow.Author.Needs.{needs}
 use Rattle.saving.proofs.file_length.Statement.{statement}

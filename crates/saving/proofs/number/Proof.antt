@@ -1,6 +1,6 @@
 -- `saving::number` meets its contract: row after row. Assumes nothing.
 use mathlib.Core.Path.{sym, _∙_}
-use Rattle.saving.proofs.Saving.{number-first, number-broken, number-short, number-well}
+use Rattle.written.proofs.Numbers.{number-first, number-broken, number-short, number-well}
 use borrow.Author.Needs.{needs}
 use borrow.Author.Tests.{not-true, not-false}
 use Rattle.saving.proofs.number.Statement.{statement}

@@ -1,6 +1,7 @@
 -- `saving::write_panel` meets its contract: a mesh whose number is 0 can be written. Assumes nothing.
 use mathlib.Core.Path.{sym, _∙_}
-use Rattle.saving.proofs.Saving.{ready, call-refused, call-done}
+use native.Mathlib.Nat.{zero-add}
+use Rattle.written.proofs.Numbers.{ready, call-refused, call-done}
 use borrow.Author.Needs.{needs}
 use Rattle.saving.proofs.write_panel.Statement.{statement}
 use Rattle.saving.proofs.write_panel.Tie as tie
@@ -27,7 +28,8 @@ returns-2 c =
     let at-put-mesh = c .before .before in
     let at-if1 = at-put-mesh .before .before in
     let at-number = at-if1 .before in
-    call-done _ _ _ _ (sym (sym (at-number .number .ensures) ∙ at-if1 .if1 .left)) (at-put-mesh .put-mesh .ensures)
+    let stored = at-put-mesh .put-mesh .ensures in
+    call-done _ _ _ _ (sym (sym (at-number .number .ensures) ∙ at-if1 .if1 .left)) (stored .file) (stored .place ∙ zero-add _)
 
 pub write-panel-spec : {M : Type 1} → statement M
 write-panel-spec =

@@ -6,7 +6,7 @@ use lib.Ieee.{nan}
 use denote.Ref.{now}
 use Rattle.lists.proofs.Parts.{every-at}
 use Rattle.floating.specs.Limits.{finite}
-use Rattle.saving.specs.Pieces.{coordinateBytes}
+use Rattle.written.specs.Pieces.{coordinateBytes}
 use Rattle.saving.proofs.Storing.{coordinate-stored}
 use Rattle.saving.proofs.Listing.{Putting, putting-begins, putting-turns, putting-ends, coordinate-room}
 use borrow.Author.Needs.{needs}

@@ -1,5 +1,6 @@
 -- `saving::bytes::put_entry` meets its contract: a header and the coordinates. Assumes nothing.
-use Rattle.saving.proofs.Entries.{length-entry, coordinates-fit, entry-stored}
+use Rattle.written.proofs.Lengths.{length-entry}
+use Rattle.saving.proofs.Entries.{coordinates-fit, entry-stored}
 use denote.Ref.{now}
 use native.Mathlib.Omega.{arith}
 use borrow.Author.Needs.{needs}

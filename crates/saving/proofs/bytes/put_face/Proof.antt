@@ -2,8 +2,8 @@
 use Prim.Native.Nat.{_+_, _*_}
 use lib.ListN.{length}
 use denote.Ref.{now}
-use Rattle.saving.proofs.Storing.{length-header}
-use Rattle.saving.proofs.Faces.{length-words, length-face-record, face-stored}
+use Rattle.written.proofs.Lengths.{length-header, length-words, length-face-record}
+use Rattle.saving.proofs.Faces.{face-stored}
 use native.Mathlib.Omega.{arith}
 use borrow.Author.Needs.{needs}
 use Rattle.saving.proofs.bytes.put_face.Statement.{statement}

@@ -1,0 +1,4 @@
+pub mod Passing
+pub mod Scratch
+pub mod Telling
+pub mod Behind

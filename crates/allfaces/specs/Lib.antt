@@ -1,0 +1,2 @@
+-- steps of the code; the rules stand in removal's specs/
+pub mod Working

@@ -1,3 +1,0 @@
-pub mod Compaction
-pub mod Working
-pub mod Promises

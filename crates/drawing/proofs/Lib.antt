@@ -1,0 +1,4 @@
+pub mod Looping
+pub mod Fronts
+pub mod Ending
+pub mod Handing

@@ -1,0 +1,2 @@
+-- steps of the code; the rules stand in unused's specs/
+pub mod Working

@@ -1,7 +1,0 @@
-pub mod Sane
-pub mod Values
-pub mod Looping
-pub mod Fronts
-pub mod Ending
-pub mod Handing
-pub mod Calling

@@ -1,0 +1,4 @@
+pub mod Sane
+pub mod Values
+pub mod Ending
+pub mod Calling

@@ -1,0 +1,10 @@
+pub mod Result
+pub mod Accepted
+pub mod Unfolded
+pub mod TwoParts
+pub mod Answer
+pub mod Examples
+pub mod Testing
+pub mod CameFrom
+pub mod Ascending
+pub mod Origins

@@ -1,0 +1,9 @@
+pub mod Uses
+pub mod Entries
+pub mod Renumbering
+pub mod Accepting
+pub mod Answer
+pub mod Columns
+pub mod Laws
+pub mod Again
+pub mod Using

@@ -1,0 +1,10 @@
+pub mod Lengths
+pub mod Parting
+pub mod Numbers
+pub mod Bodies
+pub mod Records
+pub mod Taking
+pub mod Saying
+pub mod Reopened
+pub mod Reading
+pub mod Calls
