@@ -25,8 +25,8 @@
    MEMORY. No call allocates, and none keeps anything: there are no statics, so calls may run side by side, each with lists of its own to
    write; lists that are only read may be shared. A lent list need not be initialised. What a call needs beside its lists is stack, in KB
    of 1,024 bytes, measured on x86-64 by tools/measure_stack, which also holds these figures to the library; none is proved:
-     bh_sheet 568, bh_clean_panel 556, bh_loop_subdivision 272, bh_components 200, bh_read_panel 192, bh_put_together_same_attrs 192,
-     bh_extract_boundaries 164, bh_house_wires 120, bh_shell_condition 104, bh_hem_edges 104, bh_remove_degenerate_faces 76, bh_remove_unused_attrs 32, bh_push 4,
+     bh_sheet 556, bh_clean_panel 556, bh_loop_subdivision 272, bh_components 200, bh_read_panel 192, bh_put_together_same_attrs 192,
+     bh_extract_boundaries 160, bh_house_wires 120, bh_shell_condition 104, bh_hem_edges 104, bh_remove_degenerate_faces 76, bh_remove_unused_attrs 32, bh_push 4,
      bh_write_panel 4, bh_mesh_number 4, bh_face 4
 
    What is promised is proved for every input: each call's contract stands in crates/barleyhinge/src/lib.rt. */
