@@ -33,11 +33,12 @@
 #ifndef BARLEYHINGE_H
 #define BARLEYHINGE_H
 
-/* The version of this interface. */
+/* The version of this interface. Since 0.8.0 a face may have 300 corners, where it was 32: compile anew what has arrays of BH_MAX_FACE_CORNERS. A panel
+   file has a face of more than 32 corners as a record of kind 5, which an older reader refuses by 12. No function has another signature. */
 #define BH_VERSION_MAJOR 0
-#define BH_VERSION_MINOR 7
+#define BH_VERSION_MINOR 8
 #define BH_VERSION_PATCH 0
-#define BH_VERSION "0.7.0"
+#define BH_VERSION "0.8.0"
 
 #include <stdbool.h>
 #include <stddef.h>
@@ -55,7 +56,7 @@ enum bh_limit {
     BH_MAX_ENTRIES = 2048,
     BH_MAX_CORNERS = 4096,
     BH_MAX_FACES = 1365,
-    BH_MAX_FACE_CORNERS = 32,
+    BH_MAX_FACE_CORNERS = 300,
     BH_COSINES = 64,      /* values in a list of cosines, and the most neighbours of a position that is smoothed */
     BH_MAX_FILE = 65536,  /* bytes of a panel file that has a sheet; of a longer one the sheet is 'refused 1' */
     BH_SHEET_ROOM = 65536, /* bytes: room for every sheet */
@@ -67,7 +68,7 @@ enum bh_number {
     BH_DONE = 0,
     BH_OVER_LIMIT = 1,      /* a list is over its limit, or would be in what smoothing gives */
     BH_MISFIT = 2,          /* a length is no multiple of its width, or the sizes don't add up to the corners */
-    BH_FACE_SIZE = 3,       /* a face size lies outside 3 to 32 */
+    BH_FACE_SIZE = 3,       /* a face size lies outside 3 to 300; in a file also: more than 32 corners in a record of kind 4 */
     BH_UNGROUPED = 4,       /* the sizes aren't grouped: triangles, quadrangles, larger faces */
     BH_INDEX = 5,           /* a position index, or another index that isn't missing, is not below its list's count */
     BH_TOLERANCE = 6,       /* the tolerance is not a number from 2^-30 to 1 inclusive */
@@ -98,7 +99,7 @@ static inline const char *bh_text(uint32_t number) {
     case BH_DONE: return "done";
     case BH_OVER_LIMIT: return "a list is over its limit";
     case BH_MISFIT: return "a length is no multiple of its width, or the sizes don't add up to the corners";
-    case BH_FACE_SIZE: return "a face size lies outside 3 to 32";
+    case BH_FACE_SIZE: return "a face size lies outside 3 to 300";
     case BH_UNGROUPED: return "the sizes aren't grouped";
     case BH_INDEX: return "an index is out of range";
     case BH_TOLERANCE: return "the tolerance is not a number from 2^-30 to 1";
@@ -153,7 +154,7 @@ void bh_face(
    other, and 'sizes' how many corners each has, 0 to BH_MAX_FACE_CORNERS.
    Lends two lists, each with the room of the list that it is made from.
    On 0: 3 numbers in 'newcorners' for each of '*cornercount' corners, and '*facecount' sizes.
-   Answers 1, 2, 3 (a face of more than 32 corners) or 9. Indices are not looked at: bh_mesh_number does that, and answers 5. */
+   Answers 1, 2, 3 (a face of more than 300 corners) or 9. Indices are not looked at: bh_mesh_number does that, and answers 5. */
 uint32_t bh_push(
     const uint32_t *corners, size_t corners_len,
     const uint32_t *sizes, size_t sizes_len,
@@ -321,7 +322,7 @@ uint32_t bh_components(
    On 0: the lists are a mesh, with so many positions, texture points, normals, corners and faces as the five counts say, and every
    coordinate is finite.
    Answers, in this order: 9; record by record 11 header cut, 12 kind, 12 length, 11 body cut, 12 a face's own count is not that of its
-   length, 3 a face of more than 32 corners, 14 a coordinate that is not finite, 1 limit; then 13; then 5. */
+   length, 3 a face of more than 32 corners in kind 4 or of more than 300 in kind 5, 14 a coordinate that is not finite, 1 limit; then 13; then 5. */
 uint32_t bh_read_panel(
     const uint8_t *file, size_t file_len,
     double *positions, size_t positions_len,
@@ -337,8 +338,9 @@ uint32_t bh_read_panel(
 
 /* Writes a mesh as a panel file: positions, texture points, normals, faces in their order, end. bh_read_panel of what was written gives the
    same mesh, bit for bit, and a mesh that was read from a written file is written as the same bytes.
-   Lends 'file', with room for the whole file: 28 bytes for a position or a normal, 20 for a texture point, 5 for a face and 12 for each
-   of its corners, 4 for the end; BH_FILE_ROOM bytes are enough for every mesh.
+   A face of up to 32 corners is a record of kind 4, a larger one of kind 5.
+   Lends 'file', with room for the whole file: 28 bytes for a position or a normal, 20 for a texture point, 5 for a face of up to 32 corners,
+   6 for a larger one, and 12 for each corner of it, 4 for the end; BH_FILE_ROOM bytes are enough for every mesh.
    On 0: '*length' bytes in 'file'.
    May also answer 14, where a coordinate is not finite, of an entry that no corner uses too; then 9, where 'file' is shorter than the
    whole file. */

@@ -15,6 +15,8 @@ MERGING = "crates/together/specs/Merging.antt"
 PORTED = "crates/ported/specs/Answers.antt"
 HOUSE = "crates/house/specs/Answers.antt"
 RECORDS = "crates/records/specs/Records.antt"
+LENGTHS = "crates/records/specs/Lengths.antt"
+RECORD_CONSTS = "crates/records/src/lib.rt"
 READING = "crates/reading/specs/Reading.antt"
 LINES = "crates/lines/specs/Lines.antt"
 PIECES = "crates/written/specs/Pieces.antt"
@@ -35,7 +37,7 @@ REPLAY = "crates/try_replay/src/tally.rt"
 DAMAGED = "crates/try_damaged/src/main.rt"
 ORACLE = "oracle/judge/src/reading/numbers.rs"
 SOURCES = (
-    LIMITS, CONSTS, MESH, TABLE, COMPACTION, MERGING, PORTED, HOUSE, RECORDS, READING, PIECES, SAVING, WRITER, CLEANING, LINES, SHEET, SHEET_CONSTS, ANSWERS,
+    LIMITS, CONSTS, MESH, TABLE, COMPACTION, MERGING, PORTED, HOUSE, RECORDS, LENGTHS, RECORD_CONSTS, READING, PIECES, SAVING, WRITER, CLEANING, LINES, SHEET, SHEET_CONSTS, ANSWERS,
     FACES, FOLDED, SMOOTHED, FOURFOLD, SMOOTHABLE, EDGES, PANELS, REPLAY, DAMAGED, ORACLE,
 )
 
@@ -88,6 +90,12 @@ OTHER_ROWS = {
     "NO_HOUSE_WIRES": (SMOOTHED, r"when \(unoriented m\) (\d+)"),
     "OVER_LIMIT": (SMOOTHED, r"when \(overLimits \(resultOf m ones twos\)\) (\d+)"),
     "ROOM": (SMOOTHED, r"when \(tooShort m r\) (\d+)"),
+}
+# The most corners of a face of kind 4, which no limit of the interface is.
+SMALL_FACE = {
+    LENGTHS: r"^byteFaceLimit = (\d+)$",
+    RECORD_CONSTS: r"const BYTE_FACE: usize = (\d+);",
+    "rust/barleyhinge/src/lib.rs": r"fn wide_faces\(self\) -> usize \{\n        self\.sizes\.iter\(\)\.filter\(\|size\| \*\*size > (\d+)\)\.count\(\)\n    \}",
 }
 # Where it is said how many numbers there are, 0 among them.
 COUNTS = {path: r"^(?:pub )?const NUMBERS: \w+ = (\d+);$" for path in (REPLAY, DAMAGED, ORACLE)}
@@ -165,12 +173,14 @@ def verdicts_of(texts):
     return {name: only_one(texts, ANSWERS, rf"^verdictNumber Verdict\.{name} = (\d+)$") for name in VERDICTS}
 
 
-# ---- rooms: an expression of the rules and one of the wrapper are the same where they are so on these meshes
+# ---- rooms: an expression of the rules and one of the wrapper are the same where they are so on these meshes; 'wide' is how many faces have more corners
+# than a record of kind 4 holds
 
 SAMPLES = (
-    {"positions": 6144, "textures": 4096, "normals": 6144, "corners": 12288, "sizes": 1365},
-    {"positions": 33, "textures": 14, "normals": 9, "corners": 210, "sizes": 17},
-    {"positions": 3, "textures": 0, "normals": 0, "corners": 15, "sizes": 1},
+    {"positions": 6144, "textures": 4096, "normals": 6144, "corners": 12288, "sizes": 1365, "wide": 0},
+    {"positions": 33, "textures": 14, "normals": 9, "corners": 210, "sizes": 17, "wide": 1},
+    {"positions": 3, "textures": 0, "normals": 0, "corners": 15, "sizes": 1, "wide": 0},
+    {"positions": 900, "textures": 0, "normals": 0, "corners": 11700, "sizes": 13, "wide": 13},
 )
 
 
@@ -222,7 +232,9 @@ def counted(words):
 
 def file_length(texts):
     """How long the whole file of a mesh is, by the rules, in this tool's words."""
-    words = counted(words_at(texts, PIECES, r"^fileLength m =\s+(.*)$"))
+    words = counted(words_at(texts, PIECES, r"^fileLength m =\s+(.*)$")).replace("count wide (m .sizes)", "wide")
+    if words_at(texts, PIECES, r"^wide n = (.*)$") != "ltb byteFaceLimit n":
+        raise Unreadable("which faces are wide")
     return re.sub(r"\blength \(m \.(\w+)\)", r"\1", words)
 
 
@@ -300,6 +312,11 @@ def lent_rooms(text):
     return rooms
 
 
+def small_face(texts):
+    """The most corners of a face of kind 4, by the rules, by the code, and by the wrapper, which counts the faces that have more."""
+    return tuple(only_one(texts, path, pattern) for path, pattern in SMALL_FACE.items())
+
+
 def room_of_wrapper(words):
-    words = words.replace("self.corner_count()", "(corners / 3)")
+    words = words.replace("self.corner_count()", "(corners / 3)").replace("self.wide_faces()", "wide")
     return re.sub(r"\b(?:self\.)?(\w+)\.len\(\)", r"\1", words)

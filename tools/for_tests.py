@@ -33,8 +33,9 @@ def faces(data):
     """The faces of a panel file, as lists of corners."""
     out = []
     for kind, body in records(data):
-        if kind == 4:
-            flat = struct.unpack(f"<{3 * body[0]}I", body[1:])
+        if kind in (4, 5):
+            count = struct.unpack_from("<B" if kind == 4 else "<H", body)[0]
+            flat = struct.unpack(f"<{3 * count}I", body[kind - 3 :])
             out.append([flat[i : i + 3] for i in range(0, len(flat), 3)])
     return out
 

@@ -1,4 +1,4 @@
-"""The panel file of document 01, for the tools: its limits, its records, a writer, and a reader that refuses by the same numbers.
+"""The panel file of document 01, with the second kind of face of document 02, for the tools: its limits, its records, a writer, and a reader that refuses by the same numbers.
 
 Outside the proofs. The numbers of a refusal have their words in refusals.txt, which ./meshsheet and ./meshclean read too; LONGEST in
 them is how many bytes a file may have, for these tools as many as have a sheet.
@@ -10,11 +10,13 @@ import sys
 
 ENTRIES = 2048
 CORNERS = 4096
-CORNERS_OF_A_FACE = 32
+CORNERS_OF_A_FACE = 300
 BYTES = 65536
 MISSING = 0xFFFFFFFF
 
-END, FACE = 0, 4
+END, FACE, LARGE_FACE = 0, 4, 5
+# The kinds of face: how many bytes the count has, the fewest corners and the most that a length may say, and the most that are taken.
+FACES = {FACE: (1, 0, 255, 32), LARGE_FACE: (2, 33, 5461, CORNERS_OF_A_FACE)}
 # Positions, texture points and normals: the number of the record, and how many coordinates it holds.
 WIDTHS = {1: 3, 2: 2, 3: 3}
 HEADER = 4
@@ -47,10 +49,16 @@ def entry_record(kind, numbers):
     return record(kind, struct.pack(f"<{WIDTHS[kind]}d", *numbers))
 
 
+def kind_of_face(corners):
+    """The kind that a face of so many corners is written with."""
+    return FACE if corners <= FACES[FACE][3] else LARGE_FACE
+
+
 def face_record(corners):
     """A face of corners (position, texture point, normal), None where one is missing."""
     flat = [MISSING if i is None else i for corner in corners for i in corner]
-    return record(FACE, struct.pack(f"<B{len(flat)}I", len(corners), *flat))
+    kind = kind_of_face(len(corners))
+    return record(kind, len(corners).to_bytes(FACES[kind][0], "little") + struct.pack(f"<{len(flat)}I", *flat))
 
 
 def size_of_entry(kind):
@@ -58,7 +66,7 @@ def size_of_entry(kind):
 
 
 def size_of_face(corners):
-    return HEADER + 1 + 12 * corners
+    return HEADER + FACES[kind_of_face(corners)][0] + 12 * corners
 
 
 def words_of(number):
@@ -73,8 +81,9 @@ def refuse(number):
 
 
 def wrong_length(kind, length):
-    if kind == FACE:
-        return length % 12 != 1 or length > 1 + 12 * 255
+    if kind in FACES:
+        count, fewest, most, _ = FACES[kind]
+        return (length - count) % 12 != 0 or not fewest <= (length - count) // 12 <= most
     return length != (0 if kind == END else 8 * WIDTHS[kind])
 
 
@@ -86,7 +95,7 @@ def records_of(data):
             refuse(11)
         length, kind = struct.unpack_from("<HH", data, at)
         at += HEADER
-        if kind not in (END, FACE, *WIDTHS) or wrong_length(kind, length):
+        if kind not in (END, *WIDTHS, *FACES) or wrong_length(kind, length):
             refuse(12)
         if len(data) < at + length:
             refuse(11)
@@ -98,13 +107,15 @@ def records_of(data):
         refuse(13)
 
 
-def face_of(body):
-    """The corners of a face, None where an index is missing."""
-    if len(body) != 1 + 12 * body[0]:
+def face_of(kind, body):
+    """The corners of a face of this kind, None where an index is missing."""
+    count, _, _, most = FACES[kind]
+    corners = int.from_bytes(body[:count], "little")
+    if len(body) != count + 12 * corners:
         refuse(12)
-    if body[0] > CORNERS_OF_A_FACE:
+    if corners > most:
         refuse(3)
-    flat = [None if i == MISSING else i for i in struct.unpack(f"<{3 * body[0]}I", body[1:])]
+    flat = [None if i == MISSING else i for i in struct.unpack(f"<{3 * corners}I", body[count:])]
     return [tuple(flat[i : i + 3]) for i in range(0, len(flat), 3)]
 
 
@@ -115,14 +126,14 @@ def read(data):
     entries = {kind: [] for kind in WIDTHS}
     faces, seen, corners = [], 0, 0
     for kind, body in records_of(data):
-        if kind != FACE:
+        if kind not in FACES:
             entries[kind].append(struct.unpack(f"<{WIDTHS[kind]}d", body))
             if not all(map(math.isfinite, entries[kind][-1])):
                 refuse(14)
             if len(entries[kind]) > ENTRIES:
                 refuse(1)
             continue
-        face = face_of(body)
+        face = face_of(kind, body)
         if len(face) >= 3:
             corners += len(face)
             if corners > CORNERS:

@@ -1,12 +1,13 @@
 #!/usr/bin/env python3
-"""oracle/bench/table.py TIMES..: the table of docs/BENCHMARKS.md from the lines of the benchmark, the least of several files.
+"""oracle/bench/table.py [--round] TIMES..: the table of docs/BENCHMARKS.md from the lines of the benchmark, the least of several files.
 
 A line has tabs: call, mesh, corners, our nanoseconds, the Rust's. Below the table stands how each goal came out, and where ours is the
-slower one.
+slower one. With --round it is the table of faces of 300 corners, whose goals are those of what looks at faces.
 """
 import sys
 
 SIZES = (256, 1024, 4096)
+ROUND_SIZES = (300, 1200, 3900)
 SPREAD = "spread points"
 # Ours/Rust: calls, the most that it may be, and the meshes, all where none are named. It is asked of every mesh at every size.
 RATIOS = (
@@ -53,31 +54,35 @@ def two_places(number):
     return "" if number is None else f"{number:.2f}"
 
 
-def print_table(times):
-    sizes = " | ".join(f"{size:,}" for size in SIZES)
+def print_table(times, of_sizes=SIZES):
+    sizes = " | ".join(f"{size:,}" for size in of_sizes)
     print(f"| Call | Mesh | Ours, µs: {sizes} | Rust, µs: {sizes} | Ours/Rust: {sizes} | Growth: ours | Rust |")
     print("|---" * 13 + "|")
     order = {call: place for place, call in enumerate(dict.fromkeys(call for call, _ in times))}
     for (call, mesh), row in sorted(times.items(), key=lambda item: order[item[0][0]]):
         cells = [f"`{call}`", mesh]
-        cells += [micros(row.get((side, size))) for side in ("ours", "rust") for size in SIZES]
-        cells += [two_places(quotient(row, ("ours", size), ("rust", size))) for size in SIZES]
-        cells += [two_places(quotient(row, (side, SIZES[-1]), (side, SIZES[0]))) for side in ("ours", "rust")]
+        cells += [micros(row.get((side, size))) for side in ("ours", "rust") for size in of_sizes]
+        cells += [two_places(quotient(row, ("ours", size), ("rust", size))) for size in of_sizes]
+        cells += [two_places(quotient(row, (side, of_sizes[-1]), (side, of_sizes[0]))) for side in ("ours", "rust")]
         print("| " + " | ".join(cells) + " |")
 
 
-def print_goals(times):
+def print_ratios(times, of_sizes, ratios):
     """Each goal on every mesh at every size: where ours comes nearest to missing it or misses it most, and on which meshes it is met."""
-    print("\n## How the goals came out\n")
     print("| Goal | The most | Where | Met on | Not met on |\n|---|---|---|---|---|")
-    for name, calls, most, meshes in RATIOS:
+    for name, calls, most, meshes in ratios:
         found = [
             (quotient(row, ("ours", size), ("rust", size)), f"`{call}`", mesh, f"{size:,}")
             for (call, mesh), row in times.items()
-            for size in SIZES
+            for size in of_sizes
             if call in calls and (not meshes or mesh in meshes)
         ]
         print_goal(f"{name}: ours/Rust at most {most:.1f}", found, most)
+
+
+def print_goals(times):
+    print("\n## How the goals came out\n")
+    print_ratios(times, SIZES, RATIOS)
     grown = [
         (quotient(row, ("ours", SIZES[-1]), ("ours", SIZES[0])), f"`{call}`", mesh, "")
         for (call, mesh), row in times.items()
@@ -116,7 +121,13 @@ def print_slower(times):
 
 
 if __name__ == "__main__":
-    found = least(sys.argv[1:])
-    print_table(found)
-    print_goals(found)
-    print_slower(found)
+    if sys.argv[1] == "--round":
+        found = least(sys.argv[2:])
+        print_table(found, ROUND_SIZES)
+        print()
+        print_ratios(found, ROUND_SIZES, [goal for goal in RATIOS if any((call, mesh) in found for call in goal[1] for _, mesh in found)])
+    else:
+        found = least(sys.argv[1:])
+        print_table(found)
+        print_goals(found)
+        print_slower(found)

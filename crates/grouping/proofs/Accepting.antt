@@ -40,7 +40,7 @@ some-pushed p fs e =
     some-append p (only isTriangle fs ++ only isQuadrangle fs) (only isLarger fs)
     ∙ rw (some-append p (only isTriangle fs) (only isQuadrangle fs), none-left isTriangle p fs e, none-left isQuadrangle p fs e, none-left isLarger p fs e)
 
--- ---- a face in order has from 3 to 32 corners
+-- ---- a face in order has from 3 to 300 corners
 
 abbrev pub sized : Ring → Bool
 sized f = leb 3 (length f) && leb (length f) ringLimit

@@ -84,7 +84,7 @@ even-back m e = rw (eq-eqb _ _ (e .positions), eq-eqb _ _ (e .textures), eq-eqb 
 pub sound : (m : Mesh) → Shaped m → Sound (m .corners) (m .sizes)
 sound m s = record { few = within m (s .within) .sizes; fits = within m (s .within) .corners; adds = even m (s .even) .adds }
 
--- ---- row 3: every size lies from 3 to 32
+-- ---- row 3: every size lies from 3 to 300
 
 pub size-least : (m : Mesh) → misfit m ≡ false → (k : ℕ) → k < length (m .sizes) → leastRing ≤ getD (m .sizes) k 0
 unfolding misfit

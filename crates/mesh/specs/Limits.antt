@@ -20,7 +20,7 @@ abbrev pub leastRing : ℕ
 leastRing = 3
 
 abbrev pub ringLimit : ℕ
-ringLimit = 32
+ringLimit = 300
 
 -- the most positions, texture points or normals, the most corners and the most faces that a mesh may have
 abbrev pub entryLimit : ℕ

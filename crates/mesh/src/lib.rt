@@ -30,7 +30,7 @@ pub const WIDTH: usize = 3;
 // The fewest and the most corners that a face may have.
 pub const LEAST_RING: usize = 3;
 
-pub const RING: usize = 32;
+pub const RING: usize = 300;
 
 // The most positions, texture points or normals, the most corners and the most faces of a mesh.
 pub const ENTRIES: usize = 2048;

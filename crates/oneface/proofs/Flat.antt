@@ -4,13 +4,13 @@ use mathlib.Core.Bool.{true}
 use mathlib.Core.List.{List, [], _∷_, map}
 use Prim.Native.Nat.{ℕ, suc, _+_, _*_, _≤_, _<_}
 use native.Mathlib.Omega.{arith}
-use lib.ListN.{length, getD, take, set, length-map, List·getD-map, drop-of-length-le}
+use lib.ListN.{length, getD, set, length-map, List·getD-map, drop-of-length-le}
 use lib.Seq.{sets}
 use borrow.Author.Tests.{eqb-true}
 use Rattle.lists.specs.Lists.{every, joined}
 use Rattle.lists.proofs.Bools.{and-left, and-right}
 use Rattle.lists.proofs.Writing.{Copying, copy-ends, sets-append}
-use Rattle.lists.proofs.Copies.{front-turns, take-written}
+use Rattle.lists.proofs.Copies.{front-turns, sets-whole}
 use Rattle.mesh.specs.Limits.{width}
 use Rattle.mesh.specs.Mesh.{Corner, Ring, position, cornersIn, cornerAt}
 use Rattle.mesh.proofs.Corners.{isCorner, cornersIn-step, length-cornersIn, getD-cornersIn}
@@ -48,10 +48,10 @@ module _ (cs : List ℕ) (n : ℕ) (h : length cs ≡ width * n) where
       List·getD-map position (cornersIn cs) k [] ∙ ap position (getD-cornersIn cs k (omega arith)) in
       rw e at (front-turns 0 (map position (cornersIn cs)) l l' k (omega arith) c)
 
-  pub places-end : (l l' : List ℕ) (k : ℕ) → n ≤ length l → n ≤ k → Copying (map position (cornersIn cs)) l l' 0 k → take n l' ≡ map position (cornersIn cs)
+  pub places-end : (l l' : List ℕ) (k : ℕ) → length l ≡ n → n ≤ k → Copying (map position (cornersIn cs)) l l' 0 k → l' ≡ map position (cornersIn cs)
   places-end l l' k b a c =
       let m : length (map position (cornersIn cs)) ≡ n = length-map (cornersIn cs) position ∙ corners in
-      ap (take n) (copy-ends 0 (map position (cornersIn cs)) l l' 0 k (omega arith) c) ∙ take-written l (map position (cornersIn cs)) n m b
+      copy-ends 0 (map position (cornersIn cs)) l l' 0 k (omega arith) c ∙ sets-whole l (map position (cornersIn cs)) (m ∙ sym b)
 
 -- ---- corners that are written one behind the other
 

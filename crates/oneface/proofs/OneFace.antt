@@ -4,7 +4,7 @@ use mathlib.Core.Bool.{Bool, true, false}
 use mathlib.Core.List.{List, [], _∷_, map}
 use Prim.Native.Nat.{ℕ, _*_, _≤_, _<_}
 use native.Mathlib.Omega.{arith}
-use lib.ListN.{length, take}
+use lib.ListN.{length, length-map}
 use lib.Dec.{ltb}
 use borrow.Author.Tests.{ltb-true, ltb-false}
 use Rattle.lists.proofs.Bools.{by-cases}
@@ -43,11 +43,9 @@ module _ (face : List ℕ) (n : ℕ) (out lens : List ℕ) (c f : ℕ) (h : Face
     room = rw e (h .room);
   }
 
-  -- a larger face in which the search finds no pair stays
-  pub ring-kept : (ps : List ℕ) (i : ℕ) → take n ps ≡ map position (cornersIn face) → i ≡ firstMated (take n ps) → n ≤ i → ringPieces (cornersIn face) ≡ cornersIn face ∷ []
-  ring-kept ps i e g k =
-      let z : i ≡ firstMated (map position (cornersIn face)) = g ∙ ap firstMated e in
-      pieces-stay position (cornersIn face) (folded-missing position (cornersIn face) (omega (arith, corners))) (omega (arith, corners, h .least))
+  -- a larger face that is not folded stays
+  pub ring-kept : (b : Bool) → b ≡ folded (cornersIn face) → b ≡ false → ringPieces (cornersIn face) ≡ cornersIn face ∷ []
+  ring-kept b e g = pieces-stay position (cornersIn face) (sym e ∙ g) (omega (arith, corners, h .least))
 
   -- by the size
   pub three-pieces : n ≡ 3 → pieces (cornersIn face) ≡ trianglePieces (cornersIn face)
@@ -81,11 +79,15 @@ pub quad-left :
     → quadranglePieces (cornersIn face) ≡ left g (cornersIn face)
 quad-left face quad f g e h k = quadrangle-left (cornersIn face) g (sym k ∙ h ∙ ap foldOf e)
 
--- the search in a larger face says whether it is folded
-pub ring-folded : (face ps : List ℕ) (n i : ℕ) → Corners face n → take n ps ≡ map position (cornersIn face) → i ≡ firstMated (take n ps) → ltb i n ≡ folded (cornersIn face)
-ring-folded face ps n i h e f =
-    let c : length (cornersIn face) ≡ n = length-cornersIn face ∙ (omega (arith, h .wide)) in
+-- a row of as many places as a face has corners
+pub corners-of : (face : List ℕ) (n m : ℕ) → Corners face n → m ≡ n → Corners face m
+corners-of face n m h e = rw e h
+
+-- the search through the positions of a larger face says whether it is folded
+pub ring-folded : (face ps : List ℕ) (i : ℕ) → ps ≡ map position (cornersIn face) → i ≡ firstMated ps → ltb i (length ps) ≡ folded (cornersIn face)
+ring-folded face ps i e f =
+    let c : length ps ≡ length (cornersIn face) = ap length e ∙ length-map (cornersIn face) position in
     let z : i ≡ firstBy position (cornersIn face) = f ∙ ap firstMated e in
-    by-cases (ltb i n)
-    (λ t. t ∙ sym (folded-found position (cornersIn face) (let q : i < n = ltb-true i n t in omega arith)))
-    (λ t. t ∙ sym (folded-missing position (cornersIn face) (let q : n ≤ i = ltb-false i n t in omega arith)))
+    by-cases (ltb i (length ps))
+    (λ t. t ∙ sym (folded-found position (cornersIn face) (let q : i < length ps = ltb-true i (length ps) t in omega arith)))
+    (λ t. t ∙ sym (folded-missing position (cornersIn face) (let q : length ps ≤ i = ltb-false i (length ps) t in omega arith)))

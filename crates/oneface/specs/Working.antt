@@ -6,6 +6,10 @@ use lib.ListN.{length}
 use Rattle.mesh.specs.Limits.{width, leastRing, ringLimit}
 use Rattle.folding.specs.Working.{Room}
 
+-- how long a row for most faces is
+abbrev pub shortRow : ℕ
+shortRow = 32
+
 -- the flat corners of a face of n corners
 pub record Corners (face : List ℕ) (n : ℕ) : Type 0 where
   pub small : n ≤ ringLimit

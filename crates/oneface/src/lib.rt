@@ -3,12 +3,12 @@
 ghost use mathlib.Core.Path.{_≡_};
 ghost use mathlib.Core.List.{[], _∷_, map};
 ghost use Prim.Native.Nat.{_+_, _*_, _<_, _≤_};
-ghost use lib.ListN.{length, take};
+ghost use lib.ListN.{length};
 ghost use Rattle.mesh.specs.Limits.{width};
 ghost use Rattle.mesh.specs.Mesh.{position, cornersIn};
 ghost use Rattle.grouping.specs.Push.{Placed};
 ghost use Rattle.folding.specs.Folding.{folded, trianglePieces, quadranglePieces, ringPieces, pieces};
-ghost use Rattle.oneface.specs.Working.{Corners, Face};
+ghost use Rattle.oneface.specs.Working.{shortRow, Corners, Face};
 use folding::Fold;
 use grouping::Filled;
 use mesh::RING;
@@ -18,6 +18,10 @@ use mesh::WIDTH;
 const SECOND: usize = WIDTH;
 
 const THIRD: usize = 2 * WIDTH;
+
+// So long is a row for most faces. A row is filled with zeros before it is used, and one for the largest face would take longer to fill than
+// most faces take to be looked at.
+const SHORT: usize = 32;
 
 // Whether a face of n corners is folded.
 pub fn is_folded(face: &[u32], n: usize) -> bool
@@ -62,13 +66,32 @@ fn folded_quadrangle(face: &[u32]) -> bool
     }
 }
 
-// Whether a larger face of n corners is folded.
+// Whether a larger face of n corners is folded: by the positions of its corners, in a row that is no longer than it need be.
 fn folded_ring(face: &[u32], n: usize) -> bool
     requires { ⌜ Corners (now face) n ⌝ }
     ensures { λ r. ⌜ r ≡ folded (cornersIn (now (face .entry))) ⌝ }
 {
-    let places = places_of(face, n);
-    folding::first(&places[..n]) < n
+    if n <= SHORT {
+        return folded_short(face, n);
+    }
+    let mut row = [0u32; RING];
+    folded_in(face, &mut row[..n])
+}
+
+fn folded_short(face: &[u32], n: usize) -> bool
+    requires { ⌜ Corners (now face) n × (n ≤ shortRow) ⌝ }
+    ensures { λ r. ⌜ r ≡ folded (cornersIn (now (face .entry))) ⌝ }
+{
+    let mut row = [0u32; SHORT];
+    folded_in(face, &mut row[..n])
+}
+
+fn folded_in(face: &[u32], row: &mut [u32]) -> bool
+    requires { ⌜ Corners (now face) (length (now row)) ⌝ }
+    ensures { λ r. ⌜ r ≡ folded (cornersIn (now (face .entry))) ⌝ }
+{
+    put_positions(face, row);
+    folding::first(row) < row.len()
 }
 
 // A triangle's corners, by value.
@@ -95,17 +118,15 @@ fn quad_of(face: &[u32]) -> [[u32; WIDTH]; 4]
 }
 
 // The positions of a face's corners.
-fn places_of(face: &[u32], n: usize) -> [u32; RING]
-    requires { ⌜ Corners (now face) n ⌝ }
-    ensures { λ r. ⌜ take n r ≡ map position (cornersIn (now (face .entry))) ⌝ }
+fn put_positions(face: &[u32], row: &mut [u32])
+    requires { ⌜ Corners (now face) (length (now row)) ⌝ }
+    ensures { λ _. ⌜ now (row .exit) ≡ map position (cornersIn (now (face .entry))) ⌝ }
 {
-    let mut places = [0u32; RING];
     let mut k: usize = 0;
-    while k < n {
-        places[k] = face[WIDTH * k];
+    while k < row.len() {
+        row[k] = face[WIDTH * k];
         k += 1;
     }
-    places
 }
 
 // The triangle that is left of a quadrangle, behind what is written.
@@ -164,8 +185,7 @@ fn ring_pieces(face: &[u32], n: usize, out: &mut [u32], lens: &mut [u32], at: Fi
         (now (out .entry)) (now (out .exit)) (now (lens .entry)) (now (lens .exit))
         (at .corners) (at .faces) (r .corners) (r .faces) ⌝ }
 {
-    let places = places_of(face, n);
-    if folding::first(&places[..n]) < n {
+    if folded_ring(face, n) {
         return split_pieces(face, n, out, lens, at);
     }
     grouping::put_face(face, out, lens, at)
@@ -178,7 +198,21 @@ fn split_pieces(face: &[u32], n: usize, out: &mut [u32], lens: &mut [u32], at: F
         (now (out .entry)) (now (out .exit)) (now (lens .entry)) (now (lens .exit))
         (at .corners) (at .faces) (r .corners) (r .faces) ⌝ }
 {
+    if n <= SHORT {
+        return split_short(face, n, out, lens, at);
+    }
     let mut row = [0u32; RING];
     let mut took = [0u32; RING];
+    folding::split_into_nondegenerate(face, &mut row[..n], &mut took, out, lens, at)
+}
+
+fn split_short(face: &[u32], n: usize, out: &mut [u32], lens: &mut [u32], at: Filled) -> Filled
+    requires { ⌜ Face (now face) n (now out) (now lens) (at .corners) (at .faces) × (n ≤ shortRow) ⌝ }
+    ensures { λ r. ⌜ Placed (ringPieces (cornersIn (now (face .entry))))
+        (now (out .entry)) (now (out .exit)) (now (lens .entry)) (now (lens .exit))
+        (at .corners) (at .faces) (r .corners) (r .faces) ⌝ }
+{
+    let mut row = [0u32; SHORT];
+    let mut took = [0u32; SHORT];
     folding::split_into_nondegenerate(face, &mut row[..n], &mut took, out, lens, at)
 }

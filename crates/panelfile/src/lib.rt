@@ -12,8 +12,8 @@ pub use reading::MeshRead;
 //
 // Lends: room at the full limits, 6,144 numbers for positions, 4,096 for texture points, 6,144 for normals, 12,288 for corners
 // and 1,365 for sizes.
-// Numbers: 9; then record by record 11 header cut, 12 kind, 12 length, 11 body cut, 12 n unlike m, 3 n over 32, 14 a coordinate that is
-// not finite, 1 limit; then 13; then 5. A refused file writes nothing.
+// Numbers: 9; then record by record 11 header cut, 12 kind, 12 length, 11 body cut, 12 n unlike m, 3 n over the limit of its kind, 14 a
+// coordinate that is not finite, 1 limit; then 13; then 5. A refused file writes nothing.
 pub fn read_panel(
     file: &[u8],
     positions: &mut [f64],

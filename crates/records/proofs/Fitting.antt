@@ -9,13 +9,14 @@ use lib.Dec.{ltb, eqb}
 use borrow.Author.Tests.{ltb-false, not-false, eqb-true}
 use Rattle.lists.specs.Lists.{every}
 use Rattle.floating.specs.Limits.{finite}
+use Rattle.mesh.specs.Limits.{ringLimit}
 use Rattle.mesh.specs.Table.{when, firstOf}
 use Rattle.mesh.proofs.Numbers.{first-head, first-tail, when-not}
 use Rattle.records.specs.declared.Record.{Record}
 use Rattle.records.specs.declared.Record.the-variants.{Position, Texture, Normal, Face, Refused}
-use Rattle.little.specs.Little.{byte, half}
-use Rattle.records.specs.Lengths.{headerLength, pointLength, texelLength, faceLength, byteFaceLimit, lastKind}
-use Rattle.records.specs.Records.{valuesOf, endOf, Placed, lengthFits, unless, pointFrom, texelFrom, attribute, faceFrom, bodyFrom, recordFrom}
+use Rattle.little.specs.Little.{half}
+use Rattle.records.specs.Lengths.{headerLength, cornerLength, pointLength, texelLength, byteCount, wideCount, byteFaceLimit, lastKind}
+use Rattle.records.specs.Records.{valuesOf, endOf, Placed, lengthFits, unless, pointFrom, texelFrom, attribute, counted, faceFrom, wideFaceFrom, bodyFrom, recordFrom}
 
 -- an answer at a place of a file of that size
 pub record Fitted (size at : ℕ) (r : Record) : Type 0 where
@@ -34,25 +35,26 @@ attribute-fits : (size at : ℕ) (r : Record) → at ≤ size → endOf at r ≤
 unfolding attribute
 attribute-fits size at r h l p = unless-fits size at (when (not (every finite (valuesOf r))) 14) r h (λ e. record { fits = l; placed = p })
 
-face-fits : (s : List ℕ) (at n : ℕ) → at ≤ length s → at + headerLength + n ≤ length s → Fitted (length s) at (faceFrom s (at + headerLength) n)
-unfolding faceFrom
-face-fits s at n h l =
-    let b = at + headerLength in
-    let c = byte s b in
-    let other = when (ltb byteFaceLimit c) 3 ∷ [] in
-    unless-fits (length s) at (firstOf (when (not (eqb (faceLength c) n)) 12 ∷ other)) (Face (b + 1) c) h
+-- a face whose corners begin behind its count: they end where the body ends
+counted-fits :
+    (size at w limit c n : ℕ) → 1 ≤ w → limit ≤ ringLimit → at ≤ size → at + headerLength + n ≤ size
+    → Fitted size at (counted w limit c (at + headerLength + w) n)
+unfolding counted
+counted-fits size at w limit c n some few h l =
+    let a = at + headerLength + w in
+    let long = w + cornerLength * c in
+    let unlike = not (eqb long n) in
+    let other = when (ltb limit c) 3 ∷ [] in
+    unless-fits size at (firstOf (when unlike 12 ∷ other)) (Face a c) h
     (λ e.
-    let unlike = not (eqb (faceLength c) n) in
-    let i : faceLength c ≡ n =
-    eqb-true (faceLength c) n (not-false (eqb (faceLength c) n) (when-not unlike 11 (first-head (when unlike 12) other e))) in
-    let j : c ≤ byteFaceLimit =
-    ltb-false byteFaceLimit c (when-not (ltb byteFaceLimit c) 2 (first-head (when (ltb byteFaceLimit c) 3) [] (first-tail (when unlike 12) other e))) in
-    record { fits = omega arith; placed = (omega arith, omega (arith, j)) })
+    let i : long ≡ n = eqb-true long n (not-false (eqb long n) (when-not unlike 11 (first-head (when unlike 12) other e))) in
+    let j : c ≤ limit = ltb-false limit c (when-not (ltb limit c) 2 (first-head (when (ltb limit c) 3) [] (first-tail (when unlike 12) other e))) in
+    record { fits = omega arith; placed = (omega arith, omega (arith, j, few)) })
 
 body-fits :
     (s : List ℕ) (at n k : ℕ) → at ≤ length s → at + headerLength + n ≤ length s → lengthFits k n ≡ true
     → Fitted (length s) at (bodyFrom s (at + headerLength) n k)
-unfolding bodyFrom lengthFits
+unfolding bodyFrom lengthFits faceFrom wideFaceFrom
 body-fits s at n zero h l e = record { fits = omega arith; placed = tt }
 body-fits s at n (suc zero) h l e =
     attribute-fits (length s) at (Position (pointFrom s (at + headerLength))) h (let i : n ≡ pointLength = eqb-true n pointLength e in omega arith) tt
@@ -60,7 +62,10 @@ body-fits s at n (suc (suc zero)) h l e =
     attribute-fits (length s) at (Texture (texelFrom s (at + headerLength))) h (let i : n ≡ texelLength = eqb-true n texelLength e in omega arith) tt
 body-fits s at n (suc (suc (suc zero))) h l e =
     attribute-fits (length s) at (Normal (pointFrom s (at + headerLength))) h (let i : n ≡ pointLength = eqb-true n pointLength e in omega arith) tt
-body-fits s at n (suc (suc (suc (suc k)))) h l e = face-fits s at n h l
+body-fits s at n (suc (suc (suc (suc zero)))) h l e =
+    counted-fits (length s) at byteCount byteFaceLimit _ n (omega arith) (omega arith) h l
+body-fits s at n (suc (suc (suc (suc (suc k))))) h l e =
+    counted-fits (length s) at wideCount ringLimit _ n (omega arith) (omega arith) h l
 
 pub record-fits : (s : List ℕ) (at : ℕ) → at ≤ length s → Fitted (length s) at (recordFrom s at)
 unfolding recordFrom

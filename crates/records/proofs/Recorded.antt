@@ -9,35 +9,40 @@ use denote.Enum.Declared.{tagOf}
 use lib.Dec.{eqb, leb}
 use lib.ListN.{length}
 use lib.Ieee.{Float}
-use borrow.Author.Tests.{eqb-true, eq-eqb, ne-eqb, lt-ltb, le-ltb}
+use borrow.Author.Tests.{eqb-true, leb-true, eq-eqb, ne-eqb, lt-ltb, le-ltb}
 use Rattle.lists.specs.Lists.{every}
-use Rattle.lists.proofs.Bools.{and-right}
+use Rattle.lists.proofs.Bools.{and-left, and-right}
 use Rattle.floating.specs.Limits.{finite}
 use Rattle.records.specs.declared.Record.{Record}
 use Rattle.records.specs.declared.Record.the-variants.{Position, Texture, Normal, Face, End, Refused}
-use Rattle.little.specs.Little.{byte, half}
-use Rattle.records.specs.Lengths.{headerLength, cornerLength, pointLength, faceLength, countMost, byteFaceLimit, lastKind}
-use Rattle.records.specs.Records.{numberOf, valuesOf, lengthFits, attribute, faceFrom, bodyFrom, recordFrom}
+use Rattle.little.specs.Little.{half}
+use Rattle.records.specs.Lengths.{headerLength, cornerLength, pointLength, byteCount, wideCount, faceLength, wideFaceLength, countMost, wideLeast, byteKind, wideKind, lastKind}
+use Rattle.records.specs.Records.{numberOf, valuesOf, lengthFits, attribute, counted, faceFrom, wideFaceFrom, bodyFrom, recordFrom}
 use Rattle.records.proofs.Record.{the-type}
 
 -- ---- the length of a body
 
-pub fits-point : (k n : ℕ) → k ≤ lastKind → (k ≡ 0 → ⊥) → (k ≡ 2 → ⊥) → (k ≡ 4 → ⊥) → lengthFits k n ≡ eqb n pointLength
+pub fits-point : (k n : ℕ) → k ≤ lastKind → (k ≡ 0 → ⊥) → (k ≡ 2 → ⊥) → (k ≡ byteKind → ⊥) → (k ≡ wideKind → ⊥) → lengthFits k n ≡ eqb n pointLength
 unfolding lengthFits
-fits-point zero n h a b c = absurd (a refl)
-fits-point (suc zero) n h a b c = refl
-fits-point (suc (suc zero)) n h a b c = absurd (b refl)
-fits-point (suc (suc (suc zero))) n h a b c = refl
-fits-point (suc (suc (suc (suc zero)))) n h a b c = absurd (c refl)
-fits-point (suc (suc (suc (suc (suc k))))) n h a b c = absurd (let z : suc (suc (suc (suc (suc k)))) ≤ 4 = h in omega arith)
+fits-point zero n h a b c d = absurd (a refl)
+fits-point (suc zero) n h a b c d = refl
+fits-point (suc (suc zero)) n h a b c d = absurd (b refl)
+fits-point (suc (suc (suc zero))) n h a b c d = refl
+fits-point (suc (suc (suc (suc zero)))) n h a b c d = absurd (c refl)
+fits-point (suc (suc (suc (suc (suc zero))))) n h a b c d = absurd (d refl)
+fits-point (suc (suc (suc (suc (suc (suc k)))))) n h a b c d = absurd (let z : suc (suc (suc (suc (suc (suc k))))) ≤ lastKind = h in omega arith)
 
 -- a face's body has at least its count
-pub face-some : (n : ℕ) → lengthFits 4 n ≡ true → 0 < n
+pub face-some : (n : ℕ) → lengthFits byteKind n ≡ true → byteCount ≤ n
 unfolding lengthFits
 face-some n h =
-    let odd = eqb (n % cornerLength) 1 in
-    let e : n % cornerLength ≡ 1 = eqb-true (n % cornerLength) 1 (and-right (leb n (faceLength countMost)) odd h) in
+    let one = eqb (n % cornerLength) byteCount in
+    let e : n % cornerLength ≡ byteCount = eqb-true (n % cornerLength) byteCount (and-right (leb n (faceLength countMost)) one h) in
     omega arith
+
+pub wide-some : (n : ℕ) → lengthFits wideKind n ≡ true → wideCount ≤ n
+unfolding lengthFits
+wide-some n h = let l : wideFaceLength wideLeast ≤ n = leb-true (wideFaceLength wideLeast) n (and-left (leb (wideFaceLength wideLeast) n) (eqb (n % cornerLength) wideCount) h) in omega arith
 
 -- the length of a body of a kind that is known
 pub body-is : (k k' n m : ℕ) → k ≡ k' → lengthFits k' n ≡ eqb n m → lengthFits k n ≡ true → n ≡ m
@@ -45,21 +50,29 @@ body-is k k' n m e f h = eqb-true n m (sym f ∙ (rw e at h))
 
 -- ---- the last kind
 
-four : (k : ℕ) → k ≤ lastKind → (k ≡ 0 → ⊥) → (k ≡ 1 → ⊥) → (k ≡ 2 → ⊥) → (k ≡ 3 → ⊥) → k ≡ 4
-four zero h a b c d = absurd (a refl)
-four (suc zero) h a b c d = absurd (b refl)
-four (suc (suc zero)) h a b c d = absurd (c refl)
-four (suc (suc (suc zero))) h a b c d = absurd (d refl)
-four (suc (suc (suc (suc k)))) h a b c d = omega arith
+last : (k : ℕ) → k ≤ lastKind → (k ≡ 0 → ⊥) → (k ≡ 1 → ⊥) → (k ≡ 2 → ⊥) → (k ≡ 3 → ⊥) → (k ≡ byteKind → ⊥) → k ≡ wideKind
+last zero h a b c d e = absurd (a refl)
+last (suc zero) h a b c d e = absurd (b refl)
+last (suc (suc zero)) h a b c d e = absurd (c refl)
+last (suc (suc (suc zero))) h a b c d e = absurd (d refl)
+last (suc (suc (suc (suc zero)))) h a b c d e = absurd (e refl)
+last (suc (suc (suc (suc (suc k))))) h a b c d e = omega arith
 
-pub a-face : (k n : ℕ) → k ≤ lastKind → (k ≡ 0 → ⊥) → (k ≡ 1 → ⊥) → (k ≡ 2 → ⊥) → (k ≡ 3 → ⊥) → lengthFits k n ≡ true → 0 < n
-a-face k n h a b c d e = face-some n (rw (four k h a b c d) at e)
+module _ (k n : ℕ) where
+  pub a-face : k ≡ byteKind → lengthFits k n ≡ true → byteCount ≤ n
+  a-face e h = face-some n (rw e at h)
 
-pub body-face :
-    (s : List ℕ) (b n k : ℕ) → k ≤ lastKind → (k ≡ 0 → ⊥) → (k ≡ 1 → ⊥) → (k ≡ 2 → ⊥) → (k ≡ 3 → ⊥)
-    → faceFrom s b n ≡ bodyFrom s b n k
-unfolding bodyFrom
-body-face s b n k h x y z w = rw (four k h x y z w)
+  pub body-face : (s : List ℕ) (b : ℕ) → k ≡ byteKind → faceFrom s b n ≡ bodyFrom s b n k
+  unfolding bodyFrom
+  body-face s b e = rw e
+
+  module _ (h : k ≤ lastKind) (x : k ≡ 0 → ⊥) (y : k ≡ 1 → ⊥) (z : k ≡ 2 → ⊥) (v : k ≡ 3 → ⊥) (w : k ≡ byteKind → ⊥) where
+    pub a-wide-face : lengthFits k n ≡ true → wideCount ≤ n
+    a-wide-face e = wide-some n (rw (last k h x y z v w) at e)
+
+    pub body-wide-face : (s : List ℕ) (b : ℕ) → wideFaceFrom s b n ≡ bodyFrom s b n k
+    unfolding bodyFrom
+    body-wide-face s b = rw (last k h x y z v w)
 
 -- ---- coordinates one after the other, with b whether the first is finite
 
@@ -84,43 +97,43 @@ module _ (r : Record) (b : Bool) (e : b ≡ every finite (valuesOf r)) where
   unfolding attribute
   attribute-good h = rw (← e, h)
 
--- ---- a face, with c its count
+-- ---- a face, with c its count of w bytes
 
-module _ (s : List ℕ) (b n c : ℕ) (e : c ≡ byte s b) where
-  pub face-unlike : (faceLength c ≡ n → ⊥) → Refused 12 ≡ faceFrom s b n
-  unfolding faceFrom
-  face-unlike h = rw (← e, ne-eqb (faceLength c) n h)
+module _ (w limit c a n : ℕ) where
+  pub face-unlike : (w + cornerLength * c ≡ n → ⊥) → Refused 12 ≡ counted w limit c a n
+  unfolding counted
+  face-unlike h = rw (ne-eqb (w + cornerLength * c) n h)
 
-  pub face-many : faceLength c ≡ n → byteFaceLimit < c → Refused 3 ≡ faceFrom s b n
-  unfolding faceFrom
-  face-many h l = rw (← e, eq-eqb (faceLength c) n h, lt-ltb byteFaceLimit c l)
+  pub face-many : w + cornerLength * c ≡ n → limit < c → Refused 3 ≡ counted w limit c a n
+  unfolding counted
+  face-many h l = rw (eq-eqb (w + cornerLength * c) n h, lt-ltb limit c l)
 
-  pub face-good : faceLength c ≡ n → c ≤ byteFaceLimit → Face (b + 1) c ≡ faceFrom s b n
-  unfolding faceFrom
-  face-good h l = rw (← e, eq-eqb (faceLength c) n h, le-ltb byteFaceLimit c l)
+  pub face-good : w + cornerLength * c ≡ n → c ≤ limit → Face a c ≡ counted w limit c a n
+  unfolding counted
+  face-good h l = rw (eq-eqb (w + cornerLength * c) n h, le-ltb limit c l)
 
 -- ---- a record, with n and k its length and its kind
 
-pub header-cut : (s : List ℕ) (at : ℕ) → length s - at < 4 → Refused 11 ≡ recordFrom s at
+pub header-cut : (s : List ℕ) (at : ℕ) → length s - at < headerLength → Refused 11 ≡ recordFrom s at
 unfolding recordFrom
-header-cut s at h = rw (lt-ltb (length s - at) 4 h)
+header-cut s at h = rw (lt-ltb (length s - at) headerLength h)
 
-module _ (s : List ℕ) (at n k : ℕ) (h : 4 ≤ length s - at) (en : n ≡ half s at) (ek : k ≡ half s (at + 2)) where
-  pub kind-unknown : 4 < k → Refused 12 ≡ recordFrom s at
+module _ (s : List ℕ) (at n k : ℕ) (h : headerLength ≤ length s - at) (en : n ≡ half s at) (ek : k ≡ half s (at + 2)) where
+  pub kind-unknown : lastKind < k → Refused 12 ≡ recordFrom s at
   unfolding recordFrom
-  kind-unknown l = rw (le-ltb (length s - at) 4 h, ← ek, lt-ltb 4 k l)
+  kind-unknown l = rw (le-ltb (length s - at) headerLength h, ← ek, lt-ltb lastKind k l)
 
-  pub length-wrong : k ≤ 4 → not (lengthFits k n) ≡ true → Refused 12 ≡ recordFrom s at
+  pub length-wrong : k ≤ lastKind → not (lengthFits k n) ≡ true → Refused 12 ≡ recordFrom s at
   unfolding recordFrom
-  length-wrong l w = rw (le-ltb (length s - at) 4 h, ← ek, ← en, le-ltb 4 k l, w)
+  length-wrong l w = rw (le-ltb (length s - at) headerLength h, ← ek, ← en, le-ltb lastKind k l, w)
 
-  pub body-cut : k ≤ 4 → not (lengthFits k n) ≡ false → length s - (at + 4) < n → Refused 11 ≡ recordFrom s at
+  pub body-cut : k ≤ lastKind → not (lengthFits k n) ≡ false → length s - (at + headerLength) < n → Refused 11 ≡ recordFrom s at
   unfolding recordFrom
-  body-cut l w c = rw (le-ltb (length s - at) 4 h, ← ek, ← en, le-ltb 4 k l, w, lt-ltb (length s - (at + 4)) n c)
+  body-cut l w c = rw (le-ltb (length s - at) headerLength h, ← ek, ← en, le-ltb lastKind k l, w, lt-ltb (length s - (at + headerLength)) n c)
 
-  pub body-whole : k ≤ 4 → not (lengthFits k n) ≡ false → n ≤ length s - (at + 4) → bodyFrom s (at + 4) n k ≡ recordFrom s at
+  pub body-whole : k ≤ lastKind → not (lengthFits k n) ≡ false → n ≤ length s - (at + headerLength) → bodyFrom s (at + headerLength) n k ≡ recordFrom s at
   unfolding recordFrom
-  body-whole l w c = rw (le-ltb (length s - at) 4 h, ← ek, ← en, le-ltb 4 k l, w, le-ltb (length s - (at + 4)) n c)
+  body-whole l w c = rw (le-ltb (length s - at) headerLength h, ← ek, ← en, le-ltb lastKind k l, w, le-ltb (length s - (at + headerLength)) n c)
 
 -- ---- answers of other variants
 

@@ -2,20 +2,21 @@
 use mathlib.Core.Path.{_≡_, refl}
 use mathlib.Core.Bool.{Bool, true, not}
 use mathlib.Core.List.{List, [], _∷_}
-use Prim.Native.Nat.{ℕ, zero, suc, _+_, _-_}
+use Prim.Native.Nat.{ℕ, zero, suc, _+_, _*_, _-_}
 use lib.ListN.{length}
 use lib.Dec.{ltb, eqb}
 use lib.Ieee.{Float}
 use borrow.Author.Tests.{not-false}
 use Rattle.lists.specs.Lists.{every}
 use Rattle.floating.specs.Limits.{finite}
-use Rattle.little.specs.Little.{byte, half}
+use Rattle.little.specs.Little.{half}
+use Rattle.mesh.specs.Limits.{ringLimit}
 use Rattle.mesh.specs.Table.{when, firstOf}
 use Rattle.mesh.proofs.Numbers.{when-not}
 use Rattle.records.specs.declared.Record.{Record}
 use Rattle.records.specs.declared.Record.the-variants.{Position, Texture, Normal, Face}
-use Rattle.records.specs.Lengths.{headerLength, faceLength, byteFaceLimit, lastKind}
-use Rattle.records.specs.Records.{valuesOf, lengthFits, unless, pointFrom, texelFrom, attribute, faceFrom, bodyFrom, recordFrom}
+use Rattle.records.specs.Lengths.{headerLength, cornerLength, byteCount, wideCount, byteFaceLimit, lastKind}
+use Rattle.records.specs.Records.{valuesOf, lengthFits, unless, pointFrom, texelFrom, attribute, counted, faceFrom, wideFaceFrom, bodyFrom, recordFrom}
 
 module _ (p : Float → Bool) where
   -- a refusal has no values, and neither has a face
@@ -27,10 +28,18 @@ module _ (p : Float → Bool) where
   unfolding attribute
   attribute-passes r h = unless-passes (when (not (every finite (valuesOf r))) 14) r (λ e. h)
 
+  counted-passes : (w limit c a n : ℕ) → every p (valuesOf (counted w limit c a n)) ≡ true
+  unfolding counted
+  counted-passes w limit c a n =
+      unless-passes (firstOf (when (not (eqb (w + cornerLength * c) n)) 12 ∷ when (ltb limit c) 3 ∷ [])) (Face a c) (λ e. refl)
+
   pub face-passes : (s : List ℕ) (b n : ℕ) → every p (valuesOf (faceFrom s b n)) ≡ true
   unfolding faceFrom
-  face-passes s b n =
-      unless-passes (firstOf (when (not (eqb (faceLength (byte s b)) n)) 12 ∷ when (ltb byteFaceLimit (byte s b)) 3 ∷ [])) (Face (b + 1) (byte s b)) (λ e. refl)
+  face-passes s b n = counted-passes byteCount byteFaceLimit _ (b + byteCount) n
+
+  pub wide-face-passes : (s : List ℕ) (b n : ℕ) → every p (valuesOf (wideFaceFrom s b n)) ≡ true
+  unfolding wideFaceFrom
+  wide-face-passes s b n = counted-passes wideCount ringLimit _ (b + wideCount) n
 
   pub record-passes :
       (s : List ℕ) → ((b n k : ℕ) → every p (valuesOf (bodyFrom s b n k)) ≡ true) → (at : ℕ) → every p (valuesOf (recordFrom s at)) ≡ true
@@ -62,7 +71,8 @@ body-finite s b n zero = refl
 body-finite s b n (suc zero) = attribute-finite (Position (pointFrom s b))
 body-finite s b n (suc (suc zero)) = attribute-finite (Texture (texelFrom s b))
 body-finite s b n (suc (suc (suc zero))) = attribute-finite (Normal (pointFrom s b))
-body-finite s b n (suc (suc (suc (suc k)))) = face-passes finite s b n
+body-finite s b n (suc (suc (suc (suc zero)))) = face-passes finite s b n
+body-finite s b n (suc (suc (suc (suc (suc k))))) = wide-face-passes finite s b n
 
 pub record-finite : (s : List ℕ) (at : ℕ) → every finite (valuesOf (recordFrom s at)) ≡ true
 record-finite s = record-passes finite s (body-finite s)

@@ -12,7 +12,14 @@ coordinateLength = 8
 abbrev pub cornerLength : ℕ
 cornerLength = 12
 
--- the body of a position or a normal, of a texture point, and of a face of n corners: a byte n, then n corners
+-- how many corners a face has: one byte in kind 4, two in kind 5
+abbrev pub byteCount : ℕ
+byteCount = 1
+
+abbrev pub wideCount : ℕ
+wideCount = 2
+
+-- the body of a position or a normal, of a texture point, and of a face of n corners: a count n, then n corners
 abbrev pub pointLength : ℕ
 pointLength = 3 * coordinateLength
 
@@ -20,7 +27,10 @@ abbrev pub texelLength : ℕ
 texelLength = 2 * coordinateLength
 
 abbrev pub faceLength : ℕ → ℕ
-faceLength n = 1 + cornerLength * n
+faceLength n = byteCount + cornerLength * n
+
+abbrev pub wideFaceLength : ℕ → ℕ
+wideFaceLength n = wideCount + cornerLength * n
 
 -- the records of these bodies, with their header
 abbrev pub pointRecord : ℕ
@@ -36,6 +46,16 @@ countMost = 255
 abbrev pub byteFaceLimit : ℕ
 byteFaceLimit = 32
 
--- the last of the kinds, that of a face
+-- the fewest that a face of kind 5 has: one more than kind 4 holds
+abbrev pub wideLeast : ℕ
+wideLeast = 1 + byteFaceLimit
+
+-- the kinds of a face: its count is a byte, or two; no kind comes behind them
+abbrev pub byteKind : ℕ
+byteKind = 4
+
+abbrev pub wideKind : ℕ
+wideKind = 5
+
 abbrev pub lastKind : ℕ
-lastKind = 4
+lastKind = wideKind

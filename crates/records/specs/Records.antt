@@ -15,7 +15,8 @@ use Rattle.floating.specs.declared.Point.{Point}
 use Rattle.floating.specs.declared.Texel.{Texel}
 use Rattle.floating.specs.Limits.{finite}
 use Rattle.floating.specs.Points.{point, texel, coordinates}
-use Rattle.records.specs.Lengths.{headerLength, coordinateLength, cornerLength, pointLength, texelLength, faceLength, pointRecord, texelRecord, countMost, byteFaceLimit, lastKind}
+use Rattle.records.specs.Lengths.{headerLength, coordinateLength, cornerLength, pointLength, texelLength, byteCount, wideCount, faceLength, wideFaceLength}
+use Rattle.records.specs.Lengths.{pointRecord, texelRecord, countMost, byteFaceLimit, wideLeast, lastKind}
 use Rattle.records.specs.declared.Record.{Record}
 use Rattle.records.specs.declared.Record.the-variants.{Position, Texture, Normal, Face, End, Refused}
 
@@ -47,13 +48,15 @@ valuesOf (Face a n) = []
 valuesOf End = []
 valuesOf (Refused n) = []
 
--- the length of a body by its kind: end 0, position 24, texture 16, normal 24, and of a face 1 + 12m for some m up to 255
+-- the length of a body by its kind: end 0, position 24, texture 16, normal 24, of a face 1 + 12m for some m up to 255, and of a wide one
+-- 2 + 12m for some m from 33 on
 unfoldable pub lengthFits : ℕ → ℕ → Bool
 lengthFits zero n = eqb n 0
 lengthFits (suc zero) n = eqb n pointLength
 lengthFits (suc (suc zero)) n = eqb n texelLength
 lengthFits (suc (suc (suc zero))) n = eqb n pointLength
-lengthFits (suc (suc (suc (suc k)))) n = leb n (faceLength countMost) && eqb (n % cornerLength) 1
+lengthFits (suc (suc (suc (suc zero)))) n = leb n (faceLength countMost) && eqb (n % cornerLength) byteCount
+lengthFits (suc (suc (suc (suc (suc k))))) n = leb (wideFaceLength wideLeast) n && eqb (n % cornerLength) wideCount
 
 -- a refusal where a number is given, else the record
 abbrev pub unless : ℕ → Record → Record
@@ -64,10 +67,17 @@ unless (suc n) r = Refused (suc n)
 unfoldable pub attribute : Record → Record
 attribute r = unless (when (not (every finite (valuesOf r))) 14) r
 
--- a face: n unlike m gives 12, n over 32 gives 3; its first corner stands behind the byte n
+-- a face in a body of n bytes, whose count of w bytes says c corners, the first of them at a: c unlike the length's gives 12, c over the
+-- limit gives 3
+unfoldable pub counted : ℕ → ℕ → ℕ → ℕ → ℕ → Record
+counted w limit c a n = unless (firstOf (when (not (eqb (w + cornerLength * c) n)) 12 ∷ when (ltb limit c) 3 ∷ [])) (Face a c)
+
+-- kind 4: a byte, for up to 32 corners; kind 5: two bytes, for up to as many as a face may have
 unfoldable pub faceFrom : List ℕ → ℕ → ℕ → Record
-faceFrom s b n =
-    unless (firstOf (when (not (eqb (faceLength (byte s b)) n)) 12 ∷ when (ltb byteFaceLimit (byte s b)) 3 ∷ [])) (Face (b + 1) (byte s b))
+faceFrom s b n = counted byteCount byteFaceLimit (byte s b) (b + byteCount) n
+
+unfoldable pub wideFaceFrom : List ℕ → ℕ → ℕ → Record
+wideFaceFrom s b n = counted wideCount ringLimit (half s b) (b + wideCount) n
 
 -- the body of n bytes at b, by its kind
 unfoldable pub bodyFrom : List ℕ → ℕ → ℕ → ℕ → Record
@@ -75,7 +85,8 @@ bodyFrom s b n zero = End
 bodyFrom s b n (suc zero) = attribute (Position (pointFrom s b))
 bodyFrom s b n (suc (suc zero)) = attribute (Texture (texelFrom s b))
 bodyFrom s b n (suc (suc (suc zero))) = attribute (Normal (pointFrom s b))
-bodyFrom s b n (suc (suc (suc (suc k)))) = faceFrom s b n
+bodyFrom s b n (suc (suc (suc (suc zero)))) = faceFrom s b n
+bodyFrom s b n (suc (suc (suc (suc (suc k))))) = wideFaceFrom s b n
 
 -- the record at a place: two-byte length of its body, two-byte kind, body; header cut 11, kind 12, length 12, body cut 11
 unfoldable pub recordFrom : List ℕ → ℕ → Record
@@ -106,7 +117,7 @@ endOf at (Face a n) = a + cornerLength * n
 endOf at End = at + headerLength
 endOf at (Refused n) = at
 
--- a face begins behind its header and its count, and has at most 32 corners; a refusal has a number
+-- a face begins behind its header and its count, and has at most as many corners as a face may have; a refusal has a number
 abbrev pub Placed : ℕ → Record → Type 0
 Placed at (Position p) = Unit {0}
 Placed at (Texture t) = Unit {0}

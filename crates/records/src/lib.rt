@@ -12,38 +12,51 @@ ghost use lib.ListN.{length};
 ghost use lib.Seq.{sets};
 ghost use Rattle.lists.specs.Lists.{joined};
 ghost use Rattle.mesh.specs.Limits.{width};
-ghost use Rattle.records.specs.Lengths.{cornerLength, lastKind};
+ghost use Rattle.little.specs.Little.{halfValues};
+ghost use Rattle.records.specs.Lengths.{cornerLength, byteCount, wideCount, lastKind};
 ghost use Rattle.records.specs.Records as records;
 ghost use Rattle.records.specs.declared.Record.the-variants.{Position, Texture, Normal};
 use floating::Point;
 use floating::Texel;
 
-// The most corners that a byte can say, and the most that a face of kind 4 may have.
+// The most corners that a byte can say, the most that a face of kind 4 may have, and the fewest of one of kind 5.
 const COUNT_MOST: usize = 255;
 
-const BYTE_FACE: usize = 32;
+pub const BYTE_FACE: usize = 32;
 
-// How many bytes a header has, a coordinate and a corner; the body of a position or a normal, of a texture point, and the longest of a face,
-// whose count is one byte.
+const WIDE_LEAST: usize = 1 + BYTE_FACE;
+
+// How many bytes a header has, a coordinate, a corner, and the count of a face of kind 4 and of one of kind 5; the body of a position or a
+// normal, of a texture point, the longest of a face of kind 4 and the shortest of one of kind 5.
 pub const HEADER_LENGTH: usize = 4;
 
 const COORDINATE_LENGTH: usize = 8;
 
 pub const CORNER_LENGTH: usize = 12;
 
+pub const BYTE_COUNT: usize = 1;
+
+pub const WIDE_COUNT: usize = 2;
+
 const POINT_LENGTH: usize = 3 * COORDINATE_LENGTH;
 
 const TEXEL_LENGTH: usize = 2 * COORDINATE_LENGTH;
 
-const LONGEST_FACE: usize = 1 + CORNER_LENGTH * COUNT_MOST;
+const LONGEST_FACE: usize = BYTE_COUNT + CORNER_LENGTH * COUNT_MOST;
+
+const SHORTEST_WIDE: usize = WIDE_COUNT + CORNER_LENGTH * WIDE_LEAST;
 
 // How many bytes the records have: that of a position or a normal, and that of a texture point.
 pub const POINT_RECORD: usize = HEADER_LENGTH + POINT_LENGTH;
 
 pub const TEXEL_RECORD: usize = HEADER_LENGTH + TEXEL_LENGTH;
 
-// The last of the kinds, that of a face.
-const LAST_KIND: u32 = 4;
+// The kinds of a face, whose count is a byte, or two: no kind comes behind them.
+pub const BYTE_KIND: u32 = 4;
+
+pub const WIDE_KIND: u32 = 5;
+
+const LAST_KIND: u32 = WIDE_KIND;
 
 // What one record answers.
 pub enum Record {
@@ -90,9 +103,15 @@ fn misfits(kind: u32, n: usize) -> bool
     if kind == 2 {
         return n != TEXEL_LENGTH;
     }
-    if kind == LAST_KIND {
+    if kind == BYTE_KIND {
         if n <= LONGEST_FACE {
-            return n % CORNER_LENGTH != 1;
+            return n % CORNER_LENGTH != BYTE_COUNT;
+        }
+        return true;
+    }
+    if kind == WIDE_KIND {
+        if SHORTEST_WIDE <= n {
+            return n % CORNER_LENGTH != WIDE_COUNT;
         }
         return true;
     }
@@ -116,7 +135,10 @@ fn body(s: &[u8], b: usize, n: usize, kind: u32) -> Record
     if kind == 3 {
         return normal(coordinates::point_from(s, b));
     }
-    face(s, b, n)
+    if kind == BYTE_KIND {
+        return face(s, b, n);
+    }
+    wide_face(s, b, n)
 }
 
 // A position, a texture point or a normal: a coordinate that is not finite gives 14.
@@ -147,20 +169,40 @@ fn normal(p: Point) -> Record
     Record::Refused(14)
 }
 
-// A face: n unlike m gives 12, n over 32 gives 3.
+// A face of kind 4, and one of kind 5.
 fn face(s: &[u8], b: usize, n: usize) -> Record
-    requires { ⌜ (0 < n) × (b + n ≤ length (now s)) ⌝ }
+    requires { ⌜ (byteCount ≤ n) × (b + n ≤ length (now s)) ⌝ }
     ensures { λ r. ⌜ r ≡ records.faceFrom (now (s .entry)) b n ⌝ }
 {
-    let count = little::wide(s[b]);
+    counted(BYTE_COUNT, BYTE_FACE, little::wide(s[b]), b + BYTE_COUNT, n)
+}
+
+fn wide_face(s: &[u8], b: usize, n: usize) -> Record
+    requires { ⌜ (wideCount ≤ n) × (b + n ≤ length (now s)) ⌝ }
+    ensures { λ r. ⌜ r ≡ records.wideFaceFrom (now (s .entry)) b n ⌝ }
+{
+    counted(
+        WIDE_COUNT,
+        mesh::RING,
+        little::half(s, b),
+        b + WIDE_COUNT,
+        n,
+    )
+}
+
+// A face whose count of w bytes says so many corners, the first of them at a: a count unlike the length's gives 12, one over the limit 3.
+fn counted(w: usize, limit: usize, count: u32, a: usize, n: usize) -> Record
+    requires { ⌜ (w ≤ wideCount) × (count < halfValues) ⌝ }
+    ensures { λ r. ⌜ r ≡ records.counted w limit count a n ⌝ }
+{
     let m = count as usize;
-    if 1 + CORNER_LENGTH * m != n {
+    if w + CORNER_LENGTH * m != n {
         return Record::Refused(12);
     }
-    if BYTE_FACE < m {
+    if limit < m {
         return Record::Refused(3);
     }
-    Record::Face(b + 1, count)
+    Record::Face(a, count)
 }
 
 // This paper's number for an answer: that of a refusal, 0 for every other.

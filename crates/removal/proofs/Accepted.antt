@@ -59,7 +59,7 @@ every-none p (c ∷ l) e =
 abbrev few : ℕ → Bool
 few n = leb n ringLimit
 
--- three corners or more, and no more than 32
+-- three corners or more, and no more than 300
 both-sized : (fs : List Ring) → every isFace fs ≡ true → every (λ (r : Ring). few (length r)) fs ≡ true → every sized fs ≡ true
 both-sized [] e f = refl
 both-sized (r ∷ fs) e f =

@@ -17,7 +17,7 @@ use Rattle.folding.specs.Folding.{pieces}
 use Rattle.removal.specs.Origins.{numbered}
 use Rattle.removal.specs.declared.Removed.{Removed}
 
--- corners and sizes that add up, each face of 3 to 32 corners
+-- corners and sizes that add up, each face of 3 to 300 corners
 pub record Fit (cs s : List ℕ) : Type 0 where
   pub sound : Sound cs s
   pub least : (k : ℕ) → k < length s → leastRing ≤ getD s k 0

@@ -11,24 +11,62 @@ use Rattle.mesh.specs.Mesh.{cornersIn, rings}
 use Rattle.mesh.specs.Face.{offsetOf, faceOf}
 use Rattle.mesh.proofs.Faces.{length-rings, getD-rings, face-length, offset-step}
 use Rattle.written.specs.Parts.{faceRecord}
-use Rattle.written.proofs.Lengths.{header, count, face-bytes}
-use Rattle.saving.specs.Working.{Stored, AFace, Faces}
-use Rattle.saving.proofs.Storing.{stored-both, stored-as}
+use Rattle.written.specs.Pieces.{wide, faceKind, countLength, headerOf}
+use Rattle.written.proofs.Lengths.{length-header, length-words, length-count, corners, header, counted, face-bytes, length-face-record}
+use Rattle.saving.specs.Working.{Stored, Fits, ACount, AFace, Faces}
+use Rattle.saving.proofs.Storing.{stored-both, stored-as, still-long}
+use Rattle.saving.proofs.Wide.{count-most}
 use Rattle.saving.proofs.Listing.{Putting, putting-begins, putting-turns, putting-room, putting-ends}
 
 -- ---- one
 
-module _ (part : List ℕ) (w : length part % width ≡ 0) where
-  pub face-stored :
-      (o o1 o2 o3 : List ℕ) (at a b r : ℕ)
-      → Stored (header part) o o1 at a → Stored (count part ∷ []) o1 o2 a b → Stored (each wordBytes part) o2 o3 b r
-      → Stored (faceRecord (cornersIn part)) o o3 at r
-  face-stored o o1 o2 o3 at a b r f e g =
-      let h = header part in
-      let n = count part ∷ [] in
-      let ws = each wordBytes part in
-      stored-as (h ++ (n ++ ws)) (faceRecord (cornersIn part)) o o3 at r (sym (face-bytes part w))
-      (stored-both h (n ++ ws) o o1 o3 at a r f (stored-both n ws o1 o2 o3 a b r e g))
+-- a face whose header says the length k + 4 for each number, and the kind t
+module _ (part o : List ℕ) (at : ℕ) (f : AFace part o at) where
+  abbrev n : ℕ
+  n = corners part
+
+  pub header-fits : at + 4 ≤ length o
+  header-fits = omega (arith, f .fits, length-face-record part (f .whole))
+
+  pub small-body : countLength (wide n) + 4 * length part < 65536
+  small-body = omega (arith, f .small, count-most (wide n))
+
+  module _ (k t : ℕ) (ek : k ≡ countLength (wide n)) (et : t ≡ faceKind (wide n)) (o1 : List ℕ) (a : ℕ) (h : Stored (headerOf (k + 4 * length part) t) o o1 at a) where
+    header-stored : Stored (header part) o o1 at a
+    header-stored = rw (ek, et) at h
+
+    behind-header : (a ≡ at + 4) × (length o1 ≡ length o)
+    behind-header =
+        (omega (arith, header-stored .place, length-header (countLength (wide n) + 4 * length part) (faceKind (wide n))), still-long (header part) o o1 at a header-stored)
+
+    pub count-fits : ACount n o1 a
+    count-fits = record {
+      small = omega (arith, f .small);
+      fits = omega (arith, f .fits, length-face-record part (f .whole), behind-header .0, behind-header .1, length-count (wide n) n);
+    }
+
+    module _ (o2 : List ℕ) (b : ℕ) (e : Stored (counted part) o1 o2 a b) where
+      pub words-fit : Fits (each wordBytes part) o2 b
+      words-fit =
+          omega (
+            arith,
+            f .fits,
+            length-face-record part (f .whole),
+            behind-header .0,
+            behind-header .1,
+            e .place,
+            length-count (wide n) n,
+            still-long (counted part) o1 o2 a b e,
+            length-words part,
+          )
+
+      pub face-stored : (o3 : List ℕ) (r : ℕ) → Stored (each wordBytes part) o2 o3 b r → Stored (faceRecord (cornersIn part)) o o3 at r
+      face-stored o3 r g =
+          let h = header part in
+          let m = counted part in
+          let ws = each wordBytes part in
+          stored-as (h ++ (m ++ ws)) (faceRecord (cornersIn part)) o o3 at r (sym (face-bytes part (f .whole)))
+          (stored-both h (m ++ ws) o o1 o3 at a r header-stored (stored-both m ws o1 o2 o3 a b r e g))
 
 -- ---- all
 

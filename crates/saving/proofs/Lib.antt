@@ -1,5 +1,6 @@
 pub mod Storing
 pub mod Listing
 pub mod Entries
+pub mod Wide
 pub mod Faces
 pub mod Saving

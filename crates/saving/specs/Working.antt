@@ -11,7 +11,7 @@ use Rattle.mesh.specs.Limits.{width, ringLimit}
 use Rattle.mesh.specs.Mesh.{cornersIn, rings}
 use Rattle.mesh.specs.Face.{Sound}
 use Rattle.floating.specs.Limits.{finite}
-use Rattle.written.specs.Pieces.{coordinateBytes}
+use Rattle.written.specs.Pieces.{wide, countBytes, coordinateBytes}
 use Rattle.written.specs.Parts.{entryRecord, firstRows, faceRecord}
 
 -- the bytes are stored from a place on, and r is the place behind them
@@ -43,7 +43,11 @@ pub record Entries (w n kind : ℕ) (s : List Float) (o : List ℕ) (at : ℕ) :
 
 -- ---- faces
 
--- a face of at most 32 corners, and faces of at most 32 corners each, with room for their records
+-- a count, a face, and faces, of no more corners than a face may have, with room for their bytes
+pub record ACount (n : ℕ) (o : List ℕ) (at : ℕ) : Type 0 where
+  pub small : n ≤ ringLimit
+  pub fits : Fits (countBytes (wide n) n) o at
+
 pub record AFace (part o : List ℕ) (at : ℕ) : Type 0 where
   pub whole : length part % width ≡ 0
   pub small : length part ≤ width * ringLimit

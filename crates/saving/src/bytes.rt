@@ -9,9 +9,9 @@ ghost use Rattle.lists.specs.Lists.{each};
 ghost use Rattle.floating.specs.Limits.{finite};
 ghost use Rattle.little.specs.Little.{wordBytes};
 ghost use Rattle.mesh.specs.Mesh.{cornersIn, rings};
-ghost use Rattle.written.specs.Pieces.{coordinateBytes, headerOf};
+ghost use Rattle.written.specs.Pieces.{wide, faceKind, countBytes, countLength, coordinateBytes, headerOf};
 ghost use Rattle.written.specs.Parts.{entryRecord, firstRows, faceRecord};
-ghost use Rattle.saving.specs.Working.{Stored, Fits, Coordinates, AnEntry, Entries, AFace, Faces};
+ghost use Rattle.saving.specs.Working.{Stored, Fits, Coordinates, AnEntry, Entries, ACount, AFace, Faces};
 
 // ---- parts of a record
 
@@ -101,14 +101,54 @@ pub fn put_entries(s: &[f64], w: usize, n: usize, kind: u32, out: &mut [u8], at:
 
 // ---- faces
 
-// The record of a face: a byte n, then n corners.
+// Whether a face of n corners is wide: kind 4 does not hold it.
+fn is_wide(n: usize) -> bool
+    ensures { λ r. ⌜ r ≡ wide n ⌝ }
+{
+    records::BYTE_FACE < n
+}
+
+// The kind of a face of n corners.
+fn face_kind(n: usize) -> u32
+    ensures { λ r. ⌜ r ≡ faceKind (wide n) ⌝ }
+{
+    if is_wide(n) {
+        return records::WIDE_KIND;
+    }
+    records::BYTE_KIND
+}
+
+// How many bytes its count has.
+pub fn count_length(n: usize) -> usize
+    ensures { λ r. ⌜ r ≡ countLength (wide n) ⌝ }
+{
+    if is_wide(n) {
+        return records::WIDE_COUNT;
+    }
+    records::BYTE_COUNT
+}
+
+// Its count.
+fn put_count(n: usize, out: &mut [u8], at: usize) -> usize
+    requires { ⌜ ACount n (now out) at ⌝ }
+    ensures { λ r. ⌜ Stored (countBytes (wide n) n) (now (out .entry)) (now (out .exit)) at r ⌝ }
+{
+    if is_wide(n) {
+        little::put_half(out, at, n as u32);
+        return at + records::WIDE_COUNT;
+    }
+    put_byte(n as u8, out, at)
+}
+
+// The record of a face: a count n, then n corners.
 fn put_face(part: &[u32], out: &mut [u8], at: usize) -> usize
     requires { ⌜ AFace (now part) (now out) at ⌝ }
     ensures { λ r. ⌜ Stored (faceRecord (cornersIn (now (part .entry)))) (now (out .entry)) (now (out .exit)) at r ⌝ }
 {
     let n = part.len() / mesh::WIDTH;
-    let a = put_header((1 + 4 * part.len()) as u32, 4, out, at);
-    let b = put_byte(n as u8, out, a);
+    let length = count_length(n) + 4 * part.len();
+    let a = put_header(length as u32, face_kind(n), out, at);
+    let b = put_count(n, out, a);
     put_words(part, out, b)
 }
 

@@ -14,6 +14,7 @@ use Rattle.lists.specs.Lists.{some, every, joined, each}
 use Rattle.lists.proofs.Bools.{and-both, and-left, and-right, or-neither, or-false-left, or-false-right}
 use Rattle.lists.proofs.Mapping.{every-map}
 use Rattle.lists.proofs.Parts.{some-joined}
+use Rattle.mesh.specs.Limits.{ringLimit}
 use Rattle.mesh.specs.Mesh.{Mesh, meshOf, Corner, Ring, position, texture, normal, missing, cornersIn, faces, positionCount, textureCount, normalCount}
 use Rattle.mesh.specs.Table.{meshNumber, beyondUnlessMissing, astrayBy, astrayAt, astray}
 use Rattle.mesh.proofs.Corners.{isCorner}
@@ -160,7 +161,7 @@ triangles-count (f ∷ fs) h =
 triangles-sized : (fs : List Ring) → every isTriangle fs ≡ true → every sized fs ≡ true
 triangles-sized fs h =
     every-back sized
-    (all-map (λ f e. ap (λ (l : ℕ). leb 3 l && leb l 32) (eqb-true (length f) 3 e)) (all-every isTriangle fs h))
+    (all-map (λ f e. ap (λ (l : ℕ). leb 3 l && leb l ringLimit) (eqb-true (length f) 3 e)) (all-every isTriangle fs h))
 
 module _ (m : Mesh) (g : Given m) (ps : List Float) (e : Fitting m ps) where
   abbrev before : List Ring

@@ -13,6 +13,7 @@ pub(crate) fn push_limits() {
 fn lengths() {
     alike(b"push 1 corner numbers 12288", 12288, 32, 128);
     alike(b"push 1 corner numbers 12291", 12291, 32, 128);
+    alike(b"push 1 corner numbers 11700", 11700, 300, 13);
     alike(b"push 1 sizes 1365", 4095, 1, 1365);
     alike(b"push 1 sizes 1366", 4098, 1, 1366);
 }
@@ -24,10 +25,12 @@ fn sums() {
     alike(b"push 2 size 3 over 12 corner numbers", 12, 3, 1);
 }
 
-// 3: more than 32 corners. Fewer than three are dropped, and any order is taken.
+// 3: more than 300 corners. Fewer than three are dropped, and any order is taken.
 fn sizes() {
     alike(b"push 3 size 32", 96, 32, 1);
     alike(b"push 3 size 33", 99, 33, 1);
+    alike(b"push 3 size 300", 900, 300, 1);
+    alike(b"push 3 size 301", 903, 301, 1);
     alike(b"push 3 size 2", 6, 2, 1);
     faces(b"push 3 sizes 5 2 4 3", 42, &[5, 2, 4, 3]);
 }

@@ -56,12 +56,15 @@ fn no_sum() {
     );
 }
 
-// 3: a face size lies outside 3 to 32.
+// 3: a face size lies outside 3 to 300. 32 and 33 are apart only in a panel file.
 fn sizes_outside() {
     face(b"3 size 2", 2, 6);
     face(b"3 size 3", 3, 9);
     face(b"3 size 32", 32, 96);
     face(b"3 size 33", 33, 99);
+    face(b"3 size 299", 299, 897);
+    face(b"3 size 300", 300, 900);
+    face(b"3 size 301", 301, 903);
 }
 
 // 4: sizes aren't grouped: triangles first, then quadrangles, then larger faces.
@@ -108,13 +111,13 @@ fn no_position() {
 // Lists that earn two numbers answer the lower. Index 1 is beyond each list.
 fn rows_in_order() {
     coordinates(b"1 before 2, position numbers 6145", 6145, 0, 0);
-    let corners = [1; 108];
+    let corners = [1; 912];
     earned(
         b"2 before 3, size 2 over 9 corner numbers",
         fronts::numbers(&corners, 9),
         &[2],
     );
-    earned(b"3 before 4, sizes 33 3", &corners, &[33, 3]);
+    earned(b"3 before 4, sizes 301 3", &corners, &[301, 3]);
     earned(
         b"4 before 5, sizes 4 3",
         fronts::numbers(&corners, 21),

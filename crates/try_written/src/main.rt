@@ -1,5 +1,6 @@
 // Tries the writer on the longest file that a mesh can make, every list at its limit, with exactly its room and with one byte less, also
-// with a last coordinate that no corner uses and that is not finite, and the reader on what was written; and prints what each answers.
+// with a last coordinate that no corner uses and that is not finite, and on the largest faces that there are; and the reader on what was
+// written; and prints what each answers.
 const LESS: usize = saving::FILE - 1;
 
 const LAST_COORDINATE: usize = mesh::POINT_NUMBERS - 1;
@@ -7,6 +8,13 @@ const LAST_COORDINATE: usize = mesh::POINT_NUMBERS - 1;
 const LAST_TEXTURE: usize = mesh::TEXEL_NUMBERS - 1;
 
 const LAST: usize = mesh::FACES - 1;
+
+// 13 faces of 300 corners and one of 196 are 4,096 corners.
+const FEWEST: usize = 14;
+
+const LAST_OF_FEWEST: usize = FEWEST - 1;
+
+const REST: u32 = 196;
 
 fn main() {
     let mut less = [b'.'; LESS];
@@ -24,6 +32,9 @@ fn main() {
     let written = write(0.5, 0.5, &mut file);
     show(b"with its room", written, untouched(&file) as u64);
     read(&file);
+    let wide = write_largest(&mut file);
+    show(b"faces of 300 corners", wide, untouched(&file) as u64);
+    read(front(&file, wide.length));
 }
 
 // 1,364 triangles and a quadrangle are 4,096 corners. The last coordinate of positions and normals is x, that of texture points u.
@@ -36,6 +47,24 @@ fn write(x: f64, u: f64, out: &mut [u8]) -> saving::Saved {
     let mut sizes = [3u32; mesh::FACES];
     sizes[LAST] = 4;
     saving::write_panel(&points, &textures, &points, &corners, &sizes, out)
+}
+
+// The same corners in as few faces as there can be, each of kind 5.
+fn write_largest(out: &mut [u8]) -> saving::Saved {
+    let points = [0.5; mesh::POINT_NUMBERS];
+    let textures = [0.5; mesh::TEXEL_NUMBERS];
+    let corners = [0u32; mesh::CORNER_NUMBERS];
+    let mut sizes = [mesh::RING as u32; FEWEST];
+    sizes[LAST_OF_FEWEST] = REST;
+    saving::write_panel(&points, &textures, &points, &corners, &sizes, out)
+}
+
+// The first n bytes, or all of them where there are fewer.
+fn front(file: &[u8], n: usize) -> &[u8] {
+    if n <= file.len() {
+        return &file[0..n];
+    }
+    file
 }
 
 // The writer: its number, the file's length, and how many bytes at the front of the lent list are as they were.

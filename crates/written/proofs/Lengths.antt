@@ -1,7 +1,8 @@
 -- How many bytes each part of a record has; and the record of a face by the flat list of its corners. Assumes nothing.
 use mathlib.Core.Path.{_≡_, refl, sym, ap, ap₂, _∙_}
+use mathlib.Core.Bool.{Bool, true, false}
 use mathlib.Core.List.{List, [], _∷_, _++_}
-use Prim.Native.Nat.{ℕ, suc, _+_, _*_, _/_, _%_}
+use Prim.Native.Nat.{ℕ, _+_, _*_, _/_, _%_}
 use native.Mathlib.Omega.{arith}
 use lib.ListN.{length, length-append}
 use lib.Ieee.{Float}
@@ -12,7 +13,7 @@ use Rattle.little.proofs.Written.{length-half, length-word, length-long}
 use Rattle.mesh.specs.Limits.{width}
 use Rattle.mesh.specs.Mesh.{Ring, cornersIn}
 use Rattle.mesh.proofs.Corners.{length-cornersIn, joined-cornersIn}
-use Rattle.written.specs.Pieces.{coordinateBytes, cornerBytes, headerOf, bodyOf, recordOf}
+use Rattle.written.specs.Pieces.{wide, faceKind, countBytes, countLength, coordinateBytes, cornerBytes, headerOf, bodyOf, recordOf}
 use Rattle.written.specs.Parts.{entryRecord, faceRecord}
 
 -- ---- as many bytes for each
@@ -56,24 +57,45 @@ words-joined (c ∷ f) = ap (λ (l : List ℕ). each wordBytes c ++ l) (words-jo
 pub corner-words : (cs : List ℕ) → length cs % width ≡ 0 → each cornerBytes (cornersIn cs) ≡ each wordBytes cs
 corner-words cs h = words-joined (cornersIn cs) ∙ ap (each wordBytes) (joined-cornersIn cs h)
 
+-- the count of a face
+pub length-count : (b : Bool) (n : ℕ) → length (countBytes b n) ≡ countLength b
+unfolding countBytes
+length-count false n = refl
+length-count true n = length-half n
+
 -- the two parts in front of the corners of a face: the header, and how many corners
 module _ (part : List ℕ) where
-  abbrev pub header : List ℕ
-  header = headerOf (1 + 4 * length part) 4
+  abbrev pub corners : ℕ
+  corners = length part / width
 
-  abbrev pub count : ℕ
-  count = length part / width
+  abbrev pub header : List ℕ
+  header = headerOf (countLength (wide corners) + 4 * length part) (faceKind (wide corners))
+
+  abbrev pub counted : List ℕ
+  counted = countBytes (wide corners) corners
 
   module _ (w : length part % width ≡ 0) where
     -- the record of the face of a part
-    pub face-bytes : faceRecord (cornersIn part) ≡ header ++ ((count ∷ []) ++ each wordBytes part)
+    pub face-bytes : faceRecord (cornersIn part) ≡ header ++ (counted ++ each wordBytes part)
     unfolding faceRecord recordOf bodyOf
     face-bytes =
         let ws = each wordBytes part in
-        let n : suc (length ws) ≡ 1 + 4 * length part = omega (arith, length-words part) in
-        ap₂ (λ (k : ℕ) (l : List ℕ). headerOf (suc (length l)) 4 ++ (k ∷ l)) (length-cornersIn part) (corner-words part w)
-        ∙ ap (λ (k : ℕ). headerOf k 4 ++ (count ∷ ws)) n
+        let n : length (counted ++ ws) ≡ countLength (wide corners) + 4 * length part =
+        omega (arith, length-append counted ws, length-count (wide corners) corners, length-words part) in
+        ap₂ (λ (k : ℕ) (l : List ℕ). headerOf (length (countBytes (wide k) k ++ l)) (faceKind (wide k)) ++ (countBytes (wide k) k ++ l))
+        (length-cornersIn part) (corner-words part w)
+        ∙ ap (λ (k : ℕ). headerOf k (faceKind (wide corners)) ++ (counted ++ ws)) n
 
-    pub length-face-record : length (faceRecord (cornersIn part)) ≡ 5 + 4 * length part
+    pub length-face-record : length (faceRecord (cornersIn part)) ≡ 4 + (countLength (wide corners) + 4 * length part)
     length-face-record =
-        omega (arith, ap length face-bytes, length-append header ((count ∷ []) ++ each wordBytes part), length-header (1 + 4 * length part) 4, length-words part)
+        let n = countLength (wide corners) + 4 * length part in
+        let ws = each wordBytes part in
+        omega (
+          arith,
+          ap length face-bytes,
+          length-append header (counted ++ ws),
+          length-header n (faceKind (wide corners)),
+          length-append counted ws,
+          length-count (wide corners) corners,
+          length-words part,
+        )

@@ -17,7 +17,7 @@ use Rattle.little.specs.Little.{long}
 use Rattle.records.specs.Lengths.{coordinateLength}
 use Rattle.records.specs.declared.Record.the-variants.{Position, Texture, Normal}
 use Rattle.records.specs.Records.{coordinate, pointFrom, texelFrom, bodyFrom, valuesOf}
-use Rattle.records.proofs.Values.{attribute-passes, face-passes, record-passes}
+use Rattle.records.proofs.Values.{attribute-passes, face-passes, wide-face-passes, record-passes}
 use Rattle.reading.specs.Reading.{readAll, meshDrawn, finish, readingNumber, panelMesh}
 use Rattle.reading.proofs.Ending.{read-accepted}
 use Rattle.reading.proofs.Values.{all-pass, read-finite}
@@ -45,7 +45,8 @@ body-is s b n zero = refl
 body-is s b n (suc zero) = attribute-passes isDouble (Position (pointFrom s b)) (point-is s b)
 body-is s b n (suc (suc zero)) = attribute-passes isDouble (Texture (texelFrom s b)) (texel-is s b)
 body-is s b n (suc (suc (suc zero))) = attribute-passes isDouble (Normal (pointFrom s b)) (point-is s b)
-body-is s b n (suc (suc (suc (suc k)))) = face-passes isDouble s b n
+body-is s b n (suc (suc (suc (suc zero)))) = face-passes isDouble s b n
+body-is s b n (suc (suc (suc (suc (suc k))))) = wide-face-passes isDouble s b n
 
 -- ---- the mesh of a file
 

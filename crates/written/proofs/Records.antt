@@ -1,6 +1,6 @@
 -- One written record is read back, in the middle of a file: stated once over the kinds. Assumes nothing.
 use mathlib.Core.Path.{_≡_, refl, sym, ap, _∙_}
-use mathlib.Core.Bool.{true, not, _&&_}
+use mathlib.Core.Bool.{Bool, true, false, not, _&&_}
 use mathlib.Core.List.{List, [], _∷_, _++_, append-assoc}
 use Prim.Native.Nat.{ℕ, _+_, _*_, _-_, _%_, _≤_, _<_}
 use native.Mathlib.Nat.{mod-eq-of-lt}
@@ -8,7 +8,7 @@ use native.Mathlib.Omega.{arith}
 use lib.ListN.{length, drop, length-append, length-drop}
 use lib.Dec.{leb, eqb}
 use lib.Ieee.{Float}
-use borrow.Author.Tests.{leb-true, eq-eqb, le-leb}
+use borrow.Author.Tests.{leb-true, ltb-true, ltb-false, eq-eqb, le-leb}
 use Rattle.lists.specs.Lists.{every, each}
 use Rattle.lists.proofs.Bools.{and-left, and-right, and-both}
 use Rattle.little.specs.Little.{half, halfBytes}
@@ -20,10 +20,11 @@ use Rattle.grouping.proofs.Accepting.{sized}
 use Rattle.floating.specs.Limits.{finite}
 use Rattle.floating.specs.Points.{coordinates}
 use Rattle.records.specs.declared.Record.the-variants.{Position, Texture, Normal, Face}
-use Rattle.records.specs.Records.{lengthFits, attribute, bodyFrom, recordFrom}
+use Rattle.records.specs.Lengths.{byteCount, wideCount, faceLength, wideFaceLength, countMost, byteFaceLimit, wideLeast, lastKind}
+use Rattle.records.specs.Records.{lengthFits, attribute, counted, faceFrom, wideFaceFrom, bodyFrom, recordFrom}
 use Rattle.records.proofs.Recorded.{body-whole, attribute-good, face-good}
-use Rattle.written.specs.Pieces.{Piece, aPosition, aTexture, aNormal, aFace, theEnd, cornerBytes, kindOf, headerOf, bodyOf, recordOf, pair}
-use Rattle.written.proofs.Lengths.{length-coordinates}
+use Rattle.written.specs.Pieces.{Piece, aPosition, aTexture, aNormal, aFace, theEnd, wide, faceKind, countBytes, countLength, cornerBytes, kindOf, headerOf, bodyOf, recordOf, pair}
+use Rattle.written.proofs.Lengths.{length-coordinates, length-count}
 use Rattle.written.specs.Said.{isDouble, isCoordinate, isWord, sayable, answerAt}
 use Rattle.written.specs.Promises.{RecordReopens}
 use Rattle.written.proofs.Bodies.{length-corner, point-back, texel-back}
@@ -41,7 +42,7 @@ abbrev pub lengthOf : Piece → ℕ
 lengthOf (aPosition p) = 24
 lengthOf (aTexture t) = 16
 lengthOf (aNormal p) = 24
-lengthOf (aFace f) = 1 + 12 * length f
+lengthOf (aFace f) = countLength (wide (length f)) + 12 * length f
 lengthOf theEnd = 0
 
 pub length-body : (p : Piece) → sayable p ≡ true → length (bodyOf p) ≡ lengthOf p
@@ -51,7 +52,8 @@ length-body (aTexture t) w = length-coordinates (pair t)
 length-body (aNormal p) w = length-coordinates (coordinates p)
 length-body (aFace f) w =
     let c : every isCorner f ≡ true = and-left (every isCorner f) (every (every isWord) f) (and-right (sized f) (every isCorner f && every (every isWord) f) w) in
-    omega (arith, length-ring f c)
+    let n = length f in
+    omega (arith, length-append (countBytes (wide n) n) (each cornerBytes f), length-count (wide n) n, length-ring f c)
 length-body theEnd w = refl
 
 face-size : (f : Ring) → sized f ≡ true → (3 ≤ length f) × (length f ≤ ringLimit)
@@ -60,29 +62,46 @@ face-size f h = (leb-true 3 (length f) (and-left (leb 3 (length f)) (leb (length
 pub small-face : (f : Ring) → sayable (aFace f) ≡ true → (3 ≤ length f) × (length f ≤ ringLimit)
 small-face f w = face-size f (and-left (sized f) (every isCorner f && every (every isWord) f) w)
 
+count-few : (b : Bool) → countLength b ≤ wideCount
+count-few false = omega arith
+count-few true = omega arith
+
 small-body : (p : Piece) → sayable p ≡ true → lengthOf p < 65536
 small-body (aPosition p) w = omega arith
 small-body (aTexture t) w = omega arith
 small-body (aNormal p) w = omega arith
-small-body (aFace f) w = omega (arith, small-face f w .1)
+small-body (aFace f) w = omega (arith, small-face f w .1, count-few (wide (length f)))
 small-body theEnd w = omega arith
+
+-- of a face by the kind that its size has
+right-face : (n : ℕ) (b : Bool) → wide n ≡ b → n ≤ ringLimit → lengthFits (faceKind b) (countLength b + 12 * n) ≡ true
+unfolding lengthFits
+right-face n false e l =
+    let few : n ≤ byteFaceLimit = omega (arith, ltb-false _ n e) in
+    let k = faceLength n in
+    and-both (leb k (faceLength countMost)) (eqb (k % 12) 1) (le-leb k (faceLength countMost) (omega arith)) (eq-eqb (k % 12) 1 (omega arith))
+right-face n true e l =
+    let many : byteFaceLimit < n = omega (arith, ltb-true _ n e) in
+    let k = wideFaceLength n in
+    and-both (leb (wideFaceLength wideLeast) k) (eqb (k % 12) 2) (le-leb (wideFaceLength wideLeast) k (omega arith)) (eq-eqb (k % 12) 2 (omega arith))
 
 right-length : (p : Piece) → sayable p ≡ true → lengthFits (kindOf p) (lengthOf p) ≡ true
 unfolding lengthFits
 right-length (aPosition p) w = refl
 right-length (aTexture t) w = refl
 right-length (aNormal p) w = refl
-right-length (aFace f) w =
-    let n = length f in
-    let l : n ≤ ringLimit = small-face f w .1 in
-    and-both (leb (1 + 12 * n) 3061) (eqb ((1 + 12 * n) % 12) 1) (le-leb (1 + 12 * n) 3061 (omega arith)) (eq-eqb ((1 + 12 * n) % 12) 1 (omega arith))
+right-length (aFace f) w = right-face (length f) (wide (length f)) refl (small-face f w .1)
 right-length theEnd w = refl
 
-known-kind : (p : Piece) → kindOf p ≤ 4
+known-face : (b : Bool) → faceKind b ≤ lastKind
+known-face false = omega arith
+known-face true = omega arith
+
+known-kind : (p : Piece) → kindOf p ≤ lastKind
 known-kind (aPosition p) = omega arith
 known-kind (aTexture t) = omega arith
 known-kind (aNormal p) = omega arith
-known-kind (aFace f) = omega arith
+known-kind (aFace f) = known-face (wide (length f))
 known-kind theEnd = omega arith
 
 -- ---- the header
@@ -108,7 +127,7 @@ module _ (s : List ℕ) (at : ℕ) (p : Piece) (r : List ℕ) (w : sayable p ≡
       ∙ ap (λ (n : ℕ). n % 65536) (length-body p w) ∙ mod-eq-of-lt (small-body p w)
 
   kind-read : half s (at + 2) ≡ kindOf p
-  kind-read = half-written s (at + 2) (kindOf p) (bodyOf p ++ r) kind-stands ∙ mod-eq-of-lt (let l : kindOf p ≤ 4 = known-kind p in omega arith)
+  kind-read = half-written s (at + 2) (kindOf p) (bodyOf p ++ r) kind-stands ∙ mod-eq-of-lt (let l : kindOf p ≤ lastKind = known-kind p in omega arith)
 
   -- the file goes on at least to the end of the body
   header-fits : 4 ≤ length s - at
@@ -127,11 +146,26 @@ module _ (s : List ℕ) (at : ℕ) (p : Piece) (r : List ℕ) (w : sayable p ≡
 -- ---- the body, by its kind
 
 -- where a face's corners begin
-pub corners-stand : (s : List ℕ) (at : ℕ) (f : Ring) (r : List ℕ) → drop (at + 4) s ≡ bodyOf (aFace f) ++ r → drop (at + 5) s ≡ each cornerBytes f ++ r
+pub corners-stand :
+    (s : List ℕ) (at : ℕ) (f : Ring) (r : List ℕ) → drop (at + 4) s ≡ bodyOf (aFace f) ++ r
+    → drop (at + 4 + countLength (wide (length f))) s ≡ each cornerBytes f ++ r
 unfolding bodyOf
 corners-stand s at f r h =
-    let e : at + 5 ≡ at + 4 + 1 = omega arith in
-    ap (λ (i : ℕ). drop i s) e ∙ behind s (at + 4) 1 (length f ∷ []) (each cornerBytes f ++ r) refl h
+    let n = length f in
+    let c = countBytes (wide n) n in
+    behind s (at + 4) (countLength (wide n)) c (each cornerBytes f ++ r) (length-count (wide n) n) (h ∙ append-assoc c (each cornerBytes f) r)
+
+-- its count, by the kind that its size has
+face-back :
+    (s : List ℕ) (i n : ℕ) (b : Bool) (r : List ℕ) → wide n ≡ b → n ≤ ringLimit → drop i s ≡ countBytes b n ++ r
+    → bodyFrom s i (countLength b + 12 * n) (faceKind b) ≡ Face (i + countLength b) n
+unfolding bodyFrom faceFrom wideFaceFrom countBytes
+face-back s i n false r e l h =
+    ap (λ (c : ℕ). counted byteCount byteFaceLimit c (i + byteCount) (faceLength n)) (byte-here s i n r h)
+    ∙ sym (face-good byteCount byteFaceLimit n (i + byteCount) (faceLength n) refl (omega (arith, ltb-false _ n e)))
+face-back s i n true r e l h =
+    ap (λ (c : ℕ). counted wideCount ringLimit c (i + wideCount) (wideFaceLength n)) (half-written s i n r h ∙ mod-eq-of-lt (omega arith))
+    ∙ sym (face-good wideCount ringLimit n (i + wideCount) (wideFaceLength n) refl l)
 
 are-finite : (l : List Float) → every isCoordinate l ≡ true → every finite l ≡ true
 are-finite [] h = refl
@@ -148,9 +182,9 @@ body-back s at (aTexture t) r w h =
 body-back s at (aNormal p) r w h =
     ap (λ q. attribute (Normal q)) (point-back s (at + 4) p r w h) ∙ sym (attribute-good (Normal p) _ refl (are-finite (coordinates p) w))
 body-back s at (aFace f) r w h =
-    let e : at + 4 + 1 ≡ at + 5 = omega arith in
-    sym (face-good s (at + 4) (1 + 12 * length f) (length f) (sym (byte-here s (at + 4) (length f) (each cornerBytes f ++ r) h)) refl (small-face f w .1))
-    ∙ ap (λ (a : ℕ). Face a (length f)) e
+    let n = length f in
+    let c = countBytes (wide n) n in
+    face-back s (at + 4) n (wide n) (each cornerBytes f ++ r) refl (small-face f w .1) (h ∙ append-assoc c (each cornerBytes f) r)
 body-back s at theEnd r w h = refl
 
 -- the record that was written for a piece is read as that piece, wherever it stands

@@ -20,7 +20,7 @@ use Rattle.floating.specs.Points.{coordinates}
 use Rattle.records.specs.Records.{ringFrom}
 use Rattle.reading.specs.Reading.{Drawn, reader, takeRecord, readFrom, withFace}
 use Rattle.reading.proofs.Sane.{read-on, read-off}
-use Rattle.written.specs.Pieces.{Piece, aPosition, aTexture, aNormal, aFace, theEnd, kindOf, headerOf, bodyOf, recordOf, pair}
+use Rattle.written.specs.Pieces.{Piece, aPosition, aTexture, aNormal, aFace, theEnd, wide, countLength, kindOf, headerOf, bodyOf, recordOf, pair}
 use Rattle.written.proofs.Lengths.{length-header}
 use Rattle.written.specs.Said.{isWord, sayable, answerAt, ends, drawnMore, positionsIn, texturesIn, normalsIn, facesIn, drawnWith, Roomy}
 use Rattle.written.proofs.Bodies.{ring-back}
@@ -55,9 +55,10 @@ take-back s at d (aNormal p) r w h m = rw (le-ltb pointNumbers (length (d .norma
 take-back s at d (aFace f) r w h m =
     let n = length f in
     let v : (every isCorner f && every (every isWord) f) ≡ true = and-right (sized f) (every isCorner f && every (every isWord) f) w in
-    let e : ringFrom s n (at + 5) ≡ f =
-    ring-back s (at + 5) f r (and-left (every isCorner f) (every (every isWord) f) v) (and-right (every isCorner f) (every (every isWord) f) v) (corners-stand s at f r h) in
-    let j : at + 5 + 12 * n ≡ at + (4 + (1 + 12 * n)) = omega arith in
+    let k = countLength (wide n) in
+    let e : ringFrom s n (at + 4 + k) ≡ f =
+    ring-back s (at + 4 + k) f r (and-left (every isCorner f) (every (every isWord) f) v) (and-right (every isCorner f) (every (every isWord) f) v) (corners-stand s at f r h) in
+    let j : at + 4 + k + 12 * n ≡ at + (4 + (k + 12 * n)) = omega arith in
     rw (le-ltb n 3 (small-face f w .0), le-ltb cornerLimit (cornerCount (d .faces) + n) (omega (arith, m .corners, count-append (d .faces) (f ∷ []))))
     (ap₂ (λ (a : ℕ) (g : Ring). reader a 0 false (withFace g d)) j e)
 take-back s at d theEnd r w h m = refl

@@ -1,11 +1,12 @@
 -- A mesh as a panel file: positions, texture points, normals, faces in their order, end (document 02, CR 1). Its records are those of
 -- document 01, 'The panel file and the sheet'. Assumes nothing.
 use Prim.Native.Nat.{ℕ, _+_, _*_}
-use mathlib.Core.Bool.{Bool}
+use mathlib.Core.Bool.{Bool, true, false}
 use mathlib.Core.List.{List, [], _∷_, _++_, map}
 use lib.ListN.{length}
+use lib.Dec.{ltb}
 use lib.Ieee.{Float, toBits, binary64}
-use Rattle.lists.specs.Lists.{each}
+use Rattle.lists.specs.Lists.{each, count}
 use Rattle.little.specs.Little.{halfBytes, wordBytes, longBytes}
 use Rattle.mesh.specs.Limits.{entryLimit, faceLimit, cornerNumbers}
 use Rattle.mesh.specs.Mesh.{Mesh, Corner, Ring, faces, positionCount, textureCount, normalCount}
@@ -13,6 +14,7 @@ use Rattle.floating.specs.declared.Point.{Point}
 use Rattle.floating.specs.declared.Texel.{Texel}
 use Rattle.floating.specs.Limits.{allFinite}
 use Rattle.floating.specs.Points.{texel, coordinates, pointsOf}
+use Rattle.records.specs.Lengths.{byteFaceLimit, byteCount, wideCount, byteKind, wideKind}
 
 -- what one record says
 pub data Piece : Type 0 where
@@ -42,12 +44,21 @@ finiteMesh m = allFinite (m .positions) (m .textures) (m .normals)
 
 -- ---- one record
 
--- kind 0: end; 1: position; 2: texture; 3: normal; 4: face
+-- a face is wide where kind 4 does not hold it: from 33 corners on
+abbrev pub wide : ℕ → Bool
+wide n = ltb byteFaceLimit n
+
+-- the writer picks the kind of a face by its size: 4, or 5 where it is wide
+abbrev pub faceKind : Bool → ℕ
+faceKind false = byteKind
+faceKind true = wideKind
+
+-- kind 0: end; 1: position; 2: texture; 3: normal; 4 and 5: face
 abbrev pub kindOf : Piece → ℕ
 kindOf (aPosition p) = 1
 kindOf (aTexture t) = 2
 kindOf (aNormal p) = 3
-kindOf (aFace f) = 4
+kindOf (aFace f) = faceKind (wide (length f))
 kindOf theEnd = 0
 
 -- a coordinate is the eight bytes of its bits, minus zero with its own
@@ -58,12 +69,21 @@ coordinateBytes x = longBytes (toBits binary64 x)
 unfoldable pub cornerBytes : Corner → List ℕ
 cornerBytes c = each wordBytes c
 
--- a face is a byte n, then n corners
+-- how many corners a face has is said in one byte, in two where it is wide
+unfoldable pub countBytes : Bool → ℕ → List ℕ
+countBytes false n = n ∷ []
+countBytes true n = halfBytes n
+
+abbrev pub countLength : Bool → ℕ
+countLength false = byteCount
+countLength true = wideCount
+
+-- a face is a count n, then n corners
 unfoldable pub bodyOf : Piece → List ℕ
 bodyOf (aPosition p) = each coordinateBytes (coordinates p)
 bodyOf (aTexture t) = each coordinateBytes (pair t)
 bodyOf (aNormal p) = each coordinateBytes (coordinates p)
-bodyOf (aFace f) = length f ∷ each cornerBytes f
+bodyOf (aFace f) = countBytes (wide (length f)) (length f) ++ each cornerBytes f
 bodyOf theEnd = []
 
 -- a record: two-byte length of its body, two-byte kind, body
@@ -78,12 +98,13 @@ recordOf p = headerOf (length (bodyOf p)) (kindOf p) ++ bodyOf p
 unfoldable pub fileOf : Mesh → List ℕ
 fileOf m = each recordOf (piecesOf m) ++ recordOf theEnd
 
--- how long the whole file is: four bytes before each body; then 24, 16 and 24 for the entries, one for a face and four for each number of
--- its corners, and none for the end
+-- how long the whole file is: four bytes before each body; then 24, 16 and 24 for the entries, one for a face, one more where it is wide, and
+-- four for each number of its corners, and none for the end
 unfoldable pub fileLength : Mesh → ℕ
 fileLength m =
-    28 * positionCount m + 20 * textureCount m + 28 * normalCount m + 5 * length (m .sizes) + 4 * length (m .corners) + 4
+    28 * positionCount m + 20 * textureCount m + 28 * normalCount m + 5 * length (m .sizes) + count wide (m .sizes) + 4 * length (m .corners) + 4
 
--- how long the largest file is that a mesh can make: every limit is full
+-- how long the largest file is that a mesh can make: every limit is full, and no face is wide, since one byte more for a wide face is less
+-- than the faces of three corners that could stand for it
 abbrev pub fileLimit : ℕ
 fileLimit = 28 * entryLimit + 20 * entryLimit + 28 * entryLimit + 5 * faceLimit + 4 * cornerNumbers + 4

@@ -13,10 +13,11 @@ use Rattle.grouping.specs.Push.{cornerCount}
 use Rattle.grouping.proofs.Accepting.{sized}
 use Rattle.floating.specs.Limits.{finite}
 use Rattle.floating.specs.Points.{coordinates}
+use Rattle.records.specs.Lengths.{headerLength}
 use Rattle.records.specs.declared.Record.{Record}
 use Rattle.records.specs.declared.Record.the-variants.{Position, Texture, Normal, Face, End}
 use Rattle.reading.specs.Reading.{Drawn, withPosition, withTexture, withNormal, withFace}
-use Rattle.written.specs.Pieces.{Piece, aPosition, aTexture, aNormal, aFace, theEnd, pair}
+use Rattle.written.specs.Pieces.{Piece, aPosition, aTexture, aNormal, aFace, theEnd, wide, countLength, pair}
 
 -- a number that an f64 holds, and a coordinate of a file: one that is finite besides
 abbrev pub isDouble : Float → Bool
@@ -29,7 +30,7 @@ isCoordinate x = isDouble x && finite x
 abbrev pub isWord : ℕ → Bool
 isWord n = ltb n 4294967296
 
--- coordinates are finite f64, corners have their numbers, of four bytes each, and a face has 3 to 32 corners
+-- coordinates are finite f64, corners have their numbers, of four bytes each, and a face has as many as a face may have
 abbrev pub sayable : Piece → Bool
 sayable (aPosition p) = every isCoordinate (coordinates p)
 sayable (aTexture t) = every isCoordinate (pair t)
@@ -42,7 +43,7 @@ abbrev pub answerAt : ℕ → Piece → Record
 answerAt at (aPosition p) = Position p
 answerAt at (aTexture t) = Texture t
 answerAt at (aNormal p) = Normal p
-answerAt at (aFace f) = Face (at + 5) (length f)
+answerAt at (aFace f) = Face (at + headerLength + countLength (wide (length f))) (length f)
 answerAt at theEnd = End
 
 -- ---- what pieces draw

@@ -9,27 +9,40 @@ mod time;
 use comparer::{Library, Watch};
 use judge::Call;
 use shapes::Case;
+use std::ffi::CStr;
 use std::os::raw::{c_char, c_int};
 use std::time::Duration;
 
 /// About 1/16, 1/4 and the whole of the limits.
 const CORNERS: [usize; 3] = [256, 1_024, 4_096];
+/// One face of 300 corners, four, and as many as there may be.
+const ROUND_CORNERS: [usize; 3] = [300, 1_200, 3_900];
 
-/// The whole program, for a C `main` that knows where the product's functions are. With any word after its name it leaves out points in
-/// one cell, which take the Rust long.
+/// The whole program, for a C `main` that knows where the product's functions are. With the word `short` it leaves out points in one cell, which take
+/// the Rust long; with the word `round` it measures faces of 300 corners, and nothing else.
 ///
 /// # Safety
-/// Nothing of `argv` is read.
+/// `argv` holds `argc` strings.
 #[no_mangle]
-pub unsafe extern "C" fn bench(library: Library, _: Watch, argc: c_int, _: *const *const c_char) -> c_int {
+pub unsafe extern "C" fn bench(library: Library, _: Watch, argc: c_int, argv: *const *const c_char) -> c_int {
+    let has = |word: &str| (1..argc as usize).any(|i| CStr::from_ptr(*argv.add(i)).to_bytes() == word.as_bytes());
     for call in Call::ALL {
-        for corners in CORNERS {
-            for case in cases(call, corners, argc > 1) {
+        for corners in if has("round") { ROUND_CORNERS } else { CORNERS } {
+            let cases = if has("round") { round_cases(call, corners) } else { cases(call, corners, has("short")) };
+            for case in cases {
                 print_times(&library, call, corners, &case);
             }
         }
     }
     0
+}
+
+/// Faces of 300 corners, for what looks at faces: smoothing takes triangles alone, and merging looks at points.
+fn round_cases(call: Call, corners: usize) -> Vec<Case> {
+    match call {
+        Call::LoopSubdivision | Call::PutTogetherSameAttrs => vec![],
+        _ => shapes::round(corners),
+    }
 }
 
 /// What a call is measured on. Smoothing makes four triangles for one, so its corners are those of its result.

@@ -49,6 +49,34 @@ pub fn one_cell(corners: usize) -> Case {
     Case { name: "one cell", mesh, tolerance: 0.5 }
 }
 
+/// The corners of a round face, the most that a face may have.
+const AROUND: usize = 300;
+
+/// Round faces, so many corners in all: strips that hang together by half of their edges each; in petals, a hundred triangles at one position; and
+/// folded deeply, each face in another way.
+pub fn round(corners: usize) -> Vec<Case> {
+    let faces = corners / AROUND;
+    let points = (AROUND / 2 * faces).max(AROUND);
+    let case = |name, face: &dyn Fn(usize) -> Vec<usize>| {
+        let faces = (0..faces).map(|k| face(k).into_iter().map(|i| (i % points) as u32).collect()).collect();
+        Case { name, mesh: mesh((0..points).map(|i| circle(i, points, 0.5)).collect(), faces), tolerance: 1.0 / 1024.0 }
+    };
+    let half = AROUND / 2;
+    // Up one arc and down the next; the last arc is the first again, where there are enough of them.
+    let strip = |k: usize| (k * half..(k + 1) * half).chain(((k + 1) * half..(k + 2) * half).rev()).collect();
+    let petals = |k: usize| (0..AROUND).map(|i| k * half + if i % 3 == 0 { 0 } else { i }).collect();
+    let deep = |k: usize| -> Vec<usize> {
+        let folded: fn(usize) -> usize = match k % 3 {
+            // The first two equal positions stand at the end of the first half; there and back; all at one position.
+            0 => |i| if i < AROUND / 2 { i } else { AROUND / 2 - 1 },
+            1 => |i| i.min(AROUND - 1 - i),
+            _ => |_| 0,
+        };
+        (0..AROUND).map(|i| k * AROUND / 2 + folded(i)).collect()
+    };
+    vec![case("round faces", &strip), case("round faces in petals", &petals), case("round faces folded deeply", &deep)]
+}
+
 /// Quadrangles, 16 around, open at both ends.
 fn tube(corners: usize) -> Mesh {
     let (around, along) = (16, corners / 64);

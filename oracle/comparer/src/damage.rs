@@ -52,8 +52,8 @@ fn size_off(random: &Random, mesh: &mut Mesh) {
         return;
     }
     let (one, other) = (random.below(mesh.sizes.len()), random.below(mesh.sizes.len()));
-    match random.below(4) {
-        0 => mesh.sizes[one] = random.pick(&[0, 1, 2, 3, 4, 5, 32, 33, 256, MISSING]),
+    match random.below(5) {
+        0 => mesh.sizes[one] = random.pick(&[0, 1, 2, 3, 4, 5, 32, 33, 256, 300, 301, MISSING]),
         1 => {
             let by = random.pick(&[1, 2, 3, 30, 0x8000_0000]);
             mesh.sizes[one] = mesh.sizes[one].wrapping_add(by);
@@ -64,12 +64,24 @@ fn size_off(random: &Random, mesh: &mut Mesh) {
             mesh.sizes.insert(one, 0);
             mesh.sizes[one + 1] = size;
         }
+        3 => grow_the_last(random, mesh),
         _ if one != other => {
             let joined = mesh.sizes[one].wrapping_add(mesh.sizes[other]);
             mesh.sizes[one] = joined;
             mesh.sizes.remove(other);
         }
-        _ => mesh.sizes[one] = 33,
+        _ => mesh.sizes[one] = 301,
+    }
+}
+
+/// The last face gets corners until it has about as many as a face may have, or as many as it had and 256.
+fn grow_the_last(random: &Random, mesh: &mut Mesh) {
+    let last = mesh.sizes.len() - 1;
+    let old = mesh.sizes[last];
+    let new = random.pick(&[32, 33, 299, 300, 300, 301, 301, 302, old.min(1_000) + 256]);
+    if old < new && old as usize <= mesh.corner_count() {
+        mesh.sizes[last] = new;
+        mesh.corners.resize(mesh.corners.len() + 3 * (new - old) as usize, 0);
     }
 }
 

@@ -1,6 +1,6 @@
 //! Short files in which broken coordinates stand before, in and behind each other fault of a file.
 
-use crate::files::{break_one, face, record};
+use crate::files::{at_a_border, break_one, face, face_of_kind, record};
 use crate::random::Random;
 
 const END: u16 = 0;
@@ -42,13 +42,14 @@ fn broken(random: &Random, kind: usize) -> Vec<u8> {
 /// corners', one of too many corners, one that names no position; and the end, which others may follow.
 fn fault(random: &Random, kind: usize) -> Vec<u8> {
     let body = broken(random, kind)[4..].to_vec();
-    match random.below(7) {
-        0 => record(random.pick(&[5, 6, 256, 257]), &body),
+    match random.below(8) {
+        0 => record(random.pick(&[5, 6, 7, 256, 257, 260, 261]), &body),
         1 => record(kind as u16, &[&body[..], &[0; 8][..random.pick(&[1, 7, 8])]].concat()),
         2 => record(kind as u16, &body[..body.len() - random.pick(&[1, 8])]),
         3 => record(4, &[&[random.pick(&[2, 4, 34])][..], &[0; 36]].concat()),
-        4 => face(&[0; 3 * 33]),
+        4 => face_of_kind(random.pick(&[4, 5]), &[0; 3 * 33]),
         5 => face(&[random.pick(&[7, 2_048]); 9]),
+        6 => at_a_border(random),
         _ => record(END, &[]),
     }
 }

@@ -20,6 +20,38 @@ pub fn with_touching_hems(random: &Random) -> Vec<u8> {
     of_mesh(random, &meshes::with_touching_hems(random).mesh)
 }
 
+/// A random file with faces of more than 32 corners: of a mesh, or a short one with faces of both kinds at the borders of each.
+pub fn with_large_faces(random: &Random) -> Vec<u8> {
+    if random.once_in(2) {
+        return of_mesh(random, &meshes::with_large_faces(random).mesh);
+    }
+    let mut records = vec![record(1, &[0; 24])];
+    records.extend((0..random.within(1, 3)).map(|_| at_a_border(random)));
+    if random.once_in(3) {
+        records.insert(random.below(records.len()), record(2, &[0; 16]));
+    }
+    spoilt(random, records)
+}
+
+/// A face of a number of corners, and of a kind, that is right, or just is not; its n may be another, by one byte or by both.
+pub fn at_a_border(random: &Random) -> Vec<u8> {
+    let (kind, corners) = match random.below(3) {
+        0 => (4, random.pick(&[0, 2, 3, 31, 32, 33, 34, 44, 255])),
+        1 => (5, random.pick(&[31, 32, 33, 34, 255, 256, 257])),
+        _ => (5, random.pick(&[0, 3, 299, 300, 301, 302, 556, 1_365, 4_097, 5_461])),
+    };
+    let position = if random.once_in(12) { 1 } else { 0 };
+    let mut face = face_of_kind(kind, &[position, MISSING, MISSING].repeat(corners));
+    if random.once_in(5) {
+        let byte = 4 + random.below(kind as usize - 3);
+        face[byte] = random.pick(&[0, 1, 2, 32, 33, 44, 45, face[byte].wrapping_add(1), face[byte].wrapping_sub(1)]);
+    }
+    if random.once_in(10) {
+        face.truncate(random.within(4, face.len()));
+    }
+    face
+}
+
 /// A file made from a mesh, and then perhaps spoilt.
 fn of_mesh(random: &Random, mesh: &Mesh) -> Vec<u8> {
     let mut records = records(random, mesh);
@@ -29,6 +61,11 @@ fn of_mesh(random: &Random, mesh: &Mesh) -> Vec<u8> {
     if random.once_in(8) {
         break_some(random, &mut records);
     }
+    spoilt(random, records)
+}
+
+/// The file of these records, in any order, and then perhaps cut, lengthened and changed.
+fn spoilt(random: &Random, mut records: Vec<Vec<u8>>) -> Vec<u8> {
     if random.once_in(2) {
         random.shuffle(&mut records);
     }
@@ -57,7 +94,7 @@ fn records(random: &Random, mesh: &Mesh) -> Vec<Vec<u8>> {
     let corners: Vec<&[u32]> = mesh.corners.chunks_exact(3).collect();
     let mut from = 0;
     for size in &mesh.sizes {
-        let to = from + (*size as usize).min(corners.len() - from).min(255);
+        let to = from + (*size as usize).min(corners.len() - from);
         records.push(face(&corners[from..to].concat()));
         from = to;
         if random.once_in(8) {
@@ -66,14 +103,20 @@ fn records(random: &Random, mesh: &Mesh) -> Vec<Vec<u8>> {
         }
     }
     if random.once_in(16) {
-        records.push(face(&vec![0; 3 * random.pick(&[31, 32, 33, 34, 255])]));
+        records.push(at_a_border(random));
     }
     records
 }
 
+/// A face of the kind that its size asks for.
 pub fn face(corners: &[u32]) -> Vec<u8> {
-    let numbers = corners.iter().flat_map(|number| number.to_le_bytes());
-    record(4, &std::iter::once((corners.len() / 3) as u8).chain(numbers).collect::<Vec<u8>>())
+    face_of_kind(if corners.len() / 3 <= 32 { 4 } else { 5 }, corners)
+}
+
+/// A face of kind 4, whose n has a byte, or of kind 5, whose n has two. A length that two bytes cannot say is cut to them.
+pub fn face_of_kind(kind: u16, corners: &[u32]) -> Vec<u8> {
+    let count = (corners.len() / 3).to_le_bytes().into_iter().take(kind as usize - 3);
+    record(kind, &count.chain(corners.iter().flat_map(|number| number.to_le_bytes())).collect::<Vec<u8>>())
 }
 
 /// A coordinate or two of the entries are not finite.
@@ -98,7 +141,7 @@ fn over_a_limit(random: &Random, records: &mut Vec<Vec<u8>>) {
     let kind = random.within(1, 4) as u16;
     let there = records.iter().filter(|record| record[2] == kind as u8).count();
     if kind == 4 {
-        let size = random.pick(&[3, 4, 16, 32]);
+        let size = random.pick(&[3, 4, 16, 32, 64, 300]);
         let faces = 4_096 / size + random.below(2);
         *records = vec![face(&vec![0; 3 * size]); faces];
         records.push(record(1, &[0; 24]));
@@ -124,7 +167,7 @@ fn damage(random: &Random, file: &mut Vec<u8>) {
         }
         4 => file.insert(at, random.bits() as u8),
         5 => change_a_header(random, file),
-        _ if !file.is_empty() => file[at] = random.pick(&[0, 1, 2, 3, 4, 5, 24, 33, 255]),
+        _ if !file.is_empty() => file[at] = random.pick(&[0, 1, 2, 3, 4, 5, 6, 24, 33, 44, 255]),
         _ => {}
     }
 }
@@ -139,10 +182,10 @@ fn change_a_header(random: &Random, file: &mut [u8]) {
         }
         at += 4 + length;
     }
-    let place = at + random.below(5);
+    let place = at + random.below(6);
     if place < file.len() {
-        file[place] =
-            random.pick(&[0, 1, 2, 3, 4, 5, 16, 24, 25, 33, 37, file[place].wrapping_add(12), file[place].wrapping_sub(12)]);
+        let there = file[place];
+        file[place] = random.pick(&[0, 1, 2, 3, 4, 5, 6, 16, 24, 25, 33, 37, 44, there.wrapping_add(12), there.wrapping_sub(12)]);
     }
 }
 

@@ -1,7 +1,7 @@
 //! Meshes: every small one, and random ones of every size up to the limits.
 
 use crate::random::Random;
-use crate::{coordinates, damage, pinched, shapes};
+use crate::{coordinates, damage, pinched, round, shapes};
 use judge::mesh::Corner;
 use judge::reading::numbers::mesh_number;
 use judge::{Mesh, MISSING};
@@ -69,6 +69,13 @@ pub fn with_touching_hems(random: &Random) -> Case {
     furnished(random, faces, positions, tolerance, 16)
 }
 
+/// A random mesh with faces of more than 32 corners, folded or not.
+pub fn with_large_faces(random: &Random) -> Case {
+    let tolerance = coordinates::tolerance(random);
+    let (faces, positions) = round::faces(random);
+    furnished(random, faces, positions, tolerance, 6)
+}
+
 /// Faces by positions, with coordinates, texture points and normals; one mesh in so many is damaged.
 fn furnished(random: &Random, faces: Vec<Vec<u32>>, positions: usize, tolerance: f64, damaged: usize) -> Case {
     let mut mesh = Mesh {
@@ -99,7 +106,7 @@ fn furnished(random: &Random, faces: Vec<Vec<u32>>, positions: usize, tolerance:
     Case { mesh, tolerance }
 }
 
-/// The same mesh with its faces in any order, now and then with faces of fewer than three corners between them, and one of 32 or 33.
+/// The same mesh with its faces in any order, now and then with faces of fewer than three corners between them, and one of 32, 33, 300 or 301.
 pub fn any_order(random: &Random, mesh: &Mesh) -> Mesh {
     if [1, 2].contains(&mesh_number(mesh)) {
         return mesh.clone();
@@ -108,7 +115,7 @@ pub fn any_order(random: &Random, mesh: &Mesh) -> Mesh {
     random.shuffle(&mut faces);
     let more = if random.once_in(2) { random.below(4) } else { 0 };
     for _ in 0..more {
-        let corners = if random.once_in(12) { random.within(32, 33) } else { random.below(3) };
+        let corners = if random.once_in(12) { random.pick(&[32, 33, 300, 301]) } else { random.below(3) };
         faces.insert(random.below(faces.len() + 1), vec![[random.below(5) as u32, MISSING, 0]; corners]);
     }
     mesh.with_faces(&faces)

@@ -101,9 +101,9 @@ pub fn used(corners: &[u32]) -> BTreeSet<(usize, u32)> {
 }
 
 pub fn used_in_file(file: &[u8]) -> BTreeSet<(usize, u32)> {
-    let faces = records(file).into_iter().filter(|(_, kind, body)| *kind == 4 && body.len() > 36);
+    let faces = records(file).into_iter().filter(|(_, kind, body)| [4, 5].contains(kind) && body.len() > 36);
     let corners: Vec<u32> = faces
-        .flat_map(|(_, _, body)| body[1..].chunks_exact(4))
+        .flat_map(|(_, kind, body)| body[kind - 3..].chunks_exact(4))
         .map(|index| u32::from_le_bytes(index.try_into().unwrap()))
         .collect();
     used(&corners)

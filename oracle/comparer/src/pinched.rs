@@ -4,6 +4,7 @@
 use crate::random::Random;
 use crate::shapes::Faces;
 use crate::surfaces::{pinch, renumber, turn};
+use judge::reading::numbers::FACE;
 use std::collections::BTreeSet;
 
 /// Some faces with at most `corners` corners in all, and with as many positions as it says.
@@ -56,7 +57,7 @@ fn fans(random: &Random, corners: usize) -> Faces {
 fn ring_of_holes(random: &Random, corners: usize) -> Faces {
     let holes = (corners / random.pick(&[10, 14])).clamp(1, 40);
     let around = 2 * holes as u32;
-    let (closing, in_one) = (random.pick(&[2, 4, usize::MAX]), around <= 32 && random.once_in(2));
+    let (closing, in_one) = (random.pick(&[2, 4, usize::MAX]), FACE.contains(&around) && random.once_in(2));
     let closed: Vec<bool> = (0..holes).map(|_| random.once_in(closing)).collect();
     let disc = |k: u32| 1 + k % around;
     let ring = |k: u32| disc(k) + if k % 2 == 0 || closed[(k % around / 2) as usize] { 0 } else { around };
@@ -137,14 +138,14 @@ fn repeat_corners(random: &Random, faces: &mut Faces) {
     }
 }
 
-/// Keeps the first faces, of 3 to 32 corners, that fit in so many corners and take no step, from a position to the next, that was taken before.
+/// Keeps the first faces, of 3 to 300 corners, that fit in so many corners and take no step, from a position to the next, that was taken before.
 fn keep_oriented(faces: &mut Faces, corners: usize) {
     let (mut taken, mut left): (BTreeSet<[u32; 2]>, usize) = (BTreeSet::new(), corners);
     faces.retain(|face| {
         let steps: Vec<[u32; 2]> = (0..face.len()).map(|i| [face[i], face[(i + 1) % face.len()]]).collect();
         let apart = steps.iter().collect::<BTreeSet<_>>().len() == steps.len();
-        let fits =
-            (3..=32).contains(&face.len()) && face.len() <= left && apart && !steps.iter().any(|step| taken.contains(step));
+        let is_face = FACE.contains(&(face.len() as u32)) && face.len() <= left;
+        let fits = is_face && apart && !steps.iter().any(|step| taken.contains(step));
         left -= if fits { face.len() } else { 0 };
         taken.extend(steps.into_iter().filter(|_| fits));
         fits

@@ -113,7 +113,11 @@ impl Subject {
     /// The mesh, or the file, with this index.
     pub fn of(random: &Random, is_file: bool, index: u64) -> Subject {
         if is_file {
-            let file = if random.once_in(5) { files::with_touching_hems(random) } else { files::random(random) };
+            let file = match random.below(20) {
+                0..=3 => files::with_touching_hems(random),
+                4..=6 => files::with_large_faces(random),
+                _ => files::random(random),
+            };
             let question = Question { file, ..Question::default() };
             return Subject { question, any_order: Question::default(), surface: Question::default(), is_small: false };
         }
@@ -121,6 +125,7 @@ impl Subject {
         let Case { mut mesh, tolerance } = match is_small {
             true => meshes::exhaustive(index, random),
             false if random.once_in(3) => meshes::with_touching_hems(random),
+            false if random.once_in(16) => meshes::with_large_faces(random),
             false => meshes::random(random),
         };
         if !is_small && random.once_in(8) {

@@ -1,6 +1,7 @@
 //! Faces by positions: shapes of several kinds, and what makes them rough.
 
 use crate::random::Random;
+use judge::reading::numbers::FACE;
 
 /// Faces, each a list of positions.
 pub type Faces = Vec<Vec<u32>>;
@@ -32,7 +33,7 @@ fn soup(random: &Random, corners: usize) -> (Faces, usize) {
         _ => random.within(3, 2_048),
     };
     let positions = positions.min(2_048);
-    let largest = random.pick(&[3, 3, 4, 5, 8, 32]);
+    let largest = random.pick(&[3, 3, 4, 5, 8, 32, 300]);
     let mut faces = vec![];
     let mut left = corners;
     while left >= 3 {
@@ -93,7 +94,7 @@ fn rings(random: &Random, corners: usize) -> (Faces, usize) {
     let positions = random.within(1, random.pick(&[4, 8, 40]).min(corners.max(1)));
     let (mut faces, mut left) = (vec![], corners);
     while left >= 5 {
-        let size = random.within(5, random.pick(&[6, 8, 12, 32]).min(left));
+        let size = random.within(5, random.pick(&[6, 8, 12, 32, 300]).min(left));
         let mut face: Vec<u32> = (0..size).map(|i| ((i + faces.len()) % positions) as u32).collect();
         (0..random.below(size)).for_each(|_| face[random.below(size)] = random.below(positions) as u32);
         faces.push(face);
@@ -103,7 +104,7 @@ fn rings(random: &Random, corners: usize) -> (Faces, usize) {
 }
 
 /// Turns faces over, repeats faces, makes two positions one, repeats a corner, begins faces elsewhere, changes their order.
-fn roughen(random: &Random, faces: &mut Faces, positions: usize) -> usize {
+pub fn roughen(random: &Random, faces: &mut Faces, positions: usize) -> usize {
     let rate = random.pick(&[2, 6, 30, 200]);
     for i in 0..faces.len() {
         if !random.once_in(rate) {
@@ -138,17 +139,17 @@ fn roughen(random: &Random, faces: &mut Faces, positions: usize) -> usize {
 }
 
 /// Gives the positions other numbers.
-fn relabel(random: &Random, faces: &mut Faces, positions: usize) {
+pub fn relabel(random: &Random, faces: &mut Faces, positions: usize) {
     let mut names: Vec<u32> = (0..positions as u32).collect();
     random.shuffle(&mut names);
     faces.iter_mut().flatten().for_each(|p| *p = names[*p as usize]);
 }
 
-/// Keeps the first faces, of 3 to 32 corners, that fit in so many corners and in 2,048 positions.
-fn cut_to(faces: &mut Faces, corners: usize) {
+/// Keeps the first faces, of 3 to 300 corners, that fit in so many corners and in 2,048 positions.
+pub fn cut_to(faces: &mut Faces, corners: usize) {
     let mut left = corners;
     faces.retain(|face| {
-        let fits = face.len() <= left && (3..=32).contains(&face.len()) && face.iter().all(|p| *p < 2_048);
+        let fits = face.len() <= left && FACE.contains(&(face.len() as u32)) && face.iter().all(|p| *p < 2_048);
         left -= if fits { face.len() } else { 0 };
         fits
     });

@@ -13,8 +13,9 @@ struct Asked {
     with_rust: u64,
     /// Questions whose answer shows something: see `shows`.
     telling: u64,
-    /// The most corners and the most points of a mesh that the Rust was asked about.
+    /// The most corners and the most points of a mesh that the Rust was asked about, and the most corners of a face.
     corners: usize,
+    face: usize,
     points: usize,
 }
 
@@ -35,6 +36,7 @@ impl Tally {
         asked.with_rust += compared.with_rust as u64;
         if compared.with_rust {
             asked.corners = asked.corners.max(mesh.corner_count());
+            asked.face = asked.face.max(mesh.sizes.iter().max().map_or(0, |size| *size as usize));
             asked.points = asked.points.max(mesh.positions.len() / 3 + mesh.textures.len() / 2 + mesh.normals.len() / 3);
         }
         if compared.right.number != 0 {
@@ -61,9 +63,10 @@ impl Tally {
             if asked.with_rust > 0 {
                 let (corners, points) = (grouped(asked.corners as u64), grouped(asked.points as u64));
                 println!(
-                    "  {:<26}the Rust asked too: {}; up to {corners} corners and {points} points",
+                    "  {:<26}the Rust asked too: {}; up to {corners} corners, {} in one face, and {points} points",
                     "",
-                    grouped(asked.with_rust)
+                    grouped(asked.with_rust),
+                    asked.face
                 );
             }
             if let Some(what) = shows(*call) {

@@ -1,7 +1,7 @@
 //! Wrong answers that look right: what a product with one misreading of document 01 would say.
 
 use crate::wrong_merging::{merging, Misread};
-use crate::{wrong_broken, wrong_files, wrong_house, wrong_removal, wrong_smoothing};
+use crate::{wrong_broken, wrong_files, wrong_house, wrong_large, wrong_removal, wrong_smoothing};
 use judge::mesh::{Corner, Merged, Pushed, Verdict};
 use judge::reading::merging::put_together_same_attrs;
 use judge::reading::{cleaning, edges, numbers, panel_file, panels};
@@ -13,7 +13,7 @@ pub type Wrong = fn(&Question, &Answer) -> Option<Answer>;
 
 /// The misreadings of a call, each by its name.
 pub fn answers(call: Call) -> impl Iterator<Item = &'static (&'static str, Wrong)> {
-    of_its_own(call).iter().chain(wrong_broken::answers(call))
+    of_its_own(call).iter().chain(wrong_broken::answers(call)).chain(wrong_large::answers(call))
 }
 
 /// Those that no other call has.

@@ -122,7 +122,8 @@ fn mended_gives(question: &Question, right: &Answer, number: u32) -> Option<Answ
 /// Coordinates are asked before the length of an entry (12), or whether all of it is there (11), where the reading stops for that.
 fn in_the_last(question: &Question, right: &Answer, number: u32) -> Option<Answer> {
     let file = &question.file;
-    let fits = |kind: usize, length: usize| is_entry(kind, length) || kind == 4 && length % 12 == 1;
+    let fits =
+        |kind: usize, length: usize| is_entry(kind, length) || kind == 4 && length % 12 == 1 || kind == 5 && length % 12 == 2;
     let stop = records(file).into_iter().find(|(_, kind, body)| !fits(*kind, body.len())).map(|(at, _, _)| at - 4);
     let at = stop.unwrap_or_else(|| records(file).last().map_or(0, |(at, _, body)| at + body.len()));
     let (_, kind) = header(file, at).filter(|(_, kind)| (1..=3).contains(kind))?;

@@ -11,7 +11,9 @@ pub const WRITER: &[(&str, Wrong)] = &[
     ("a face's length one off", |_, right| {
         written(right, |records| faces(records).for_each(|face| face[0] = face[0].wrapping_sub(1)))
     }),
-    ("texture points before positions", |_, right| written(right, |records| records.sort_by_key(|r| [4, 1, 0, 2, 3][kind(r)]))),
+    ("texture points before positions", |_, right| {
+        written(right, |records| records.sort_by_key(|r| [4, 1, 0, 2, 3, 3][kind(r)]))
+    }),
     ("a face's corners in reverse", |_, right| written(right, |records| faces(records).for_each(corners_turned))),
     ("a negative zero written as zero", |_, right| written(right, zeros_without_sign)),
     ("the end record missing", |_, right| written(right, |records| records.truncate(records.len() - 1))),
@@ -37,7 +39,7 @@ pub const CLEANER: &[(&str, Wrong)] = &[
 ];
 
 /// The right file with its records changed.
-fn written(right: &Answer, change: impl Fn(&mut Vec<Vec<u8>>)) -> Option<Answer> {
+pub fn written(right: &Answer, change: impl Fn(&mut Vec<Vec<u8>>)) -> Option<Answer> {
     accepted(right, || {
         let mut records = records(right);
         change(&mut records);
@@ -60,18 +62,18 @@ fn records(right: &Answer) -> Vec<Vec<u8>> {
     records
 }
 
-fn kind(record: &[u8]) -> usize {
+pub fn kind(record: &[u8]) -> usize {
     record[2] as usize
 }
 
 fn faces(records: &mut [Vec<u8>]) -> impl Iterator<Item = &mut Vec<u8>> {
-    records.iter_mut().filter(|record| kind(record) == 4)
+    records.iter_mut().filter(|record| kind(record) >= 4)
 }
 
 fn numbers_turned(records: &mut Vec<Vec<u8>>) {
     for record in records {
         match kind(record) {
-            4 => record[5..].chunks_mut(4).for_each(|index| index.reverse()),
+            kind @ 4..=5 => record[kind + 1..].chunks_mut(4).for_each(|index| index.reverse()),
             _ => record[4..].chunks_mut(8).for_each(|coordinate| coordinate.reverse()),
         }
     }
@@ -82,8 +84,9 @@ fn headers_turned(records: &mut Vec<Vec<u8>>) {
 }
 
 fn corners_turned(face: &mut Vec<u8>) {
-    let turned: Vec<u8> = face[5..].chunks(12).rev().flatten().copied().collect();
-    face.truncate(5);
+    let corners = kind(face) + 1;
+    let turned: Vec<u8> = face[corners..].chunks(12).rev().flatten().copied().collect();
+    face.truncate(corners);
     face.extend(turned);
 }
 

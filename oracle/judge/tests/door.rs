@@ -78,7 +78,7 @@ fn a_file_is_refused_in_order() {
         assert_eq!(number(&[&whole.repeat(2_047), &broken, &end]), 14);
         assert_eq!(number(&[&whole.repeat(2_048), &whole, &broken, &end]), 1);
         // In another record: whichever comes first.
-        for (other, fault) in [(12, record(5, &[])), (12, record(4, &[1])), (3, record(4, &[&[33][..], &[0; 396]].concat()))] {
+        for (other, fault) in [(12, record(6, &[])), (12, record(4, &[1])), (3, record(4, &[&[33][..], &[0; 396]].concat()))] {
             assert_eq!([number(&[&broken, &fault, &end]), number(&[&fault, &broken, &end])], [14, other]);
         }
         assert_eq!([number(&[&broken, &[0; 3]]), number(&[&broken])], [14, 14]);

@@ -281,7 +281,7 @@ fn files_are_refused_in_order() {
     assert_eq!(read(&[&end]), 0);
     assert_eq!(read(&[]), 11);
     assert_eq!(read(&[&[0, 0, 0]]), 11);
-    assert_eq!(read(&[&record(5, &[]), &end]), 12);
+    assert_eq!(read(&[&record(6, &[]), &end]), 12);
     assert_eq!(read(&[&record(0, &[0]), &end]), 12);
     assert_eq!(read(&[&record(1, &[0; 23]), &end]), 12);
     assert_eq!(read(&[&record(1, &[0; 24])[..27]]), 11);

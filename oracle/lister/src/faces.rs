@@ -25,7 +25,7 @@ fn dull(numbers: usize, sizes: &[u32]) -> Mesh {
 
 /// Every order of a triangle, a quadrangle and a larger face; what is dropped, at the front, between and at the end; where nothing is left.
 pub fn orders() -> Vec<Mesh> {
-    let rows: [&[u32]; 22] = [
+    let rows: [&[u32]; 24] = [
         &[],
         &[3],
         &[4],
@@ -51,6 +51,8 @@ pub fn orders() -> Vec<Mesh> {
         // The largest face, between small ones.
         &[3, 32, 4],
         &[31, 2, 32, 3],
+        &[33, 3, 32, 4, 34],
+        &[3, 300, 4],
     ];
     let mut meshes: Vec<Mesh> = rows.iter().map(|sizes| of_sizes(sizes)).collect();
     // 5 is never given: there is no list that an index could be held to.
@@ -62,7 +64,7 @@ pub fn orders() -> Vec<Mesh> {
 /// For the numbers 1, 2 and 3: faces that just earn one, or just do not.
 pub fn both_sides() -> Vec<Mesh> {
     let small = of_sizes(&[4, 3]);
-    let mut meshes = vec![full(), dull(3 * 4_096, &[32; 128]), dull(0, &[0; 1_365]), small.clone()];
+    let mut meshes = vec![full(), dull(3 * 4_096, &[32; 128]), dull(3 * 3_900, &[300; 13]), dull(0, &[0; 1_365]), small.clone()];
     let mut with = |mesh: &Mesh, change: &dyn Fn(&mut Mesh)| {
         let mut changed = mesh.clone();
         change(&mut changed);
@@ -73,7 +75,9 @@ pub fn both_sides() -> Vec<Mesh> {
     with(&full(), &|m| m.sizes.push(0));
     with(&dull(3 * 4_097, &[32; 128]), &|m| m.sizes.push(1));
     with(&dull(3 * 4_097, &[32; 129]), &|_| ());
-    with(&dull(3 * 4_097, &[33; 128]), &|_| ());
+    with(&dull(3 * 4_097, &[301; 14]), &|_| ());
+    with(&dull(3 * 4_096, &[300; 13]), &|m| m.sizes.push(196));
+    with(&dull(3 * 4_097, &[300; 13]), &|m| m.sizes.push(197));
     with(&dull(0, &[0; 1_366]), &|_| ());
     // 2: no multiple of the width; sizes that don't add up, also where 32 bits would hide it; before 3.
     with(&small, &|m| m.corners.push(0));
@@ -86,12 +90,11 @@ pub fn both_sides() -> Vec<Mesh> {
     with(&small, &|m| m.corners.clear());
     with(&small, &|m| m.sizes = vec![MISSING, 8]);
     with(&small, &|m| m.sizes = vec![0x8000_0000, 0x8000_0007]);
-    with(&small, &|m| m.sizes = vec![33, 7]);
-    // 3: more than 32 corners, alone, first and last.
-    with(&dull(3 * 32, &[32]), &|_| ());
-    with(&dull(3 * 33, &[33]), &|_| ());
-    with(&dull(3 * 36, &[33, 3]), &|_| ());
-    with(&dull(3 * 38, &[2, 3, 33]), &|_| ());
+    with(&small, &|m| m.sizes = vec![301, 7]);
+    // 3: more than 300 corners, alone, first and last.
+    [32, 33, 299, 300, 301].into_iter().for_each(|n| with(&dull(3 * n as usize, &[n]), &|_| ()));
+    with(&dull(3 * 304, &[301, 3]), &|_| ());
+    with(&dull(3 * 306, &[2, 3, 301]), &|_| ());
     with(&dull(3 * 4_096, &[4_096]), &|_| ());
     meshes
 }
@@ -109,7 +112,7 @@ fn full() -> Mesh {
 /// earn 1, 2 and 3, which come before 9.
 pub fn for_short_rooms() -> Vec<Mesh> {
     let accepted = [of_sizes(&[4, 2, 3, 1]), of_sizes(&[5, 3, 4]), of_sizes(&[1])];
-    accepted.into_iter().chain([dull(3, &[0; 1_366]), dull(12, &[3]), dull(99, &[33])]).collect()
+    accepted.into_iter().chain([dull(3, &[0; 1_366]), dull(12, &[3]), dull(903, &[301])]).collect()
 }
 
 /// Random faces, shuffled so that some stands before one of an earlier kind. They go by no coordinate.

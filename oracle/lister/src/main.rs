@@ -5,6 +5,7 @@
 
 mod broken;
 mod faces;
+mod large;
 mod merging;
 mod panel_files;
 mod record;
@@ -130,6 +131,13 @@ impl Lister {
         self.short_rooms_of(Call::RemoveDegenerateFaces, &mut question);
     }
 
+    /// A mesh, put to the removal, with exact rooms.
+    fn removal(&mut self, mesh: &Mesh) {
+        self.list.mesh(mesh);
+        let rooms = stated_rooms(Call::RemoveDegenerateFaces, mesh);
+        self.case(Call::RemoveDegenerateFaces, &Question { mesh: mesh.clone(), rooms, ..Question::default() });
+    }
+
     /// A mesh, put to both calls that follow its hems, with exact rooms.
     fn wires(&mut self, mesh: &Mesh) {
         self.list.mesh(mesh);
@@ -196,6 +204,7 @@ fn list() -> Lister {
     let examples = subjects::examples();
     [&examples[10], &examples[11]].iter().for_each(|mesh| lister.short_rooms(mesh, 0.5));
     lister.short_rooms_of_removal(&examples[17]);
+    large::folded().iter().for_each(|mesh| lister.removal(mesh));
     touching::meshes().iter().for_each(|mesh| lister.wires(mesh));
     subjects::that_merge().iter().for_each(|case| lister.merging(&case.mesh, case.tolerance));
     for asked in [merging::tolerances(), merging::coordinates(), merging::quotients(), merging::merges()] {
@@ -211,7 +220,10 @@ fn list() -> Lister {
     broken::files().iter().for_each(|file| {
         lister.file(file);
     });
-    broken::meshes().iter().for_each(|(mesh, less)| lister.write(mesh, *less));
+    large::files().iter().for_each(|file| {
+        lister.file(file);
+    });
+    broken::meshes().iter().chain(&large::meshes()).for_each(|(mesh, less)| lister.write(mesh, *less));
     faces::orders().iter().chain(&faces::at_random()).enumerate().for_each(|(i, mesh)| {
         lister.faces(mesh, i % 3);
     });

@@ -149,10 +149,10 @@ pub fn of_the_mesh() -> Vec<Question> {
     questions
 }
 
-/// 15: a face isn't a triangle. 16: a face is folded, or a position is in no face. 10: the verdict.
+/// 15: a face isn't a triangle; 3 where it has 301 corners. 16: a face is folded, or a position is in no face. 10: the verdict.
 pub fn of_the_faces() -> Vec<Question> {
     let mut questions: Vec<Question> =
-        [&[4][..], &[3, 4], &[3, 3, 5], &[32]].iter().map(|sizes| with(of_sizes(sizes), |_| ())).collect();
+        [&[4][..], &[3, 4], &[3, 3, 5], &[32], &[33], &[300], &[301]].iter().map(|sizes| with(of_sizes(sizes), |_| ())).collect();
     let folded = [[0, 0, 1], [0, 1, 1], [1, 0, 1], [0, 0, 0]];
     questions.extend(folded.iter().map(|face| asked(dull(&[*face]))));
     questions.push(asked(dull(&[[0, 1, 2], [2, 1, 3], [3, 1, 3]])));

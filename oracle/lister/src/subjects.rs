@@ -85,12 +85,17 @@ pub fn both_sides() -> Vec<Mesh> {
     with(&small, &|m| m.sizes[2] = 6);
     with(&small, &|m| m.sizes = vec![MISSING, 13]);
     with(&small, &|m| m.sizes.clear());
-    // 3: sizes 2, 33, 0 and far beyond; 3 and 32 are accepted.
+    // 3: sizes 2, 0, 301 and far beyond; 3, 32, 33, 299 and 300 are accepted.
     with(&small, &|m| m.sizes = vec![2, 10]);
     with(&small, &|m| m.sizes = vec![0, 3, 4, 5]);
     with(&ring(33), &|_| ());
     with(&ring(32), &|_| ());
     with(&ring(31), &|m| m.sizes = vec![3, 28]);
+    with(&folded_ring(299), &|_| ());
+    with(&ring(300), &|_| ());
+    with(&folded_ring(301), &|_| ());
+    with(&folded_ring(304), &|m| m.sizes = vec![3, 301]);
+    with(&folded_ring(556), &|_| ());
     // 4: not grouped; among larger faces any order goes.
     with(&small, &|m| m.sizes = vec![4, 3, 5]);
     with(&small, &|m| m.sizes = vec![3, 5, 4]);
@@ -133,10 +138,16 @@ fn full() -> Mesh {
 }
 
 /// One face with so many corners.
-fn ring(corners: usize) -> Mesh {
+pub fn ring(corners: usize) -> Mesh {
     let positions = vec![0.25; 3 * corners];
     let faces = [(0..corners as u32).map(|i| [i, MISSING, MISSING]).collect()];
     Mesh { positions, ..Mesh::default() }.with_faces(&faces)
+}
+
+/// One face with so many corners, all of them one.
+fn folded_ring(corners: usize) -> Mesh {
+    Mesh { positions: vec![0.25; 3], textures: vec![0.5; 2], normals: vec![1.5; 3], ..Mesh::default() }
+        .with_faces(&[vec![[0; 3]; corners]])
 }
 
 /// Whether a tolerance is the same on every machine: the others are made with logarithms, whose last bit is the machine's own affair, and

@@ -37,7 +37,7 @@ pub const MAX_CORNERS: usize = 4_096;
 pub const MAX_FACES: usize = 1_365;
 
 /// The most corners of a face.
-pub const MAX_FACE_CORNERS: usize = 32;
+pub const MAX_FACE_CORNERS: usize = 300;
 
 /// How many values a list of cosines has, and how many neighbours a position may have that is smoothed.
 pub const COSINES: usize = 64;
@@ -217,6 +217,11 @@ impl<'a> Mesh<'a> {
         self.corners.len() / 3
     }
 
+    /// How many faces are of kind 5 in a panel file, whose count has a byte more.
+    fn wide_faces(self) -> usize {
+        self.sizes.iter().filter(|size| **size > 32).count()
+    }
+
     /// Is this a mesh? Else the first of the numbers 1 to 5 that applies.
     pub fn check(self) -> Result<(), Refusal> {
         Refusal::unless_done(on!(self, bh_mesh_number))
@@ -373,7 +378,7 @@ impl<'a> Mesh<'a> {
         rows!(self, bh_components, self.corner_count(), use_normal)
     }
 
-    /// The mesh as a panel file: positions, texture points, normals, faces in their order, end. [`read_panel`] gives the same mesh back,
+    /// The mesh as a panel file: positions, texture points, normals, faces in their order, end; faces of up to 32 corners are records of kind 4, larger ones of kind 5. [`read_panel`] gives the same mesh back,
     /// bit for bit. Refuses 14 where a coordinate is not finite.
     pub fn to_panel(self) -> Result<Vec<u8>, Refusal> {
         let mut file = vec![
@@ -382,6 +387,7 @@ impl<'a> Mesh<'a> {
                 + 20 * (self.textures.len() / 2)
                 + 28 * (self.normals.len() / 3)
                 + 5 * self.sizes.len()
+                + self.wide_faces()
                 + 12 * self.corner_count()
                 + 4
         ];

@@ -9,7 +9,7 @@ pub enum Refusal {
     OverLimit = 1,
     /// A length is no multiple of its width, or the sizes don't add up to the corners.
     Misfit = 2,
-    /// A face size lies outside 3 to 32.
+    /// A face size lies outside 3 to 300; in a file also: a record of kind 4 has more than 32 corners.
     FaceSize = 3,
     /// The sizes aren't grouped: triangles, quadrangles, larger faces.
     Ungrouped = 4,
@@ -83,7 +83,7 @@ impl Refusal {
         match self {
             Refusal::OverLimit => "a list is over its limit",
             Refusal::Misfit => "a length is no multiple of its width, or the sizes don't add up to the corners",
-            Refusal::FaceSize => "a face size lies outside 3 to 32",
+            Refusal::FaceSize => "a face size lies outside 3 to 300",
             Refusal::Ungrouped => "the sizes aren't grouped",
             Refusal::Index => "an index is out of range",
             Refusal::Tolerance => "the tolerance is not a number from 2^-30 to 1",

@@ -1,36 +1,41 @@
--- `oneface::folded_ring` meets its contract: the search finds a pair exactly where the face is folded. Assumes nothing.
+-- `oneface::folded_ring` meets its contract: either row has as many places as the face has corners. Assumes nothing.
 use mathlib.Core.Path.{sym}
 use lib.Seq.{length-take-le}
-use Rattle.oneface.proofs.OneFace.{ring-folded}
+use Rattle.lists.proofs.Buckets.{length-front}
+use Rattle.mesh.specs.Limits.{ringLimit}
+use Rattle.oneface.proofs.OneFace.{corners-of}
 use native.Mathlib.Omega.{arith}
 use borrow.Author.Needs.{needs}
 use Rattle.oneface.proofs.folded_ring.Statement.{statement}
 use Rattle.oneface.proofs.folded_ring.Tie as tie
 
-places-of-requires : tie.Need-places-of-requires
-places-of-requires c κs = search needs
-
-array-share-prefix-places : tie.Need-array-share-prefix-places
-array-share-prefix-places c = search needs
-
-slice-aggregate-first : tie.Need-slice-aggregate-first
-slice-aggregate-first c = sym (length-take-le _ _ (omega arith))
-
-first-requires : tie.Need-first-requires
-first-requires c κs = search needs
+folded-short-requires : tie.Need-folded-short-requires
+folded-short-requires c κs = search needs
 
 returns : tie.Need-returns
-returns c =
-    let start = c .before .before .before .before in
-    let places = c .before .before .places-of in
-    ring-folded (start .args .face .now) (places .result) (start .args .n) (c .first .result) (start .pre) (places .ensures) (c .first .ensures)
+returns c = search needs
+
+array-borrow-prefix-row : tie.Need-array-borrow-prefix-row
+array-borrow-prefix-row c = search needs
+
+slice-aggregate-folded-in : tie.Need-slice-aggregate-folded-in
+slice-aggregate-folded-in c = sym (length-take-le _ _ (omega arith))
+
+folded-in-requires : tie.Need-folded-in-requires
+folded-in-requires c κs =
+    let start = c .before .before .before in
+    corners-of (start .args .face .now) (start .args .n) _ (start .pre) (length-front 0 (start .args .n) ringLimit (start .pre .small))
+
+returns-2 : tie.Need-returns-2
+returns-2 c = search needs
 
 pub folded-ring-spec : {M : Type 1} → statement M
 folded-ring-spec =
     tie.close
     (tie.spec
-    places-of-requires
-    array-share-prefix-places
-    slice-aggregate-first
-    first-requires
-    returns)
+    folded-short-requires
+    returns
+    array-borrow-prefix-row
+    slice-aggregate-folded-in
+    folded-in-requires
+    returns-2)

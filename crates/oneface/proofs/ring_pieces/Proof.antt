@@ -1,6 +1,4 @@
--- `oneface::ring_pieces` meets its contract: where the search finds no pair, the face stays; else it is split. Assumes nothing.
-use mathlib.Core.Path.{sym}
-use lib.Seq.{length-take-le}
+-- `oneface::ring_pieces` meets its contract: a face that is not folded stays; else it is split. Assumes nothing.
 use Rattle.grouping.proofs.Placing.{placed-as}
 use Rattle.oneface.proofs.OneFace.{face-room, ring-kept}
 use native.Mathlib.Omega.{arith}
@@ -8,17 +6,8 @@ use borrow.Author.Needs.{needs}
 use Rattle.oneface.proofs.ring_pieces.Statement.{statement}
 use Rattle.oneface.proofs.ring_pieces.Tie as tie
 
-places-of-requires : tie.Need-places-of-requires
-places-of-requires c κs = search needs
-
-array-share-prefix-places : tie.Need-array-share-prefix-places
-array-share-prefix-places c = search needs
-
-slice-aggregate-first : tie.Need-slice-aggregate-first
-slice-aggregate-first c = sym (length-take-le _ _ (omega arith))
-
-first-requires : tie.Need-first-requires
-first-requires c κs = search needs
+folded-ring-requires : tie.Need-folded-ring-requires
+folded-ring-requires c κs = search needs
 
 split-pieces-requires : tie.Need-split-pieces-requires
 split-pieces-requires c κs = search needs
@@ -33,7 +22,7 @@ returns : tie.Need-returns
 returns c = search needs
 
 put-face-requires : tie.Need-put-face-requires
-put-face-requires c κs = face-room _ _ _ _ _ _ (c .before .before .before .before .before .before .before .before .before .pre)
+put-face-requires c κs = face-room _ _ _ _ _ _ (c .before .before .before .before .before .before .before .pre)
 
 same-length-3 : tie.Need-same-length-3
 same-length-3 c = search needs
@@ -43,21 +32,17 @@ same-length-4 c = search needs
 
 returns-2 : tie.Need-returns-2
 returns-2 c =
-    let start = c .before .before .before .before .before .before .before .before .before .before .before .before .before .before in
-    let places = c .before .before .before .before .before .before .before .before .before .before .places-of in
-    let first = c .before .before .before .before .before .before .before .before .first in
+    let start = c .before .before .before .before .before .before .before .before .before .before .before .before in
+    let told = c .before .before .before .before .before .before .before .before .folded-ring in
     let none = c .before .before .before .before .before .before .before .if1 .left in
-    let same = ring-kept (start .args .face .now) (start .args .n) _ _ _ _ (start .pre) (places .result) (first .result) (places .ensures) (first .ensures) none in
+    let same = ring-kept (start .args .face .now) (start .args .n) _ _ _ _ (start .pre) (told .result) (told .ensures) none in
     placed-as same (c .before .before .before .before .put-face .ensures)
 
 pub ring-pieces-spec : {M : Type 1} → statement M
 ring-pieces-spec =
     tie.close
     (tie.spec
-    places-of-requires
-    array-share-prefix-places
-    slice-aggregate-first
-    first-requires
+    folded-ring-requires
     split-pieces-requires
     same-length
     same-length-2

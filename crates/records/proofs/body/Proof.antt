@@ -2,7 +2,7 @@
 use mathlib.Core.Path.{ap, _∙_, refl}
 use Rattle.records.specs.declared.Record.the-variants.{Position, Texture, Normal}
 use Rattle.records.specs.Records.{attribute, bodyFrom, lengthFits}
-use Rattle.records.proofs.Recorded.{body-is, a-face, body-face}
+use Rattle.records.proofs.Recorded.{body-is, a-face, body-face, a-wide-face, body-wide-face}
 use native.Mathlib.Omega.{arith}
 use borrow.Author.Needs.{needs}
 use Rattle.records.proofs.body.Statement.{statement}
@@ -47,17 +47,27 @@ returns-4 c = rw (c .before .before .if4 .taken) (c .normal .ensures ∙ ap (λ 
 
 face-requires : tie.Need-face-requires
 face-requires c κs =
-    let at-if3 = c .before in
-    let at-if1 = at-if3 .before .before in
-    let start = at-if1 .before .before in
-    (a-face _ _ (start .pre .0) (at-if1 .if1 .left) (at-if3 .before .if2 .left) (at-if3 .if3 .left) (c .if4 .left) (start .pre .1 .1), start .pre .1 .0)
+    let start = c .before .before .before .before .before .before in
+    (a-face _ _ (c .if5 .taken) (start .pre .1 .1), start .pre .1 .0)
 
 returns-5 : tie.Need-returns-5
-returns-5 c =
+returns-5 c = c .face .ensures ∙ body-face _ _ _ _ (c .before .if5 .taken)
+
+wide-face-requires : tie.Need-wide-face-requires
+wide-face-requires c κs =
     let at-if4 = c .before in
     let at-if2 = at-if4 .before .before in
     let start = at-if2 .before .before .before in
-    c .face .ensures ∙ body-face _ _ _ _ (start .pre .0) (at-if2 .before .if1 .left) (at-if2 .if2 .left) (at-if4 .before .if3 .left) (at-if4 .if4 .left)
+    (a-wide-face _ _ (start .pre .0) (at-if2 .before .if1 .left) (at-if2 .if2 .left) (at-if4 .before .if3 .left) (at-if4 .if4 .left) (c .if5 .left) (start .pre .1 .1), start .pre .1 .0)
+
+returns-6 : tie.Need-returns-6
+returns-6 c =
+    let at-if5 = c .before in
+    let at-if3 = at-if5 .before .before in
+    let at-if1 = at-if3 .before .before in
+    let start = at-if1 .before .before in
+    c .wide-face .ensures
+    ∙ body-wide-face _ _ (start .pre .0) (at-if1 .if1 .left) (at-if3 .before .if2 .left) (at-if3 .if3 .left) (at-if5 .before .if4 .left) (at-if5 .if5 .left) _ _
 
 pub body-spec : {M : Type 1} → statement M
 body-spec =
@@ -74,4 +84,6 @@ body-spec =
     normal-requires
     returns-4
     face-requires
-    returns-5)
+    returns-5
+    wide-face-requires
+    returns-6)

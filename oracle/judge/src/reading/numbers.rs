@@ -13,8 +13,8 @@ pub const ATTRIBUTES: usize = 2_048;
 pub const CORNERS: usize = 4_096;
 /// The most faces.
 pub const FACES: usize = 1_365;
-/// The fewest and the most corners of a face.
-pub const FACE: Range<u32> = 3..33;
+/// From the fewest corners of a face to one past the most; the most are those of request 6 of document 02.
+pub const FACE: Range<u32> = 3..301;
 
 /// The number that the whole call returns.
 pub fn number(call: Call, question: &Question) -> u32 {

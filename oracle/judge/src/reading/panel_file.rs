@@ -1,9 +1,23 @@
-//! 'The panel file': its reader, with the order in which it refuses.
+//! 'The panel file': its reader, with the order in which it refuses; and the second kind of face, of request 6 of document 02.
 
 use super::cleaning::grouped;
 use super::door::is_broken;
-use super::numbers::{indices_are_off, ATTRIBUTES, CORNERS};
+use super::numbers::{indices_are_off, ATTRIBUTES, CORNERS, FACE};
 use crate::mesh::{Corner, Mesh};
+
+/// A kind of face record: how many bytes its n has, which numbers of corners a length may say, and the most corners that are taken.
+pub struct FaceKind {
+    pub kind: u16,
+    pub count: usize,
+    pub corners: std::ops::RangeInclusive<usize>,
+    pub most: usize,
+}
+
+/// A byte n, and up to 32 corners. A length may say as many as a byte can hold.
+pub const SMALL: FaceKind = FaceKind { kind: 4, count: 1, corners: 0..=255, most: 32 };
+
+/// Two bytes n, and 33 to 300 corners. A length may say more, up to what its own two bytes can hold, so that n over 300 gives 3: 5,461.
+pub const LARGE: FaceKind = FaceKind { kind: 5, count: 2, corners: 33..=5_461, most: FACE.end as usize - 1 };
 
 /// The mesh that a file holds, or the number with which it is refused. (Number 9, of the rooms, is asked before.)
 pub fn read(file: &[u8]) -> Result<Mesh, u32> {
@@ -17,7 +31,8 @@ pub fn read(file: &[u8]) -> Result<Mesh, u32> {
             1 => entry(&mut mesh.positions, 3, body)?,
             2 => entry(&mut mesh.textures, 2, body)?,
             3 => entry(&mut mesh.normals, 3, body)?,
-            _ => face(&mut faces, body)?,
+            4 => face(&mut faces, &SMALL, body)?,
+            _ => face(&mut faces, &LARGE, body)?,
         }
     }
     if !rest.is_empty() {
@@ -41,7 +56,8 @@ fn record<'a>(rest: &mut &'a [u8]) -> Result<(usize, &'a [u8]), u32> {
         0 => length == 0,
         1 | 3 => length == 24,
         2 => length == 16,
-        4 => (0..=255).any(|m| length == 1 + 12 * m),
+        4 => says_corners(&SMALL, length),
+        5 => says_corners(&LARGE, length),
         _ => return Err(12),
     };
     if !right {
@@ -53,6 +69,11 @@ fn record<'a>(rest: &mut &'a [u8]) -> Result<(usize, &'a [u8]), u32> {
     let (body, after) = after.split_at(length);
     *rest = after;
     Ok((kind as usize, body))
+}
+
+/// Whether a length is right for a kind of face.
+fn says_corners(face: &FaceKind, length: usize) -> bool {
+    face.corners.clone().any(|m| length == face.count + 12 * m)
 }
 
 /// One more position, texture point or normal: not finite 14, limit 1.
@@ -68,13 +89,14 @@ fn entry(list: &mut Vec<f64>, width: usize, body: &[u8]) -> Result<(), u32> {
     Ok(())
 }
 
-/// One more face: n unlike m 12, n over 32 gives 3, limit 1. Faces of 0, 1 or 2 corners are dropped and don't count.
-fn face(faces: &mut Vec<Vec<Corner>>, body: &[u8]) -> Result<(), u32> {
-    let n = body[0] as usize;
-    if n != (body.len() - 1) / 12 {
+/// One more face: n unlike m 12, n over the most of its kind gives 3, limit 1. Faces of 0, 1 or 2 corners are dropped and don't count.
+fn face(faces: &mut Vec<Vec<Corner>>, kind: &FaceKind, body: &[u8]) -> Result<(), u32> {
+    let (count, corners) = body.split_at(kind.count);
+    let n = count.iter().rev().fold(0, |n, byte| 256 * n + *byte as usize);
+    if n != corners.len() / 12 {
         return Err(12);
     }
-    if n > 32 {
+    if n > kind.most {
         return Err(3);
     }
     if n < 3 {
@@ -84,6 +106,6 @@ fn face(faces: &mut Vec<Vec<Corner>>, body: &[u8]) -> Result<(), u32> {
         return Err(1);
     }
     let number = |bytes: &[u8]| u32::from_le_bytes(bytes.try_into().unwrap());
-    faces.push(body[1..].chunks(12).map(|c| [number(&c[..4]), number(&c[4..8]), number(&c[8..])]).collect());
+    faces.push(corners.chunks(12).map(|c| [number(&c[..4]), number(&c[4..8]), number(&c[8..])]).collect());
     Ok(())
 }

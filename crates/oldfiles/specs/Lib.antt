@@ -1,0 +1,4 @@
+-- the reader as it was
+pub mod Before
+-- what stayed
+pub mod Promises
