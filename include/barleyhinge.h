@@ -23,11 +23,9 @@
    affair until it is merged or smoothed (7) or written (14).
 
    MEMORY. No call allocates, and none keeps anything: there are no statics, so calls may run side by side, each with lists of its own to
-   write; lists that are only read may be shared. A lent list need not be initialised. What a call needs beside its lists is stack, in KB
-   of 1,024 bytes, measured on x86-64 by tools/measure_stack, which also holds these figures to the library; none is proved:
-     bh_sheet 556, bh_clean_panel 556, bh_loop_subdivision 272, bh_components 200, bh_read_panel 192, bh_put_together_same_attrs 192,
-     bh_extract_boundaries 160, bh_house_wires 120, bh_shell_condition 104, bh_hem_edges 104, bh_remove_degenerate_faces 76, bh_remove_unused_attrs 32, bh_push 4,
-     bh_write_panel 4, bh_mesh_number 4, bh_face 4
+   write; lists that are only read may be shared. A lent list need not be initialised. What a call needs beside its lists is stack: the
+   line 'Stack' with each call has it in KB of 1,024 bytes, the smallest on which it still worked on the worst inputs, measured on x86-64 by
+   tools/stack, which also holds these lines to the library (docs/STACK.md); none is proved.
 
    What is promised is proved for every input: each call's contract stands in crates/barleyhinge/src/lib.rt. */
 #ifndef BARLEYHINGE_H
@@ -129,7 +127,8 @@ static inline const char *bh_verdict_text(uint32_t verdict) {
     }
 }
 
-/* Is this a mesh? Answers 0 where it is, else the first of 1 to 5 that applies. Lends nothing. */
+/* Is this a mesh? Answers 0 where it is, else the first of 1 to 5 that applies. Lends nothing.
+   Stack: 1 KB. */
 uint32_t bh_mesh_number(
     const double *positions, size_t positions_len,
     const double *textures, size_t textures_len,
@@ -138,7 +137,8 @@ uint32_t bh_mesh_number(
     const uint32_t *sizes, size_t sizes_len);
 
 /* The corners of face k, as a part of 'corners': '*start' is the place of their first number, '*len' how many numbers they are.
-   Both are 0 where k is no face or the lists earn 1 to 4. This call alone has no number; an index out of range (5) does not matter to it. */
+   Both are 0 where k is no face or the lists earn 1 to 4. This call alone has no number; an index out of range (5) does not matter to it.
+   Stack: 1 KB. */
 void bh_face(
     const double *positions, size_t positions_len,
     const double *textures, size_t textures_len,
@@ -154,7 +154,8 @@ void bh_face(
    other, and 'sizes' how many corners each has, 0 to BH_MAX_FACE_CORNERS.
    Lends two lists, each with the room of the list that it is made from.
    On 0: 3 numbers in 'newcorners' for each of '*cornercount' corners, and '*facecount' sizes.
-   Answers 1, 2, 3 (a face of more than 300 corners) or 9. Indices are not looked at: bh_mesh_number does that, and answers 5. */
+   Answers 1, 2, 3 (a face of more than 300 corners) or 9. Indices are not looked at: bh_mesh_number does that, and answers 5.
+   Stack: 1 KB. */
 uint32_t bh_push(
     const uint32_t *corners, size_t corners_len,
     const uint32_t *sizes, size_t sizes_len,
@@ -168,7 +169,8 @@ uint32_t bh_push(
    On 0: corners_len numbers in 'newcorners', and in the other three 3, 2 and 3 numbers for each position, texture point and normal
    that '*positioncount', '*texturecount' and '*normalcount' count. A missing index stays missing. Each number, the infinities and both
    zeros are kept bit for bit; a NaN stays a NaN.
-   May also answer 9. */
+   May also answer 9.
+   Stack: 9 KB. */
 uint32_t bh_remove_unused_attrs(
     const double *positions, size_t positions_len,
     const double *textures, size_t textures_len,
@@ -189,7 +191,8 @@ uint32_t bh_remove_unused_attrs(
    On 0: 3 numbers in 'newcorners' for each of '*cornercount' corners, '*facecount' sizes, and as many origins: face k of the result
    came from face origins[k]. Where nothing is folded they are 0, 1, 2, .. . bh_remove_unused_attrs changes no face's number, so they
    hold after it too.
-   May also answer 9. */
+   May also answer 9.
+   Stack: 133 KB. */
 uint32_t bh_remove_degenerate_faces(
     const double *positions, size_t positions_len,
     const double *textures, size_t textures_len,
@@ -205,7 +208,8 @@ uint32_t bh_remove_degenerate_faces(
 /* Merging: near positions, texture points and normals each get the index of one of them. Positions are first scaled to their box.
    'tolerance' is from 2^-30 to 1. Lends 'newcorners', with room for corners_len numbers; the other lists don't change.
    On 0: corners_len numbers in 'newcorners', and how many pairs were compared among positions, texture points and normals.
-   May also answer 6, 7, 8 and 9. */
+   May also answer 6, 7, 8 and 9.
+   Stack: 227 KB. */
 uint32_t bh_put_together_same_attrs(
     const double *positions, size_t positions_len,
     const double *textures, size_t textures_len,
@@ -228,7 +232,8 @@ uint32_t bh_put_together_same_attrs(
    points and normals that were given, an accepted mesh.
    Answers, after 1 to 5 and in this order: 7 a position is not finite or too large; 15 a face is no triangle; 16 a face is folded or a
    position is in no face; 10 the verdict is neither Oriented nor Closed; 17 a cosine list has not BH_COSINES values, each from -1 to 1, or a
-   position has more neighbours than that; 1 there are more than 341 faces, so that the result would be over a limit; 9. */
+   position has more neighbours than that; 1 there are more than 341 faces, so that the result would be over a limit; 9.
+   Stack: 265 KB. */
 uint32_t bh_loop_subdivision(
     const double *positions, size_t positions_len,
     const double *textures, size_t textures_len,
@@ -244,7 +249,8 @@ uint32_t bh_loop_subdivision(
     size_t *cornercount,
     size_t *facecount);
 
-/* The verdict, a number of 'enum bh_verdict', by counting every use of every edge. It is written only with 0. */
+/* The verdict, a number of 'enum bh_verdict', by counting every use of every edge. It is written only with 0.
+   Stack: 97 KB. */
 uint32_t bh_shell_condition(
     const double *positions, size_t positions_len,
     const double *textures, size_t textures_len,
@@ -256,7 +262,8 @@ uint32_t bh_shell_condition(
 /* The hem edges: those used an odd number of times, ascending by their lower and then their higher position, each in the direction
    of its last use. Lends 'starts' and 'ends', each with room for one number per corner (corners_len / 3).
    On 0: '*count' edges, from starts[i] to ends[i].
-   May also answer 9. */
+   May also answer 9.
+   Stack: 97 KB. */
 uint32_t bh_hem_edges(
     const double *positions, size_t positions_len,
     const double *textures, size_t textures_len,
@@ -270,7 +277,8 @@ uint32_t bh_hem_edges(
 /* The ported wires along the hem edges, as truck traces them, with its maps in ascending order.
    Lends 'flat', with room for two numbers per corner (2 * (corners_len / 3)), and 'lengths', with room for one.
    On 0: '*flatcount' positions in 'flat', the wires one after the other, and in 'lengths' how many each of '*wirecount' wires has.
-   May also answer 9. */
+   May also answer 9.
+   Stack: 153 KB. */
 uint32_t bh_extract_boundaries(
     const double *positions, size_t positions_len,
     const double *textures, size_t textures_len,
@@ -288,7 +296,8 @@ uint32_t bh_extract_boundaries(
    again. A wire begins at the smallest start left, and of these at the smallest end.
    Lends 'flat' and 'lengths', each with room for one number per corner.
    On 0: as for the ported wires.
-   May also answer 9, and 10 where the verdict is neither Oriented nor Closed. */
+   May also answer 9, and 10 where the verdict is neither Oriented nor Closed.
+   Stack: 113 KB. */
 uint32_t bh_house_wires(
     const double *positions, size_t positions_len,
     const double *textures, size_t textures_len,
@@ -304,7 +313,8 @@ uint32_t bh_house_wires(
    Lends 'flat' and 'lengths', each with room for one number per corner.
    On 0: '*flatcount' face numbers in 'flat', the panels one after the other, and in 'lengths' how many faces each of '*panelcount'
    panels has. Each face stands in exactly one panel, once.
-   May also answer 9. */
+   May also answer 9.
+   Stack: 193 KB. */
 uint32_t bh_components(
     const double *positions, size_t positions_len,
     const double *textures, size_t textures_len,
@@ -322,7 +332,8 @@ uint32_t bh_components(
    On 0: the lists are a mesh, with so many positions, texture points, normals, corners and faces as the five counts say, and every
    coordinate is finite.
    Answers, in this order: 9; record by record 11 header cut, 12 kind, 12 length, 11 body cut, 12 a face's own count is not that of its
-   length, 3 a face of more than 32 corners in kind 4 or of more than 300 in kind 5, 14 a coordinate that is not finite, 1 limit; then 13; then 5. */
+   length, 3 a face of more than 32 corners in kind 4 or of more than 300 in kind 5, 14 a coordinate that is not finite, 1 limit; then 13; then 5.
+   Stack: 182 KB. */
 uint32_t bh_read_panel(
     const uint8_t *file, size_t file_len,
     double *positions, size_t positions_len,
@@ -343,7 +354,8 @@ uint32_t bh_read_panel(
    6 for a larger one, and 12 for each corner of it, 4 for the end; BH_FILE_ROOM bytes are enough for every mesh.
    On 0: '*length' bytes in 'file'.
    May also answer 14, where a coordinate is not finite, of an entry that no corner uses too; then 9, where 'file' is shorter than the
-   whole file. */
+   whole file.
+   Stack: 1 KB. */
 uint32_t bh_write_panel(
     const double *positions, size_t positions_len,
     const double *textures, size_t textures_len,
@@ -356,7 +368,8 @@ uint32_t bh_write_panel(
 /* Cleans a panel file: reads it, removes folded faces, compacts, and writes what is left as a panel file, as the program meshclean does.
    Lends 'cleaned', with room for BH_FILE_ROOM bytes, whatever the file holds.
    On 0: '*length' bytes in 'cleaned'.
-   Answers 9; then 1 for a file of more than BH_FILE_ROOM bytes; then what bh_read_panel answers to a file. */
+   Answers 9; then 1 for a file of more than BH_FILE_ROOM bytes; then what bh_read_panel answers to a file.
+   Stack: 370 KB. */
 uint32_t bh_clean_panel(
     const uint8_t *file, size_t file_len,
     uint8_t *cleaned, size_t cleaned_len,
@@ -365,7 +378,8 @@ uint32_t bh_clean_panel(
 /* The sheet of a panel file, as the program meshsheet prints it. Lends 'text', with room for BH_SHEET_ROOM bytes, which are enough for
    every sheet.
    On 0: '*length' bytes in 'text'. A refused file has a sheet too: the line 'refused' and its number, which comes with 0.
-   May also answer 9, and nothing else. */
+   May also answer 9, and nothing else.
+   Stack: 375 KB. */
 uint32_t bh_sheet(
     const uint8_t *file, size_t file_len,
     uint8_t *text, size_t text_len,

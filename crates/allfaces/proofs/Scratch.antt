@@ -6,6 +6,7 @@ use Prim.Native.Nat.{ℕ, _*_, _≤_}
 use native.Mathlib.Nat.{le-of-eq}
 use native.Mathlib.Omega.{arith}
 use lib.ListN.{length, take, replicate, length-map, length-replicate}
+use lib.Seq.{length-take-le}
 use Rattle.lists.specs.Lists.{every, joined, each, sum}
 use Rattle.lists.proofs.Copies.{take-written}
 use Rattle.mesh.specs.Limits.{width, faceLimit, cornerNumbers}
@@ -21,7 +22,7 @@ use Rattle.folding.proofs.Pieces.{isFace, pieces-sane}
 use Rattle.splitting.proofs.Pieces.{third}
 use Rattle.removal.specs.Folded.{removed}
 use Rattle.removal.specs.Working.{Ready}
-use Rattle.allfaces.specs.Working.{Numbered}
+use Rattle.allfaces.specs.Working.{Numbered, Standing}
 use Rattle.removal.proofs.Result.{every-pieces, corners-pieces, count-pieces}
 
 -- the lists before anything is written: long enough for every mesh
@@ -88,3 +89,23 @@ module _ (cs s o l u p p' q q' : List ℕ) (c f : ℕ) (y : Ready cs s o l u) (x
   pub pieces-grouped : removed (rings s cs) ≡ pushed (rings (take f q') (take (width * c) p'))
   unfolding removed
   pieces-grouped = ap pushed (sym (ap₂ rings pieces-front front ∙ rings-back ps whole))
+
+-- ---- within the lists that the faces stand in
+
+module _ {cs s ps ls ts : List ℕ} {c f : ℕ} (y : Standing cs s c f ps ls ts) where
+  -- those lists are room for what is left
+  pub back-ready : Ready (take c cs) (take f s) cs s ts
+  back-ready =
+      let fits = y .fit .sound .fits in
+      record {
+        fit = y .fit;
+        corners = omega (arith, length-take-le c cs (y .corners), y .corners);
+        sizes = omega (arith, y .full .sizes, fits);
+        origins = omega (arith, y .tag-room .sizes, fits);
+      }
+
+  -- and the three others for the pieces
+  pub away-ready : Numbered 0 (take c cs) (take f s) ps ls ts
+  away-ready =
+      scratch-ready 0 (take c cs) (take f s) cs s ts ps ls ts (y .room) (y .tag-room)
+      (record { ready = back-ready; few = omega (arith, y .fit .sound .few) })

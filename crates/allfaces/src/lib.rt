@@ -3,13 +3,15 @@
 // One pass over the faces writes the pieces of each, in the order they come, behind one another, and beside each the number of the
 // face it came from; then both are grouped as `push` does. What one face leaves is written by crate oneface. The rules stand in
 // removal's specs/Folded.antt and specs/Origins.antt, those of one face in folding's specs/Folding.antt.
+ghost use lib.ListN.{take};
 ghost use Rattle.lists.specs.Lists.{each};
 ghost use Rattle.mesh.specs.Mesh.{rings};
+ghost use Rattle.grouping.specs.Push.{Placed};
 ghost use Rattle.folding.specs.Folding.{pieces};
 ghost use Rattle.removal.specs.Folded as want;
 ghost use Rattle.removal.specs.Origins.{numbered, originsOf};
 ghost use Rattle.removal.specs.Working.{Triangles, Ready, Left, originsFrom};
-ghost use Rattle.allfaces.specs.Working.{Numbered, Behind};
+ghost use Rattle.allfaces.specs.Working.{Numbered, Behind, Standing};
 use grouping::Filled;
 use mesh::WIDTH;
 
@@ -117,6 +119,27 @@ fn remove_larger(
     let f = at.faces;
     grouping::push_tags(&lens[..f], &tags[..f], origins);
     grouping::push_all(&pieces[..c], &lens[..f], newcorners, newsizes)
+}
+
+// What is left of the faces goes back to the lists that they stand in, the first c numbers of `corners` and the first f of `sizes`, by way of
+// three lists for their pieces, so that there are no others. Which face each came from is not told.
+pub fn remove_within(
+    corners: &mut [u32],
+    sizes: &mut [u32],
+    c: usize,
+    f: usize,
+    pieces: &mut [u32],
+    lens: &mut [u32],
+    tags: &mut [u32],
+) -> Filled
+    requires { ⌜ Standing (now corners) (now sizes) c f (now pieces) (now lens) (now tags) ⌝ }
+    ensures { λ r. ⌜ Placed (want.removed (rings (take f (now (sizes .entry))) (take c (now (corners .entry)))))
+        (now (corners .entry)) (now (corners .exit)) (now (sizes .entry)) (now (sizes .exit)) 0 0 (r .corners) (r .faces) ⌝ }
+{
+    let at = all_pieces(&corners[..c], &sizes[..f], 0, pieces, lens, tags);
+    let k = WIDTH * at.corners;
+    let g = at.faces;
+    grouping::push_all(&pieces[..k], &lens[..g], corners, sizes)
 }
 
 // One pass over the faces: the pieces of each go to the lists, in the order they come, and beside each the number of its face.

@@ -38,7 +38,7 @@ left-finite file =
 
 -- ---- the file is opened
 
-module _ {file out : List ℕ} {before afterwards : Mesh} {r : MeshRead} (room : FileRoom before out) (opened : Opened file before afterwards r)
+module _ {file out : List ℕ} {before afterwards : Mesh} {r : MeshRead} (room : FileRoom before out) (opened : Opened file afterwards r)
   where
     -- a refused file
     pub refused-answered : (r .number ≡ 0 → ⊥) → Answered (readingNumber [] file) (meshLeft file) out out (refusedBy (r .number))

@@ -1,12 +1,13 @@
--- The loop over the corners: what it keeps, where it begins, its turn and its end. Assumes nothing.
+-- The loop over the corners for one column: what it keeps, where it begins, its turn and its end; and the three columns together. Assumes
+-- nothing.
 use mathlib.Core.Path.{_≡_, refl, sym, ap, _∙_}
 use mathlib.Core.List.{List, [], _∷_, _++_, map, map-append}
-use Prim.Native.Nat.{ℕ, _+_, _*_, _/_, _≤_, _<_}
+use Prim.Native.Nat.{ℕ, zero, suc, _+_, _*_, _/_, _≤_, _<_}
 use native.Mathlib.Nat.{add-zero}
 use native.Mathlib.Numerals.{add-one}
 use native.Mathlib.Omega.{arith}
-use lib.ListN.{length, getD, take, set, replicate}
-use lib.Seq.{sets, length-sets, take-suc, take-all, length-take-le}
+use lib.ListN.{length, getD, take, set, replicate, length-set}
+use lib.Seq.{sets, length-sets, set-comm, take-suc, take-all, length-take-le}
 use lib.Ieee.{Float}
 use Rattle.lists.specs.Lists.{joined}
 use Rattle.lists.specs.FirstUses.{firstUses}
@@ -19,8 +20,9 @@ use Rattle.mesh.proofs.Corners.{length-cornersIn, getD-cornersIn}
 use Rattle.unused.specs.declared.Compacted.{Compacted}
 use Rattle.unused.specs.Compaction.{usesOf, renumber, entries, Result}
 use Rattle.unused.specs.Working.{column, newCorner, Pointed, Done}
-use Rattle.oneindex.specs.Working.{usesTo, Tables, Before, Taken}
+use Rattle.oneindex.specs.Working.{indexAt, usesTo, Tables, Before, Taken}
 use Rattle.oneindex.proofs.Turn.{tables-begin, length-column, uses-within}
+use Rattle.compaction.specs.Columns.{columnPut, ColumnReady, ColumnDone}
 
 -- ---- one column, k corners of which are read
 
@@ -122,61 +124,125 @@ module _ (cs : List ℕ) where
       ∙ sym (sets-append o 0 done (newCorner cs (cornerAt cs k)))
       ∙ ap (sets o 0) (sym (more-corners k h))
 
--- ---- the whole: k corners are read
+-- ---- one column: k corners are read
+
+pub column-more :
+    (q : ℕ) (cs : List ℕ) (k : ℕ) (o : List ℕ)
+    → columnPut q cs (k + 1) o ≡ set (columnPut q cs k o) (width * k + q) (renumber (usesOf (column q cs)) (indexAt cs k q))
+unfolding columnPut
+column-more q cs k o = rw (add-one k)
+
+pub length-put : (q : ℕ) (cs : List ℕ) (k : ℕ) (o : List ℕ) → length (columnPut q cs k o) ≡ length o
+unfolding columnPut
+length-put q cs zero o = refl
+length-put q cs (suc k) o = length-set (columnPut q cs k o) (width * k + q) _ ∙ length-put q cs k o
 
 pub record Going
-    (p t n : List Float) (cs : List ℕ) (before at : Result) (pmap tmap nmap : List ℕ) (pused tused nused k : ℕ) : Type 0 where
+    (attrs : List Float) (w : ℕ) (cs : List ℕ) (q : ℕ) (fresh₀ fresh : List Float) (out₀ out old2new : List ℕ) (used k : ℕ) : Type 0 where
   pub within : k ≤ length cs / width
-  pub positions : Column p pointWidth cs 0 k (before .positions) (at .positions) pmap pused
-  pub textures : Column t texelWidth cs 1 k (before .textures) (at .textures) tmap tused
-  pub normals : Column n pointWidth cs 2 k (before .normals) (at .normals) nmap nused
-  pub corners : at .corners ≡ sets (before .corners) 0 (joined (map (newCorner cs) (take k (cornersIn cs))))
+  pub one : Column attrs w cs q k fresh₀ fresh old2new used
+  pub corners : out ≡ columnPut q cs k out₀
 
 pub going-begins :
-    (p t n : List Float) (cs : List ℕ) (r : Result)
-    → Going p t n cs r r (replicate entryLimit missing) (replicate entryLimit missing) (replicate entryLimit missing) 0 0 0 0
-going-begins p t n cs r = record {
-  within = omega arith;
-  positions = column-begins p pointWidth cs 0 (r .positions);
-  textures = column-begins t texelWidth cs 1 (r .textures);
-  normals = column-begins n pointWidth cs 2 (r .normals);
-  corners = refl;
-}
+    (attrs : List Float) (w : ℕ) (cs : List ℕ) (q : ℕ) (fresh : List Float) (out : List ℕ)
+    → Going attrs w cs q fresh fresh out out (replicate entryLimit missing) 0 0
+unfolding columnPut
+going-begins attrs w cs q fresh out = record { within = omega arith; one = column-begins attrs w cs q fresh; corners = refl }
 
 module _
-    {p t n : List Float} {cs : List ℕ} {before at : Result} {pmap tmap nmap : List ℕ} {pused tused nused k : ℕ}
-    (g : Going p t n cs before at pmap tmap nmap pused tused nused k) where
-  pub going-long : length (at .corners) ≡ length (before .corners)
-  going-long = ap length (g .corners) ∙ length-sets (before .corners) 0 (joined (map (newCorner cs) (take k (cornersIn cs))))
+    {attrs : List Float} {w : ℕ} {cs : List ℕ} {q : ℕ} {fresh₀ fresh : List Float} {out₀ out old2new : List ℕ} {used k : ℕ}
+    (g : Going attrs w cs q fresh₀ fresh out₀ out old2new used k) where
+  pub going-long : length out ≡ length out₀
+  going-long = ap length (g .corners) ∙ length-put q cs k out₀
+
+  pub going-before : ColumnReady attrs w cs q fresh₀ out₀ → k < length cs / width → Before attrs w cs k q old2new used fresh out
+  going-before r h = column-before (g .one) out₀ out (r .pointed) h (r .room) (r .corner-room) going-long
 
   pub going-turns :
-      (afterwards : Result) (c1 c2 pmap′ tmap′ nmap′ : List ℕ) (pused′ tused′ nused′ : ℕ) → k < length cs / width
-      → Taken p pointWidth cs k 0 pmap′ pused′ (at .positions) (afterwards .positions) (at .corners) c1
-      → Taken t texelWidth cs k 1 tmap′ tused′ (at .textures) (afterwards .textures) c1 c2
-      → Taken n pointWidth cs k 2 nmap′ nused′ (at .normals) (afterwards .normals) c2 (afterwards .corners)
-      → Going p t n cs before afterwards pmap′ tmap′ nmap′ pused′ tused′ nused′ (k + 1)
-  going-turns afterwards c1 c2 pmap′ tmap′ nmap′ pused′ tused′ nused′ h a b c = record {
+      (fresh′ : List Float) (out′ old2new′ : List ℕ) (used′ : ℕ) → k < length cs / width
+      → Taken attrs w cs k q old2new′ used′ fresh fresh′ out out′
+      → Going attrs w cs q fresh₀ fresh′ out₀ out′ old2new′ used′ (k + 1)
+  going-turns fresh′ out′ old2new′ used′ h t = record {
     within = omega arith;
-    positions = column-turns (g .positions) (afterwards .positions) pmap′ pused′ (at .corners) c1 a;
-    textures = column-turns (g .textures) (afterwards .textures) tmap′ tused′ c1 c2 b;
-    normals = column-turns (g .normals) (afterwards .normals) nmap′ nused′ c2 (afterwards .corners) c;
+    one = column-turns (g .one) fresh′ old2new′ used′ out out′ t;
     corners =
-        corners-turn cs (before .corners) k h (at .corners) c1 c2 (afterwards .corners) (g .corners) (a .numbered) (b .numbered)
-        (c .numbered);
+        t .numbered ∙ ap (λ (l : List ℕ). set l (width * k + q) (renumber (usesOf (column q cs)) (indexAt cs k q))) (g .corners)
+        ∙ sym (column-more q cs k out₀);
   }
 
-  pub going-ends :
-      (answer : Compacted) → length cs / width ≤ k → answer .number ≡ 0 → answer .positions ≡ pused → answer .textures ≡ tused
-      → answer .normals ≡ nused → Done p t n cs before at answer
-  going-ends answer h a b c d = record {
-    number = a;
-    position-count = b ∙ column-counts (g .positions) h;
-    texture-count = c ∙ column-counts (g .textures) h;
-    normal-count = d ∙ column-counts (g .normals) h;
-    corners =
-        g .corners ∙ ap (λ (l : Ring). sets (before .corners) 0 (joined (map (newCorner cs) l)))
-        (take-all k (cornersIn cs) (rw (length-cornersIn cs) h));
-    positions = column-ends (g .positions) h;
-    textures = column-ends (g .textures) h;
-    normals = column-ends (g .normals) h;
-  }
+  pub going-ends : length cs / width ≤ k → ColumnDone attrs w cs q fresh₀ fresh out₀ out used
+  going-ends h =
+      let all : k ≡ length cs / width = omega (arith, h, g .within) in
+      record {
+        count = column-counts (g .one) h;
+        entries = column-ends (g .one) h;
+        corners = g .corners ∙ ap (λ (n : ℕ). columnPut q cs n out₀) all;
+      }
+
+-- ---- all three
+
+-- what stands behind the corners that are read comes through
+put-past :
+    (q : ℕ) (cs : List ℕ) → q < width → (k : ℕ) (o : List ℕ) (i x : ℕ) → width * k ≤ i → columnPut q cs k (set o i x) ≡ set (columnPut q cs k o) i x
+unfolding columnPut
+put-past q cs h zero o i x l = refl
+put-past q cs h (suc k) o i x l =
+    let v = renumber (usesOf (column q cs)) (indexAt cs k q) in
+    ap (λ (r : List ℕ). set r (width * k + q) v) (put-past q cs h k o i x (omega (arith, l)))
+    ∙ set-comm (columnPut q cs k o) i (width * k + q) x v (λ e. omega (arith, e, h, l))
+
+module _ (cs o : List ℕ) where
+  abbrev three : ℕ → List ℕ
+  three k = columnPut 2 cs k (columnPut 1 cs k (columnPut 0 cs k o))
+
+  abbrev new : ℕ → ℕ → ℕ
+  new q k = renumber (usesOf (column q cs)) (indexAt cs k q)
+
+  -- corner k gets its three numbers behind the corners before it
+  three-more : (k : ℕ) → three (suc k) ≡ set (set (set (three k) (width * k + 0) (new 0 k)) (width * k + 1) (new 1 k)) (width * k + 2) (new 2 k)
+  unfolding columnPut
+  three-more k =
+      let put0 = columnPut 0 cs k o in
+      let put1 = columnPut 1 cs k put0 in
+      let a : columnPut 1 cs k (set put0 (width * k + 0) (new 0 k)) ≡ set put1 (width * k + 0) (new 0 k) =
+      put-past 1 cs (omega arith) k put0 (width * k + 0) (new 0 k) (omega arith) in
+      let b : columnPut 2 cs k (set (set put1 (width * k + 0) (new 0 k)) (width * k + 1) (new 1 k))
+      ≡ set (columnPut 2 cs k (set put1 (width * k + 0) (new 0 k))) (width * k + 1) (new 1 k) =
+      put-past 2 cs (omega arith) k (set put1 (width * k + 0) (new 0 k)) (width * k + 1) (new 1 k) (omega arith) in
+      let d : columnPut 2 cs k (set put1 (width * k + 0) (new 0 k)) ≡ set (three k) (width * k + 0) (new 0 k) =
+      put-past 2 cs (omega arith) k put1 (width * k + 0) (new 0 k) (omega arith) in
+      ap (λ (l : List ℕ). set (columnPut 2 cs k (set l (width * k + 1) (new 1 k))) (width * k + 2) (new 2 k)) a
+      ∙ ap (λ (l : List ℕ). set l (width * k + 2) (new 2 k)) b
+      ∙ ap (λ (l : List ℕ). set (set l (width * k + 1) (new 1 k)) (width * k + 2) (new 2 k)) d
+
+  three-are : (k : ℕ) → k ≤ length cs / width → three k ≡ sets o 0 (joined (map (newCorner cs) (take k (cornersIn cs))))
+  unfolding columnPut
+  three-are zero h = refl
+  three-are (suc k) h =
+      corners-turn cs o k (omega arith) (three k) _ _ (three (suc k)) (three-are k (omega arith)) refl refl (three-more k)
+      ∙ ap (λ (n : ℕ). sets o 0 (joined (map (newCorner cs) (take n (cornersIn cs))))) (add-one k)
+
+  -- the three columns, one after the other, are the new corners
+  pub columns-are : three (length cs / width) ≡ sets o 0 (joined (map (newCorner cs) (cornersIn cs)))
+  columns-are =
+      three-are (length cs / width) (omega arith)
+      ∙ ap (λ (l : Ring). sets o 0 (joined (map (newCorner cs) l))) (take-all (length cs / width) (cornersIn cs) (rw (length-cornersIn cs) (omega arith)))
+
+pub columns-done :
+    {p t n : List Float} {cs c1 c2 : List ℕ} {before afterwards : Result} {i j k : ℕ}
+    → ColumnDone p pointWidth cs 0 (before .positions) (afterwards .positions) (before .corners) c1 i
+    → ColumnDone t texelWidth cs 1 (before .textures) (afterwards .textures) c1 c2 j
+    → ColumnDone n pointWidth cs 2 (before .normals) (afterwards .normals) c2 (afterwards .corners) k
+    → Done p t n cs before afterwards (record { number = 0; positions = i; textures = j; normals = k })
+columns-done {cs = cs} {before = before} a b c = record {
+  number = refl;
+  position-count = a .count;
+  texture-count = b .count;
+  normal-count = c .count;
+  corners =
+      c .corners ∙ ap (columnPut 2 cs (length cs / width)) (b .corners ∙ ap (columnPut 1 cs (length cs / width)) (a .corners))
+      ∙ columns-are cs (before .corners);
+  positions = a .entries;
+  textures = b .entries;
+  normals = c .entries;
+}

@@ -3,9 +3,11 @@
 // Corners are read in face order. Positions, then texture points, then normals are each renumbered by first use, from 0; the new
 // lists hold the old entries in that order, bit for bit. A missing index stays missing. The definitions that a caller cites stand
 // in unused's specs/Compaction.antt; one index of one corner is renumbered by crate oneindex.
+ghost use lib.ListN.{take};
 ghost use Rattle.mesh.specs.Mesh.{meshOf};
 ghost use Rattle.unused.specs.Compaction as want;
 ghost use Rattle.unused.specs.Working.{Ready, Done, Refused};
+ghost use Rattle.compaction.specs.Columns.{ColumnReady, ColumnDone, ColumnStanding};
 use mesh::MISSING;
 use mesh::POINT_WIDTH;
 use mesh::TEXEL_WIDTH;
@@ -70,8 +72,7 @@ fn refused(number: u32) -> Compacted
     }
 }
 
-// One pass over the corners; `cs`, `ps`, `ts` and `ns` are lent for the new corners, positions, texture points and normals. Each
-// column has its own map from old to new numbers, and its own count of entries used.
+// Column by column; `cs`, `ps`, `ts` and `ns` are lent for the new corners, positions, texture points and normals.
 pub fn compact(
     positions: &[f64],
     textures: &[f64],
@@ -87,24 +88,58 @@ pub fn compact(
         (want.resultOf (now (cs .entry)) (now (ps .entry)) (now (ts .entry)) (now (ns .entry)))
         (want.resultOf (now (cs .exit)) (now (ps .exit)) (now (ts .exit)) (now (ns .exit))) r ⌝ }
 {
-    let count = corners.len() / mesh::WIDTH;
-    let mut pmap = [MISSING; mesh::ENTRIES];
-    let mut tmap = [MISSING; mesh::ENTRIES];
-    let mut nmap = [MISSING; mesh::ENTRIES];
-    let mut p: u32 = 0;
-    let mut t: u32 = 0;
-    let mut n: u32 = 0;
-    let mut k: usize = 0;
-    while k < count {
-        p = oneindex::take_in(positions, POINT_WIDTH, corners, k, 0, &mut pmap, p, ps, cs);
-        t = oneindex::take_in(textures, TEXEL_WIDTH, corners, k, 1, &mut tmap, t, ts, cs);
-        n = oneindex::take_in(normals, POINT_WIDTH, corners, k, 2, &mut nmap, n, ns, cs);
-        k += 1;
-    }
+    let p = compact_column(positions, POINT_WIDTH, corners, 0, ps, cs);
+    let t = compact_column(textures, TEXEL_WIDTH, corners, 1, ts, cs);
+    let n = compact_column(normals, POINT_WIDTH, corners, 2, ns, cs);
     Compacted {
         number: 0,
-        positions: p as usize,
-        textures: t as usize,
-        normals: n as usize,
+        positions: p,
+        textures: t,
+        normals: n,
     }
+}
+
+// One pass over the corners, for one of their columns: `out` gets its new numbers, and `fresh` the entries that it uses, w numbers wide, in
+// the order of first use. Answers how many there are. So whoever has room for one list of entries alone can compact one after the other.
+pub fn compact_column(
+    attrs: &[f64],
+    w: usize,
+    corners: &[u32],
+    q: usize,
+    fresh: &mut [f64],
+    out: &mut [u32],
+) -> usize
+    requires { ⌜ ColumnReady (now attrs) w (now corners) q (now fresh) (now out) ⌝ }
+    ensures { λ r. ⌜ ColumnDone (now (attrs .entry)) w (now (corners .entry)) q
+        (now (fresh .entry)) (now (fresh .exit)) (now (out .entry)) (now (out .exit)) r ⌝ }
+{
+    let count = corners.len() / mesh::WIDTH;
+    let mut old2new = [MISSING; mesh::ENTRIES];
+    let mut used: u32 = 0;
+    let mut k: usize = 0;
+    while k < count {
+        used = oneindex::take_in(attrs, w, corners, k, q, &mut old2new, used, fresh, out);
+        k += 1;
+    }
+    used as usize
+}
+
+// The same within one list, whose first n numbers are the entries: those that the column uses come to its front. `fresh` is lent to work in.
+pub fn keep_used(
+    attrs: &mut [f64],
+    w: usize,
+    n: usize,
+    corners: &[u32],
+    q: usize,
+    fresh: &mut [f64],
+    out: &mut [u32],
+) -> usize
+    requires { ⌜ ColumnStanding (now attrs) w n (now corners) q (now fresh) (now out) ⌝ }
+    ensures { λ r. ⌜ ColumnDone (take n (now (attrs .entry))) w (now (corners .entry)) q
+        (now (attrs .entry)) (now (attrs .exit)) (now (out .entry)) (now (out .exit)) r ⌝ }
+{
+    let used = compact_column(&attrs[..n], w, corners, q, fresh, out);
+    let m = w * used;
+    lists::put_coordinates(&fresh[..m], attrs, 0);
+    used
 }

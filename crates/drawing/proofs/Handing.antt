@@ -1,12 +1,13 @@
 -- The mesh that is handed over is the file's: the fronts of the reader's own lists, with the faces grouped. Assumes nothing.
 use mathlib.Core.Path.{_≡_, refl, sym, ap, _∙_}
-use mathlib.Core.List.{List, map}
+use mathlib.Core.List.{List, map, _++_}
 use Prim.Native.Nat.{ℕ, _*_}
 use native.Mathlib.Omega.{arith}
-use lib.ListN.{length, take, length-map}
+use lib.ListN.{length, take, drop, length-map, length-append, take-append-drop}
 use lib.Seq.{sets}
 use lib.Ieee.{Float}
 use Rattle.lists.specs.Lists.{joined, each}
+use Rattle.lists.proofs.Writing.{sets-front}
 use Rattle.mesh.specs.Limits.{width}
 use Rattle.mesh.specs.Mesh.{Mesh, meshOf, rings}
 use Rattle.mesh.proofs.Faces.{isRing}
@@ -19,6 +20,11 @@ use Rattle.drawing.specs.Working.{Drawing}
 use Rattle.reading.specs.Answer.{Handed}
 use Rattle.reading.proofs.Sane.{all-sane}
 use Rattle.drawing.proofs.Fronts.{front-positions, front-textures, front-normals, own-rings}
+
+-- what stands at the front of a list, written there, changes nothing
+own-front : {A : Type 0} (l : List A) {k : ℕ} → length (take k l) ≡ k → l ≡ sets l 0 (take k l)
+own-front l {k} e =
+    sym (sets-front l (take k l) (omega (arith, length-append (take k l) (drop k l), ap length (take-append-drop k l))) ∙ ap (λ (n : ℕ). take k l ++ drop n l) e ∙ take-append-drop k l)
 
 module _ (file : List ℕ) (x : Progress) (l : Mesh) (d : Drawing file x l) where
   abbrev drawn : Drawn
@@ -51,3 +57,14 @@ module _ (file : List ℕ) (x : Progress) (l : Mesh) (d : Drawing file x l) wher
         corners = r .corners;
         sizes = r .sizes;
       }
+
+  -- coordinates that were drawn where they shall stand are handed over as they are
+  pub gathered :
+      (c1 c2 s1 s2 : List ℕ) (fc ff : ℕ)
+      → Placed (pushed (rings (take (x .faces) (l .sizes)) (take (width * x .corners) (l .corners)))) c1 c2 s1 s2 0 0 fc ff
+      → Handed (panelMesh file) (meshOf (l .positions) (l .textures) (l .normals) c1 s1) (meshOf (l .positions) (l .textures) (l .normals) c2 s2)
+      (record { number = 0; positions = x .positions; textures = x .textures; normals = x .normals; corners = fc; faces = ff })
+  gathered c1 c2 s1 s2 fc ff q =
+      handed (l .positions) (l .positions) (l .textures) (l .textures) (l .normals) (l .normals) c1 c2 s1 s2 fc ff
+      (own-front (l .positions) (front-positions file x l d)) (own-front (l .textures) (front-textures file x l d))
+      (own-front (l .normals) (front-normals file x l d)) q

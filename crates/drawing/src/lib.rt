@@ -8,7 +8,8 @@ ghost use Rattle.mesh.specs.Table.{short};
 ghost use Rattle.reading.specs.Reading.{readAll, finish, fullRoom, panelMesh};
 ghost use Rattle.steps.specs.Working.{Long};
 ghost use Rattle.reading.specs.Promises.{Full};
-ghost use Rattle.drawing.specs.Working.{Drawing};
+ghost use Rattle.drawing.specs.Drawing.{FileDrawn};
+ghost use Rattle.drawing.specs.Working.{Drawing, Gathered};
 ghost use Rattle.reading.specs.Answer.{refusedWith, Handed};
 use reading::MeshRead;
 use steps::Progress;
@@ -158,6 +159,73 @@ pub fn hand_over(
         positions: np,
         textures: nt,
         normals: nn,
+        corners: filled.corners,
+        faces: filled.faces,
+    }
+}
+
+// A whole file into lists of the caller's own, at the full limits: it is drawn where its mesh shall stand, so that no second mesh is needed
+// beside it, but for faces that are not grouped yet. Answers 0 and the counts of the file's mesh, which then stands at the front of the
+// lists; or the file's number, with counts of 0, and then nothing is promised of what the lists hold.
+pub fn draw(
+    file: &[u8],
+    positions: &mut [f64],
+    textures: &mut [f64],
+    normals: &mut [f64],
+    corners: &mut [u32],
+    sizes: &mut [u32],
+) -> MeshRead
+    requires { ⌜ Long (meshOf (now positions) (now textures) (now normals) (now corners) (now sizes)) ⌝ }
+    ensures { λ r. ⌜ FileDrawn (now (file .entry))
+        (meshOf (now (positions .exit)) (now (textures .exit)) (now (normals .exit)) (now (corners .entry)) (now (sizes .entry)))
+        (meshOf (now (positions .exit)) (now (textures .exit)) (now (normals .exit)) (now (corners .exit)) (now (sizes .exit))) r ⌝ }
+{
+    let mut c = [0u32; mesh::CORNER_NUMBERS];
+    let mut s = [0u32; mesh::FACES];
+    let x = read_records(file, positions, textures, normals, &mut c, &mut s);
+    let number = number_at_end(file, x, positions, textures, normals, &c, &s);
+    if number != 0 {
+        return refused(number);
+    }
+    gather(
+        file,
+        x,
+        positions,
+        textures,
+        normals,
+        &c,
+        &s,
+        corners,
+        sizes,
+    )
+}
+
+// The faces are grouped into lists of their own; what else was drawn stands already.
+fn gather(
+    file: &[u8],
+    x: Progress,
+    p: &[f64],
+    t: &[f64],
+    n: &[f64],
+    c: &[u32],
+    s: &[u32],
+    corners: &mut [u32],
+    sizes: &mut [u32],
+) -> MeshRead
+    requires { ⌜ Gathered (now file) x (meshOf (now p) (now t) (now n) (now c) (now s)) (now corners) (now sizes) ⌝ }
+    ensures { λ r. ⌜ Handed (panelMesh (now (file .entry)))
+        (meshOf (now (p .entry)) (now (t .entry)) (now (n .entry)) (now (corners .entry)) (now (sizes .entry)))
+        (meshOf (now (p .entry)) (now (t .entry)) (now (n .entry)) (now (corners .exit)) (now (sizes .exit)))
+        r ⌝ }
+{
+    let nc = mesh::WIDTH * x.corners;
+    let ns = x.faces;
+    let filled = grouping::push_all(&c[..nc], &s[..ns], corners, sizes);
+    MeshRead {
+        number: 0,
+        positions: x.positions,
+        textures: x.textures,
+        normals: x.normals,
         corners: filled.corners,
         faces: filled.faces,
     }

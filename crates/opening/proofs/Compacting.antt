@@ -1,11 +1,10 @@
--- Compaction in lists at the full limits: on an accepted mesh it is done, and what it gives stands at the front of the lists, and of the
--- lent lists once it is copied there. Assumes nothing.
-use mathlib.Core.Path.{_≡_, _∙_, refl, sym}
+-- Compaction in lists at the full limits: on an accepted mesh each of its columns can be compacted within its list, and what that gives
+-- stands at the front of the lists. Assumes nothing.
+use mathlib.Core.Path.{_≡_, _∙_, refl}
 use mathlib.Core.List.{List}
 use Prim.Native.Nat.{ℕ, _*_, _/_, _≤_}
 use native.Mathlib.Omega.{arith}
 use lib.ListN.{length, take}
-use lib.Seq.{sets}
 use lib.Ieee.{Float}
 use Rattle.lists.specs.Putting.{Front}
 use Rattle.lists.proofs.Fronts.{front}
@@ -15,86 +14,101 @@ use Rattle.mesh.specs.Table.{meshNumber}
 use Rattle.mesh.proofs.Accepted.{Accepted, accepted}
 use Rattle.mesh.proofs.After.{after-done}
 use Rattle.mesh.proofs.MeshFronts.{front-positions, front-textures, front-normals}
-use Rattle.unused.specs.declared.Compacted.{Compacted}
 use Rattle.unused.specs.Compaction.{compacted, resultOf, Compaction}
 use Rattle.unused.specs.Working.{Ready, Done}
 use Rattle.unused.proofs.Answer.{ready, done}
 use Rattle.unused.proofs.Laws.{corners-kept, accepted-compacted}
+use Rattle.compaction.specs.Columns.{ColumnStanding, ColumnDone}
+use Rattle.compaction.proofs.Loop.{columns-done}
 use Rattle.reading.specs.declared.MeshRead.{MeshRead}
-use Rattle.opening.specs.Opening.{Fronts}
-use Rattle.opening.specs.Working.{unfoldedFront, EntryRoom, Kept}
-use Rattle.opening.proofs.Fronts.{front-length, copied, whole}
+use Rattle.opening.specs.Opening.{Kept}
+use Rattle.opening.specs.Working.{unfoldedFront, EntryRoom}
+use Rattle.opening.proofs.Fronts.{front-length, whole}
 
-module _ {l : Mesh} {d : MeshRead} {us : List ℕ} {p t n : List Float} (room : EntryRoom l d us p t n) where
-  abbrev m : Mesh
-  m = unfoldedFront l d us
-
-  pub compaction-ready : Ready (m .positions) (m .textures) (m .normals) us (resultOf (l .corners) p t n)
-  compaction-ready =
-      let limits = accepted m (room .ready .accepted) .limits in
-      ready m (resultOf (l .corners) p t n) (room .ready .accepted)
-      (omega (arith, room .ready .corners, limits .corners))
-      (omega (arith, room .positions, limits .positions))
-      (omega (arith, room .textures, limits .textures))
-      (omega (arith, room .normals, limits .normals))
-
-module _ {l : Mesh} {d : MeshRead} {us c′ : List ℕ} {p t n p′ t′ n′ : List Float} {r : Compacted} (room : EntryRoom l d us p t n)
-    (did : Done (m room .positions) (m room .textures) (m room .normals) us (resultOf (l .corners) p t n) (resultOf c′ p′ t′ n′) r) where
+module _ {l : Mesh} {d : MeshRead} {us : List ℕ} {f : List Float} (room : EntryRoom l d us f) where
   abbrev given : Mesh
   given = unfoldedFront l d us
 
-  abbrev smaller : Mesh
-  smaller = compacted given
+  -- the lent lists are room for what is left
+  all-ready : Ready (given .positions) (given .textures) (given .normals) us (resultOf (l .corners) (l .positions) (l .textures) (l .normals))
+  all-ready =
+      let r = room .ready in
+      let limits = accepted given (r .accepted) .limits in
+      ready given (resultOf (l .corners) (l .positions) (l .textures) (l .normals)) (r .accepted)
+      (omega (arith, r .corners, limits .corners))
+      (omega (arith, front-length (r .position-front), r .position-front .within))
+      (omega (arith, front-length (r .texture-front), r .texture-front .within))
+      (omega (arith, front-length (r .normal-front), r .normal-front .within))
 
-  entries : Compaction given (resultOf (l .corners) p t n) (resultOf c′ p′ t′ n′) r
-  entries = done given (resultOf (l .corners) p t n) (resultOf c′ p′ t′ n′) r (room .ready .accepted) (compaction-ready room) did
+  -- each column can be compacted, whatever was written to the two lists that the columns share
+  pub positions-stand :
+      (g : List Float) (o : List ℕ) → length g ≡ length f → length o ≡ length (l .corners)
+      → ColumnStanding (l .positions) pointWidth (pointWidth * d .positions) us 0 g o
+  positions-stand g o e h =
+      let limits = accepted given (room .ready .accepted) .limits in
+      record {
+        within = room .ready .position-front .within;
+        ready = record {
+          pointed = all-ready .positions;
+          room = omega (arith, e, room .room, limits .positions);
+          corner-room = omega (arith, h, all-ready .corner-room);
+        };
+      }
 
-  smaller-accepted : meshNumber smaller ≡ 0
-  smaller-accepted = accepted-compacted given (room .ready .accepted)
+  pub textures-stand :
+      (g : List Float) (o : List ℕ) → length g ≡ length f → length o ≡ length (l .corners)
+      → ColumnStanding (l .textures) texelWidth (texelWidth * d .textures) us 1 g o
+  textures-stand g o e h =
+      let limits = accepted given (room .ready .accepted) .limits in
+      record {
+        within = room .ready .texture-front .within;
+        ready = record {
+          pointed = all-ready .textures;
+          room = omega (arith, e, room .room, limits .textures);
+          corner-room = omega (arith, h, all-ready .corner-room);
+        };
+      }
 
-  -- what was written
-  pub smaller-positions : Front p′ (smaller .positions) (pointWidth * r .positions)
-  smaller-positions =
-      front-positions smaller smaller-accepted p (room .positions)
-      (entries .positions ∙ after-done _ _ _ (did .number)) (entries .position-count ∙ after-done _ _ _ (did .number))
+  pub normals-stand :
+      (g : List Float) (o : List ℕ) → length g ≡ length f → length o ≡ length (l .corners)
+      → ColumnStanding (l .normals) pointWidth (pointWidth * d .normals) us 2 g o
+  normals-stand g o e h =
+      let limits = accepted given (room .ready .accepted) .limits in
+      record {
+        within = room .ready .normal-front .within;
+        ready = record {
+          pointed = all-ready .normals;
+          room = omega (arith, e, room .room, limits .normals);
+          corner-room = omega (arith, h, all-ready .corner-room);
+        };
+      }
 
-  pub smaller-textures : Front t′ (smaller .textures) (texelWidth * r .textures)
-  smaller-textures =
-      front-textures smaller smaller-accepted t (room .textures)
-      (entries .textures ∙ after-done _ _ _ (did .number)) (entries .texture-count ∙ after-done _ _ _ (did .number))
+  -- and when all three are, what is left stands at the front
+  module _ {p t n : List Float} {c1 c2 c3 : List ℕ} {i j k : ℕ}
+      (a : ColumnDone (given .positions) pointWidth us 0 (l .positions) p (l .corners) c1 i)
+      (b : ColumnDone (given .textures) texelWidth us 1 (l .textures) t c1 c2 j)
+      (c : ColumnDone (given .normals) pointWidth us 2 (l .normals) n c2 c3 k) where
+    abbrev smaller : Mesh
+    smaller = compacted given
 
-  pub smaller-normals : Front n′ (smaller .normals) (pointWidth * r .normals)
-  smaller-normals =
-      front-normals smaller smaller-accepted n (room .normals)
-      (entries .normals ∙ after-done _ _ _ (did .number)) (entries .normal-count ∙ after-done _ _ _ (did .number))
+    entries : Compaction given (resultOf (l .corners) (l .positions) (l .textures) (l .normals)) (resultOf c3 p t n) (record { number = 0; positions = i; textures = j; normals = k })
+    entries = done given _ _ _ (room .ready .accepted) all-ready (columns-done a b c)
 
-  smaller-corners : Front c′ (smaller .corners) (width * (length us / width))
-  smaller-corners =
-      let a : Accepted given = accepted given (room .ready .accepted) in
-      front (l .corners) (entries .corners ∙ after-done _ _ _ (did .number))
-      (omega (arith, corners-kept given (room .ready .accepted), a .whole .corners))
-      (omega (arith, room .ready .corners, a .limits .corners))
+    smaller-accepted : meshNumber smaller ≡ 0
+    smaller-accepted = accepted-compacted given (room .ready .accepted)
 
-  -- it fits into the lent lists
-  pub positions-fit : pointWidth * r .positions ≤ length (l .positions)
-  positions-fit = omega (arith, front-length smaller-positions, accepted smaller smaller-accepted .limits .positions, room .ready .positions)
+    smaller-corners : Front c3 (smaller .corners) (width * (length us / width))
+    smaller-corners =
+        let q : Accepted given = accepted given (room .ready .accepted) in
+        front (l .corners) (entries .corners) (omega (arith, corners-kept given (room .ready .accepted), q .whole .corners)) (omega (arith, room .ready .corners, q .limits .corners))
 
-  pub textures-fit : texelWidth * r .textures ≤ length (l .textures)
-  textures-fit = omega (arith, front-length smaller-textures, accepted smaller smaller-accepted .limits .textures, room .ready .textures)
-
-  pub normals-fit : pointWidth * r .normals ≤ length (l .normals)
-  normals-fit = omega (arith, front-length smaller-normals, accepted smaller smaller-accepted .limits .normals, room .ready .normals)
-
-  -- and is copied there
-  module _ {p″ t″ n″ : List Float} (i : p″ ≡ sets (l .positions) 0 (take (pointWidth * r .positions) p′))
-      (j : t″ ≡ sets (l .textures) 0 (take (texelWidth * r .textures) t′)) (k : n″ ≡ sets (l .normals) 0 (take (pointWidth * r .normals) n′)) where
     pub smaller-kept :
-        Kept smaller (meshOf p″ t″ n″ c′ (l .sizes))
+        Kept smaller (meshOf p t n c3 (l .sizes))
         (record {
           number = 0;
-          positions = r .positions;
-          textures = r .textures;
-          normals = r .normals;
+          positions = i;
+          textures = j;
+          normals = k;
           corners = length us / width;
           faces = length (l .sizes);
         })
@@ -102,9 +116,9 @@ module _ {l : Mesh} {d : MeshRead} {us c′ : List ℕ} {p t n p′ t′ n′ : 
     smaller-kept = record {
       number = refl;
       fronts = record {
-        positions = copied (l .positions) smaller-positions i positions-fit;
-        textures = copied (l .textures) smaller-textures j textures-fit;
-        normals = copied (l .normals) smaller-normals k normals-fit;
+        positions = front-positions smaller smaller-accepted (l .positions) (room .ready .positions) (entries .positions) (entries .position-count);
+        textures = front-textures smaller smaller-accepted (l .textures) (room .ready .textures) (entries .textures) (entries .texture-count);
+        normals = front-normals smaller smaller-accepted (l .normals) (room .ready .normals) (entries .normals) (entries .normal-count);
         corners = smaller-corners;
         sizes = whole (l .sizes);
       };

@@ -1,6 +1,6 @@
--- Removal in lists at the full limits: on an accepted mesh it is done, and what it gives stands at the front of the lists, an accepted mesh
--- again. Assumes nothing.
-use mathlib.Core.Path.{_≡_, _∙_, sym, ap, subst}
+-- Removal within lists at the full limits: on an accepted mesh it can be done, and what it leaves stands at the front of the lists, an
+-- accepted mesh again. Assumes nothing.
+use mathlib.Core.Path.{_≡_, _∙_, refl, sym, ap}
 use mathlib.Core.List.{List}
 use Prim.Native.Nat.{ℕ, _*_, _/_, _≤_}
 use native.Mathlib.Omega.{arith}
@@ -15,35 +15,43 @@ use Rattle.mesh.proofs.Accepted.{accepted}
 use Rattle.mesh.proofs.MeshFronts.{front-corners, front-sizes}
 use Rattle.removal.specs.Folded.{removed, unfoldedMesh, resultOf, Removal}
 use Rattle.removal.specs.Origins.{originsOf}
-use Rattle.removal.specs.Working.{Given, Left}
+use Rattle.grouping.specs.Push.{Placed}
 use Rattle.removal.proofs.Answer.{given, done}
 use Rattle.removal.proofs.Accepted.{removed-accepted, flat-removed}
+use Rattle.allfaces.specs.Working as all
 use Rattle.unused.specs.Compaction.{compacted}
 use Rattle.reading.specs.declared.MeshRead.{MeshRead}
 use Rattle.cleaning.specs.Cleaning.{cleaned}
-use Rattle.opening.specs.Opening.{frontOf, Fronts}
-use Rattle.opening.specs.Working.{unfoldedFront, FaceRoom, Unfolded, Kept}
+use Rattle.opening.specs.Opening.{frontOf, Fronts, Kept}
+use Rattle.opening.specs.Working.{unfoldedFront, FaceRoom, Unfolded}
 use Rattle.opening.proofs.Fronts.{front-length, copied}
 
 module _ {l : Mesh} {d : MeshRead} {us ss os : List ℕ} (room : FaceRoom l d us ss os) where
   abbrev m : Mesh
   m = frontOf l d
 
-  corners-room : length (m .corners) ≤ length us
-  corners-room = omega (arith, room .corners, accepted m (room .standing .accepted) .limits .corners)
+  corners-room : length (m .corners) ≤ length (l .corners)
+  corners-room = omega (arith, room .standing .room .corners, accepted m (room .standing .accepted) .limits .corners)
 
-  sizes-room : length (m .corners) / width / leastRing ≤ length ss
-  sizes-room = omega (arith, room .sizes, accepted m (room .standing .accepted) .limits .corners)
+  sizes-room : length (m .corners) / width / leastRing ≤ length (l .sizes)
+  sizes-room = omega (arith, room .standing .room .sizes, accepted m (room .standing .accepted) .limits .corners)
 
   origins-room : length (m .corners) / width / leastRing ≤ length os
   origins-room = omega (arith, room .origins, accepted m (room .standing .accepted) .limits .corners)
 
-  pub unfolded-given : Given (m .corners) (m .sizes) us ss os
-  unfolded-given = given m us ss os (room .standing .accepted) corners-room sizes-room origins-room
+  -- what the removal asks
+  pub faces-stand : all.Standing (l .corners) (l .sizes) (width * d .corners) (d .faces) us ss os
+  faces-stand = record {
+    corners = room .standing .fronts .corners .within;
+    sizes = room .standing .fronts .sizes .within;
+    fit = given m (l .corners) (l .sizes) os (room .standing .accepted) corners-room sizes-room origins-room .ready .fit;
+    full = record { corners = room .standing .room .corners; sizes = room .standing .room .sizes };
+    room = record { corners = room .corners; sizes = room .sizes };
+    tag-room = record { corners = room .corners; sizes = room .origins };
+  }
 
-module _ {l : Mesh} {d : MeshRead} {us us′ ss ss′ os os′ : List ℕ} {k f : ℕ} (room : FaceRoom l d us ss os)
-    (written : Left
-    (removed (rings (m room .sizes) (m room .corners))) (originsOf (rings (m room .sizes) (m room .corners))) us us′ ss ss′ os os′ 0 0 k f) where
+module _ {l : Mesh} {d : MeshRead} {us ss os c′ s′ : List ℕ} {k f : ℕ} (room : FaceRoom l d us ss os)
+    (written : Placed (removed (rings (m room .sizes) (m room .corners))) (l .corners) c′ (l .sizes) s′ 0 0 k f) where
   abbrev drawn : Mesh
   drawn = frontOf l d
 
@@ -53,72 +61,82 @@ module _ {l : Mesh} {d : MeshRead} {us us′ ss ss′ os os′ : List ℕ} {k f 
   abbrev ok : meshNumber drawn ≡ 0
   ok = room .standing .accepted
 
-  removal : Removal drawn (resultOf us ss os) (resultOf us′ ss′ os′) (record { number = 0; corners = k; faces = f })
-  removal = done drawn us ss os ok (corners-room room) (sizes-room room) (origins-room room) us′ ss′ os′ k f written
+  abbrev tags : List ℕ
+  tags = sets os 0 (originsOf (rings (drawn .sizes) (drawn .corners)))
+
+  removal : Removal drawn (resultOf (l .corners) (l .sizes) os) (resultOf c′ s′ tags) (record { number = 0; corners = k; faces = f })
+  removal =
+      done drawn (l .corners) (l .sizes) os ok (corners-room room) (sizes-room room) (origins-room room) c′ s′ tags k f
+      (record { placed = written; origins = refl })
 
   unfolded-accepted : meshNumber unfolded ≡ 0
   unfolded-accepted = removed-accepted drawn ok
 
-  pub unfolded-corners : Front us′ (unfolded .corners) (width * k)
+  pub unfolded-corners : Front c′ (unfolded .corners) (width * k)
   unfolding unfoldedMesh
   unfolded-corners =
-      front-corners unfolded unfolded-accepted us (room .corners) (removal .corners)
+      front-corners unfolded unfolded-accepted (l .corners) (room .standing .room .corners) (removal .corners)
       (removal .corner-count ∙ omega (arith, flat-removed drawn ok))
 
-  pub unfolded-sizes : Front ss′ (unfolded .sizes) f
+  pub unfolded-sizes : Front s′ (unfolded .sizes) f
   unfolding unfoldedMesh
   unfolded-sizes =
-      front-sizes unfolded unfolded-accepted ss (room .sizes) (removal .sizes)
+      front-sizes unfolded unfolded-accepted (l .sizes) (room .standing .room .sizes) (removal .sizes)
       (removal .face-count ∙ sym (length-map (removed (faces drawn)) length))
 
-  pub sizes-fit : f ≤ length (l .sizes)
-  sizes-fit = omega (arith, front-length unfolded-sizes, accepted unfolded unfolded-accepted .limits .sizes, room .standing .room .sizes)
+  pub corners-fit : {n : ℕ} → length us ≡ n → width * k ≤ n
+  corners-fit e =
+      omega (arith, front-length unfolded-corners, accepted unfolded unfolded-accepted .limits .corners, room .corners, e)
 
-  -- what compaction is given
-  abbrev lists : Mesh
-  lists = meshOf (l .positions) (l .textures) (l .normals) (l .corners) (take f ss′)
+  -- the corners in the list from which compaction reads
+  module _ (us₁ us′ : List ℕ) (long : length us₁ ≡ length us) (copy : us′ ≡ sets us₁ 0 (take (width * k) c′)) (still : length c′ ≡ length (l .corners)) where
+    pub moved-corners : Front us′ (unfolded .corners) (width * k)
+    moved-corners = copied us₁ unfolded-corners copy (corners-fit (sym long))
 
-  abbrev handed : Mesh
-  handed = unfoldedFront lists d (take (width * k) us′)
+    -- what compaction is given
+    abbrev lists : Mesh
+    lists = meshOf (l .positions) (l .textures) (l .normals) c′ (take f s′)
 
-  handed-is : handed ≡ unfolded
-  unfolding unfoldedMesh
-  handed-is = rw (unfolded-corners .is, unfolded-sizes .is)
+    abbrev handed : Mesh
+    handed = unfoldedFront lists d (take (width * k) us′)
 
-  pub unfolded-ready : Unfolded lists d (take (width * k) us′)
-  unfolded-ready = record {
-    accepted = ap meshNumber handed-is ∙ unfolded-accepted;
-    position-front = room .standing .fronts .positions;
-    texture-front = room .standing .fronts .textures;
-    normal-front = room .standing .fronts .normals;
-    positions = room .standing .room .positions;
-    textures = room .standing .room .textures;
-    normals = room .standing .room .normals;
-    corners = room .standing .room .corners;
-  }
+    handed-is : handed ≡ unfolded
+    unfolding unfoldedMesh
+    handed-is = rw (moved-corners .is, unfolded-sizes .is)
 
-  -- what it leaves, with the sizes that were copied
-  module _ {p′ t′ n′ : List Float} {c′ s′ : List ℕ} {r : MeshRead} (e : s′ ≡ sets (l .sizes) 0 (take f ss′))
-      (left : Kept (compacted handed) (meshOf p′ t′ n′ c′ (take f ss′)) r) where
-    faces-are : f ≡ r .faces
-    unfolding compacted
-    faces-are = unfolded-sizes .long ∙ front-length (left .fronts .sizes)
+    pub unfolded-ready : Unfolded lists d (take (width * k) us′)
+    unfolded-ready = record {
+      accepted = ap meshNumber handed-is ∙ unfolded-accepted;
+      position-front = room .standing .fronts .positions;
+      texture-front = room .standing .fronts .textures;
+      normal-front = room .standing .fronts .normals;
+      positions = room .standing .room .positions;
+      textures = room .standing .room .textures;
+      normals = room .standing .room .normals;
+      corners = still ∙ room .standing .room .corners;
+    }
 
-    size-front : Front s′ (cleaned drawn .sizes) (r .faces)
-    unfolding cleaned compacted
-    size-front = rw faces-are at (copied (l .sizes) unfolded-sizes e sizes-fit)
+    -- what it leaves, with the sizes that stand there
+    module _ {p′ t′ n′ : List Float} {c″ : List ℕ} {r : MeshRead} (left : Kept (compacted handed) (meshOf p′ t′ n′ c″ (take f s′)) r) where
+      faces-are : f ≡ r .faces
+      unfolding compacted
+      faces-are = unfolded-sizes .long ∙ front-length (left .fronts .sizes)
 
-    pub cleaned-kept : Kept (cleaned drawn) (meshOf p′ t′ n′ c′ s′) r
-    unfolding cleaned
-    cleaned-kept =
-        let same : Kept (cleaned drawn) (meshOf p′ t′ n′ c′ (take f ss′)) r = rw handed-is at left in
-        record {
-          number = left .number;
-          fronts = record {
-            positions = same .fronts .positions;
-            textures = same .fronts .textures;
-            normals = same .fronts .normals;
-            corners = same .fronts .corners;
-            sizes = size-front;
-          };
-        }
+      size-front : Front s′ (cleaned drawn .sizes) (r .faces)
+      unfolding cleaned compacted
+      size-front = rw faces-are at unfolded-sizes
+
+      pub cleaned-kept : Kept (cleaned drawn) (meshOf p′ t′ n′ c″ s′) r
+      unfolding cleaned
+      cleaned-kept =
+          let same : Kept (cleaned drawn) (meshOf p′ t′ n′ c″ (take f s′)) r = rw handed-is at left in
+          record {
+            number = left .number;
+            fronts = record {
+              positions = same .fronts .positions;
+              textures = same .fronts .textures;
+              normals = same .fronts .normals;
+              corners = same .fronts .corners;
+              sizes = size-front;
+            };
+          }

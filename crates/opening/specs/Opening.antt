@@ -7,6 +7,7 @@ use lib.ListN.{length, take}
 use Rattle.lists.specs.Putting.{Front}
 use Rattle.mesh.specs.Limits.{pointWidth, texelWidth, width, faceLimit, pointNumbers, texelNumbers, cornerNumbers}
 use Rattle.mesh.specs.Mesh.{Mesh, meshOf}
+use Rattle.mesh.specs.Table.{meshNumber}
 use Rattle.reading.specs.declared.MeshRead.{MeshRead}
 use Rattle.reading.specs.Reading.{readingNumber, panelMesh}
 use Rattle.reading.specs.Answer.{refusedWith}
@@ -38,10 +39,20 @@ pub record Fronts (m l : Mesh) (r : MeshRead) : Type 0 where
   pub corners : Front (l .corners) (m .corners) (width * r .corners)
   pub sizes : Front (l .sizes) (m .sizes) (r .faces)
 
--- what the call answers, and what the lent lists hold before and after it: on 0 the mesh that is left of the file, at their front by the
--- counts; on any other number, which is the reader's, nothing is written, and each count is 0
-pub record Opened (file : List ℕ) (before afterwards : Mesh) (answer : MeshRead) : Type 0 where
+-- the mesh at the front of five lists is accepted, and the lists are at the full limits
+pub record Standing (l : Mesh) (d : MeshRead) : Type 0 where
+  pub room : FullRoom l
+  pub accepted : meshNumber (frontOf l d) ≡ 0
+  pub fronts : Fronts (frontOf l d) l d
+
+-- the mesh m is left at the front of the lists
+pub record Kept (m l : Mesh) (r : MeshRead) : Type 0 where
+  pub number : r .number ≡ 0
+  pub fronts : Fronts m l r
+
+-- what the call answers, and what the lent lists hold after it: on 0 the mesh that is left of the file, at their front by the counts; on
+-- any other number, which is the reader's, each count is 0, and nothing is said of the lists, which are the product's own
+pub record Opened (file : List ℕ) (afterwards : Mesh) (answer : MeshRead) : Type 0 where
   pub number : answer .number ≡ readingNumber [] file
   pub left : answer .number ≡ 0 → Fronts (cleaned (panelMesh file)) afterwards answer
   pub counts : (answer .number ≡ 0 → ⊥) → answer ≡ refusedWith (answer .number)
-  pub unchanged : (answer .number ≡ 0 → ⊥) → afterwards ≡ before

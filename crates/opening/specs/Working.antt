@@ -9,14 +9,9 @@ use Rattle.mesh.specs.Limits.{pointWidth, texelWidth, width, faceLimit, pointNu
 use Rattle.mesh.specs.Mesh.{Mesh, meshOf}
 use Rattle.mesh.specs.Table.{meshNumber}
 use Rattle.reading.specs.declared.MeshRead.{MeshRead}
-use Rattle.opening.specs.Opening.{FullRoom, frontOf, Fronts}
+use Rattle.opening.specs.Opening.{Standing}
 
--- the mesh at the front of five lists is accepted, and the lists are at the full limits; with lists for what is left of its faces
-pub record Standing (l : Mesh) (d : MeshRead) : Type 0 where
-  pub room : FullRoom l
-  pub accepted : meshNumber (frontOf l d) ≡ 0
-  pub fronts : Fronts (frontOf l d) l d
-
+-- the same, with lists for what is left of its faces
 pub record FaceRoom (l : Mesh) (d : MeshRead) (unfolded newsizes tags : List ℕ) : Type 0 where
   pub standing : Standing l d
   pub corners : length unfolded ≡ cornerNumbers
@@ -33,7 +28,7 @@ unfoldedFront l d corners =
     corners
     (l .sizes)
 
--- it is accepted, and the other lists are at the full limits; with lists for the entries that its faces use
+-- it is accepted, and the other lists are at the full limits; with one list for the entries that its faces use
 pub record Unfolded (l : Mesh) (d : MeshRead) (unfolded : List ℕ) : Type 0 where
   pub accepted : meshNumber (unfoldedFront l d unfolded) ≡ 0
   pub position-front : Front (l .positions) (take (pointWidth * d .positions) (l .positions)) (pointWidth * d .positions)
@@ -44,13 +39,6 @@ pub record Unfolded (l : Mesh) (d : MeshRead) (unfolded : List ℕ) : Type 0 whe
   pub normals : length (l .normals) ≡ pointNumbers
   pub corners : length (l .corners) ≡ cornerNumbers
 
-pub record EntryRoom (l : Mesh) (d : MeshRead) (unfolded : List ℕ) (p t n : List Float) : Type 0 where
+pub record EntryRoom (l : Mesh) (d : MeshRead) (unfolded : List ℕ) (fresh : List Float) : Type 0 where
   pub ready : Unfolded l d unfolded
-  pub positions : length p ≡ pointNumbers
-  pub textures : length t ≡ texelNumbers
-  pub normals : length n ≡ pointNumbers
-
--- the mesh m is left at the front of the lists
-pub record Kept (m l : Mesh) (r : MeshRead) : Type 0 where
-  pub number : r .number ≡ 0
-  pub fronts : Fronts m l r
+  pub room : length fresh ≡ pointNumbers

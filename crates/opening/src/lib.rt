@@ -1,21 +1,22 @@
 // A panel file opened and cleaned: bytes in, the mesh that is left of it out, in lists that the caller lends.
 //
-// The file is read into the lent lists. Folded faces are removed from there into lists of its own, and what no face uses goes; what is
-// left comes back to the front of the lent lists. So there is never more than one mesh beside the caller's. Where a step needs lists, one
-// function makes them and `.._in` fills them. The definitions that a caller cites stand in specs/Opening.antt.
-ghost use mathlib.Core.Path.{_≡_};
+// The file is drawn into the lent lists. Folded faces are removed there, by way of lists for their pieces, and what no face uses goes, one
+// list of entries after the other; what is left stands at the front of the lent lists. So there is never more beside the caller's mesh than
+// its faces and one list of entries. Where a step needs lists, one function makes them and `.._in` fills them. The definitions that a caller cites
+// stand in specs/Opening.antt.
 ghost use Rattle.mesh.specs.Mesh.{meshOf};
 ghost use Rattle.unused.specs.Compaction.{compacted};
 ghost use Rattle.cleaning.specs.Cleaning.{cleaned};
-ghost use Rattle.opening.specs.Opening.{FullRoom, frontOf, Opened};
-ghost use Rattle.opening.specs.Working.{unfoldedFront, Standing, FaceRoom, Unfolded, EntryRoom, Kept};
+ghost use Rattle.opening.specs.Opening.{FullRoom, frontOf, Standing, Kept, Opened};
+ghost use Rattle.opening.specs.Working.{unfoldedFront, FaceRoom, Unfolded, EntryRoom};
 use mesh::POINT_WIDTH;
 use mesh::TEXEL_WIDTH;
 use mesh::WIDTH;
-use panelfile::MeshRead;
+use reading::MeshRead;
 
 // Takes the bytes of a panel file and lends five lists at the full limits. Answers 0 and the counts of the mesh that is left of the file,
-// which then stands at the front of the lists; or what the reader answers for the file, with counts of 0 and nothing written.
+// which then stands at the front of the lists; or what the reader answers for the file, with counts of 0: what the lists hold then is not
+// promised.
 pub fn open_clean(
     file: &[u8],
     positions: &mut [f64],
@@ -26,18 +27,18 @@ pub fn open_clean(
 ) -> MeshRead
     requires { ⌜ FullRoom (meshOf (now positions) (now textures) (now normals) (now corners) (now sizes)) ⌝ }
     ensures { λ r. ⌜ Opened (now (file .entry))
-        (meshOf (now (positions .entry)) (now (textures .entry)) (now (normals .entry)) (now (corners .entry)) (now (sizes .entry)))
         (meshOf (now (positions .exit)) (now (textures .exit)) (now (normals .exit)) (now (corners .exit)) (now (sizes .exit))) r ⌝ }
 {
-    let panel = panelfile::read_panel(file, positions, textures, normals, corners, sizes);
+    let panel = drawing::draw(file, positions, textures, normals, corners, sizes);
     if panel.number != 0 {
         return panel;
     }
-    remove(panel, positions, textures, normals, corners, sizes)
+    clean(panel, positions, textures, normals, corners, sizes)
 }
 
-// The mesh at the front of the lists, by its counts: lists for what is left of its faces.
-fn remove(
+// The mesh at the front of five lists at the full limits, by its counts, is cleaned there: folded faces are removed, and what no face uses
+// goes. Whoever has drawn a mesh into such lists goes on from here. Lists for what is left of its faces are made.
+pub fn clean(
     drawn: MeshRead,
     positions: &mut [f64],
     textures: &mut [f64],
@@ -66,7 +67,8 @@ fn remove(
     )
 }
 
-// Folded faces are removed; which face each came from is not needed further.
+// Folded faces are removed; which face each came from is not needed further. Compaction reads the corners in one list and writes them to
+// another, so they go there first.
 fn remove_in(
     drawn: MeshRead,
     unfolded: &mut [u32],
@@ -86,14 +88,14 @@ fn remove_in(
 {
     let c = WIDTH * drawn.corners;
     let f = drawn.faces;
-    let left = folded::remove(&corners[..c], &sizes[..f], unfolded, newsizes, origins);
+    let left = allfaces::remove_within(corners, sizes, c, f, unfolded, newsizes, origins);
     let k = WIDTH * left.corners;
     let g = left.faces;
-    lists::put(&newsizes[..g], sizes, 0);
+    lists::put(&corners[..k], unfolded, 0);
     compact(
         drawn,
         &unfolded[..k],
-        &newsizes[..g],
+        &sizes[..g],
         positions,
         textures,
         normals,
@@ -101,7 +103,7 @@ fn remove_in(
     )
 }
 
-// A mesh without folded faces, whose entries are at the front of their lists: lists for the entries that its faces use.
+// A mesh without folded faces, whose entries are at the front of their lists: one list for the entries that its faces use.
 fn compact(
     drawn: MeshRead,
     unfolded: &[u32],
@@ -117,16 +119,12 @@ fn compact(
         drawn (now (unfolded .entry))))
         (meshOf (now (positions .exit)) (now (textures .exit)) (now (normals .exit)) (now (corners .exit)) (now (newsizes .entry))) r ⌝ }
 {
-    let mut newpositions = [0.0f64; mesh::POINT_NUMBERS];
-    let mut newtextures = [0.0f64; mesh::TEXEL_NUMBERS];
-    let mut newnormals = [0.0f64; mesh::POINT_NUMBERS];
+    let mut fresh = [0.0f64; mesh::POINT_NUMBERS];
     compact_in(
         drawn,
         unfolded,
         newsizes,
-        &mut newpositions[..],
-        &mut newtextures[..],
-        &mut newnormals[..],
+        &mut fresh[..],
         positions,
         textures,
         normals,
@@ -134,21 +132,18 @@ fn compact(
     )
 }
 
-// What no face uses goes, and the entries that are left come back to the lent lists.
+// What no face uses goes, column by column, each by way of the same list.
 fn compact_in(
     drawn: MeshRead,
     unfolded: &[u32],
     newsizes: &[u32],
-    newpositions: &mut [f64],
-    newtextures: &mut [f64],
-    newnormals: &mut [f64],
+    fresh: &mut [f64],
     positions: &mut [f64],
     textures: &mut [f64],
     normals: &mut [f64],
     corners: &mut [u32],
 ) -> MeshRead
-    requires { ⌜ EntryRoom (meshOf (now positions) (now textures) (now normals) (now corners) (now newsizes)) drawn (now unfolded)
-        (now newpositions) (now newtextures) (now newnormals) ⌝ }
+    requires { ⌜ EntryRoom (meshOf (now positions) (now textures) (now normals) (now corners) (now newsizes)) drawn (now unfolded) (now fresh) ⌝ }
     ensures { λ r. ⌜ Kept
         (compacted (unfoldedFront (meshOf (now (positions .entry)) (now (textures .entry)) (now (normals .entry)) (now (corners .entry)) (now (newsizes .entry)))
         drawn (now (unfolded .entry))))
@@ -157,27 +152,14 @@ fn compact_in(
     let p = POINT_WIDTH * drawn.positions;
     let t = TEXEL_WIDTH * drawn.textures;
     let n = POINT_WIDTH * drawn.normals;
-    let used = compaction::compact(
-        &positions[..p],
-        &textures[..t],
-        &normals[..n],
-        unfolded,
-        corners,
-        newpositions,
-        newtextures,
-        newnormals,
-    );
-    let i = POINT_WIDTH * used.positions;
-    let j = TEXEL_WIDTH * used.textures;
-    let k = POINT_WIDTH * used.normals;
-    lists::put_coordinates(&newpositions[..i], positions, 0);
-    lists::put_coordinates(&newtextures[..j], textures, 0);
-    lists::put_coordinates(&newnormals[..k], normals, 0);
+    let i = compaction::keep_used(positions, POINT_WIDTH, p, unfolded, 0, fresh, corners);
+    let j = compaction::keep_used(textures, TEXEL_WIDTH, t, unfolded, 1, fresh, corners);
+    let k = compaction::keep_used(normals, POINT_WIDTH, n, unfolded, 2, fresh, corners);
     MeshRead {
         number: 0,
-        positions: used.positions,
-        textures: used.textures,
-        normals: used.normals,
+        positions: i,
+        textures: j,
+        normals: k,
         corners: unfolded.len() / WIDTH,
         faces: newsizes.len(),
     }

@@ -4,3 +4,4 @@ pub mod Taking
 pub mod Cutting
 pub mod Corners
 pub mod Filling
+pub mod Repeating

@@ -1,9 +1,9 @@
 -- What the split of a row of places asks and tells. Assumes nothing.
-use Prim.Native.Nat.{ℕ, _+_, _*_, _%_, _≤_, _<_}
+use Prim.Native.Nat.{ℕ, suc, _+_, _*_, _%_, _≤_, _<_}
 use mathlib.Core.Path.{_≡_}
 use mathlib.Core.Bool.{Bool, true}
 use mathlib.Core.List.{List, map}
-use lib.ListN.{length}
+use lib.ListN.{length, getD}
 use lib.Seq.{sets}
 use lib.Dec.{ltb}
 use Rattle.lists.specs.Lists.{every, joined, sum}
@@ -22,6 +22,11 @@ isPlace face p = ltb (width * p) (length face)
 -- each number of the row is a place of the face
 abbrev pub Places : List ℕ → List ℕ → Type 0
 Places face row = every (isPlace face) row ≡ true
+
+-- each of the first k places has a place behind it with its key
+pub record Repeats (key : ℕ → ℕ) (row : List ℕ) (k : ℕ) : Type 0 where
+  pub within : (i : ℕ) → i < k → suc i < length row
+  pub equal : (i : ℕ) → i < k → key (getD row i 0) ≡ key (getD row (suc i) 0)
 
 -- there is room for the pieces of n places behind c places and f pieces: for each of the places, and for as many sizes as a third of
 -- the places, rounded down

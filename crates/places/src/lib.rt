@@ -11,7 +11,7 @@ ghost use Rattle.lists.specs.Lists.{joined, span};
 ghost use Rattle.mesh.specs.Limits.{width, ringLimit};
 ghost use Rattle.mesh.specs.Mesh.{cornerAt};
 ghost use Rattle.splitting.specs.Splitting.{mateOf, firstMated, foldedBy, piecesBy};
-ghost use Rattle.places.specs.Working.{positionAt, Places, Room, Taken, Parted, Copied};
+ghost use Rattle.places.specs.Working.{positionAt, Places, Repeats, Room, Taken, Parted, Copied};
 use grouping::Filled;
 use mesh::LEAST_RING;
 use mesh::WIDTH;
@@ -54,6 +54,22 @@ fn first_at(face: &[u32], row: &[u32]) -> usize
         i += 1;
     }
     i
+}
+
+// How many places at the row's beginning have the position of the one behind them.
+fn repeats(face: &[u32], row: &[u32]) -> usize
+    requires { ⌜ Places (now face) (now row) ⌝ }
+    ensures { λ r. ⌜ Repeats (positionAt (now (face .entry))) (now (row .entry)) r ⌝ }
+{
+    let mut k: usize = 0;
+    while k + 1 < row.len() {
+        let p = position_at(face, row[k]);
+        if p != position_at(face, row[k + 1]) {
+            return k;
+        }
+        k += 1;
+    }
+    k
 }
 
 // The row, the other way round.
@@ -103,7 +119,8 @@ fn put_piece(face: &[u32], row: &[u32], took: &mut [u32], lens: &mut [u32], at: 
 }
 
 // The pieces of the ring whose places stand in the row: each of the two rings is split again by the same rule, the first ring's
-// pieces first.
+// pieces first. Where the row begins with equal corners, each of them but the last is a ring by itself and no piece: they are passed over at
+// once, and not at a level each.
 fn split_places(
     face: &[u32],
     row: &mut [u32],
@@ -117,6 +134,10 @@ fn split_places(
         (now (took .entry)) (now (took .exit)) (now (lens .entry)) (now (lens .exit))
         (at .corners) (at .faces) (r .corners) (r .faces) ⌝ }
 {
+    let s = repeats(face, row);
+    if 0 < s {
+        return split_places(face, &mut row[s..], took, lens, at);
+    }
     let n = row.len();
     let i = first_at(face, row);
     if i < n {

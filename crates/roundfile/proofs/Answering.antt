@@ -22,8 +22,8 @@ use Rattle.roundfile.proofs.Smooth.{alone}
 
 -- ---- the file is opened
 
-module _ {file : List ℕ} {before afterwards : Mesh} {r : MeshRead} (ones twos : List Float) (out : List ℕ)
-    (opened : Opened file before afterwards r) where
+module _ {file : List ℕ} {afterwards : Mesh} {r : MeshRead} (ones twos : List Float) (out : List ℕ)
+    (opened : Opened file afterwards r) where
   abbrev Answers : ℕ → List ℕ → Rounded → Type 0
   Answers k out′ answer = Answered k (meshRounded file ones twos) out out′ answer
 

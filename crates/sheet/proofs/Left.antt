@@ -11,7 +11,7 @@ use Rattle.opening.proofs.Reading.{opened-accepted}
 use Rattle.sheet.specs.Working.{Cleaned}
 
 pub opened-kept :
-    {file : List ℕ} {before afterwards : Mesh} {r : MeshRead} → Opened file before afterwards r
+    {file : List ℕ} {afterwards : Mesh} {r : MeshRead} → Opened file afterwards r
     → Cleaned file r (afterwards .corners) (afterwards .sizes)
 opened-kept {file} o = record {
   number = o .number;

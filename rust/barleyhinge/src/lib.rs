@@ -4,7 +4,7 @@
 //! that is stated for it, and gives back what was written, as lists of its own. A number other than 0 comes back as a [`Refusal`].
 //!
 //! The library itself allocates nothing and has no statics, so calls may run side by side. It needs stack: the most for
-//! [`sheet`] and for cleaning a file, 556 KB (`include/barleyhinge.h` has the figure of each call); a Rust thread has 2 MB unless it is asked for less.
+//! [`sheet`] and for cleaning a file, less than 400 KB (`include/barleyhinge.h` has the figure of each call); a Rust thread has 2 MB unless it is asked for less.
 //!
 //! ```no_run
 //! use barleyhinge::{read_panel, Refusal, Verdict};

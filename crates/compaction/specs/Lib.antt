@@ -1,0 +1,2 @@
+-- one column compacted; the rules stand in unused's specs/
+pub mod Columns
