@@ -1,6 +1,7 @@
 /* The library tried from C: reads a panel file from standard input, cleans it and prints its sheet, as document 01 has it; then a line
    from each call that the sheet does not need, the cleaned cover as a panel file among them. A refusal prints 'refused' and its number. Last
    comes the sheet again, from the one call that makes all of it. One byte more than a file may have is read, so that a longer one is refused and not cut.
+   With any word after its name it reads a scan, a binary STL file, and goes on with the panel file of the scan's mesh.
    rust/barleyhinge/examples/cover.rs is the same from Rust; tools/try_library builds and runs both. */
 #include "barleyhinge.h"
 #include <math.h>
@@ -23,6 +24,14 @@ struct mesh {
 
 static struct mesh drawn, left, clean;
 static uint32_t origins[BH_MAX_FACES], flat[2 * BH_MAX_CORNERS], lengths[BH_MAX_CORNERS];
+
+/* Makes of a scan the panel file of its mesh, in the same place, which has room for every one; the number of the refusal, or 0. */
+static uint32_t from_scan(uint8_t *file, size_t *length) {
+    uint32_t number = bh_read_scan(
+        file, *length, ROOM(drawn.positions), ROOM(drawn.textures), ROOM(drawn.normals), ROOM(drawn.corners), ROOM(drawn.sizes),
+        &drawn.positioncount, &drawn.texturecount, &drawn.normalcount, &drawn.cornercount, &drawn.facecount);
+    return number == BH_DONE ? bh_write_panel(LISTS(&drawn), file, BH_FILE_ROOM, length) : number;
+}
 
 /* Reads, removes folded faces, compacts; the number of the first refusal, or 0. Face k of the clean cover came from drawn face origins[k]. */
 static uint32_t draw(const uint8_t *file, size_t file_len) {
@@ -136,10 +145,16 @@ static void print_broken(void) {
     }
 }
 
-int main(void) {
-    static uint8_t file[BH_MAX_FILE + 1], text[BH_SHEET_ROOM];
-    size_t length = fread(file, 1, sizeof file, stdin), bytes;
-    uint32_t number = draw(file, length);
+int main(int count, char **words) {
+    static uint8_t file[BH_FILE_ROOM], text[BH_SHEET_ROOM];
+    bool is_scan = count > 1 && words[1] != NULL;
+    size_t length = fread(file, 1, is_scan ? BH_FILE_ROOM : BH_MAX_FILE + 1, stdin), bytes;
+    uint32_t number = is_scan ? from_scan(file, &length) : BH_DONE;
+    if (number != BH_DONE) {
+        printf("refused %u\n", number);
+        return 0;
+    }
+    number = draw(file, length);
     if (number == BH_DONE) {
         print_sheet();
         print_row("drawn as", origins, clean.facecount);

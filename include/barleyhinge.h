@@ -34,9 +34,9 @@
 /* The version of this interface. Since 0.8.0 a face may have 300 corners, where it was 32: compile anew what has arrays of BH_MAX_FACE_CORNERS. A panel
    file has a face of more than 32 corners as a record of kind 5, which an older reader refuses by 12. No function has another signature. */
 #define BH_VERSION_MAJOR 0
-#define BH_VERSION_MINOR 8
+#define BH_VERSION_MINOR 9
 #define BH_VERSION_PATCH 0
-#define BH_VERSION "0.8.0"
+#define BH_VERSION "0.9.0"
 
 #include <stdbool.h>
 #include <stddef.h>
@@ -64,7 +64,7 @@ enum bh_limit {
 /* The numbers that calls return. */
 enum bh_number {
     BH_DONE = 0,
-    BH_OVER_LIMIT = 1,      /* a list is over its limit, or would be in what smoothing gives */
+    BH_OVER_LIMIT = 1,      /* a list is over its limit, or would be in what smoothing gives, or in the mesh of a scan */
     BH_MISFIT = 2,          /* a length is no multiple of its width, or the sizes don't add up to the corners */
     BH_FACE_SIZE = 3,       /* a face size lies outside 3 to 300; in a file also: more than 32 corners in a record of kind 4 */
     BH_UNGROUPED = 4,       /* the sizes aren't grouped: triangles, quadrangles, larger faces */
@@ -74,9 +74,9 @@ enum bh_number {
     BH_QUOTIENT = 8,        /* a texture or normal coordinate divided by the tolerance has magnitude 2^53 or more */
     BH_ROOM = 9,            /* a lent list is shorter than its stated room */
     BH_NO_HOUSE_WIRES = 10, /* house wires, or smoothing, where the verdict is neither Oriented nor Closed */
-    BH_FILE_CUT = 11,       /* the file stops inside a record, or before its end record */
+    BH_FILE_CUT = 11,       /* the file stops inside a record, or before its end record; a scan stops before the last triangle of its count */
     BH_RECORD = 12,         /* a record's kind is unknown, or its length is wrong for its kind */
-    BH_AFTER_END = 13,      /* bytes follow the end record */
+    BH_AFTER_END = 13,      /* bytes follow the end record, or the last triangle of a scan */
     BH_NOT_FINITE = 14,     /* a coordinate in a file is not finite: not a number, or an infinity */
     BH_NOT_TRIANGLE = 15,   /* smoothing: a face isn't a triangle */
     BH_FOLDED_OR_UNUSED = 16, /* smoothing: a face is folded, or a position is in no face */
@@ -107,7 +107,7 @@ static inline const char *bh_text(uint32_t number) {
     case BH_NO_HOUSE_WIRES: return "the verdict is neither Oriented nor Closed";
     case BH_FILE_CUT: return "the file stops too early";
     case BH_RECORD: return "a record's kind is unknown, or its length is wrong";
-    case BH_AFTER_END: return "bytes follow the end record";
+    case BH_AFTER_END: return "bytes follow the end record, or the last triangle of a scan";
     case BH_NOT_FINITE: return "a coordinate in a file is not finite";
     case BH_NOT_TRIANGLE: return "a face isn't a triangle";
     case BH_FOLDED_OR_UNUSED: return "a face is folded, or a position is in no face";
@@ -335,6 +335,29 @@ uint32_t bh_components(
    length, 3 a face of more than 32 corners in kind 4 or of more than 300 in kind 5, 14 a coordinate that is not finite, 1 limit; then 13; then 5.
    Stack: 182 KB. */
 uint32_t bh_read_panel(
+    const uint8_t *file, size_t file_len,
+    double *positions, size_t positions_len,
+    double *textures, size_t textures_len,
+    double *normals, size_t normals_len,
+    uint32_t *corners, size_t corners_len,
+    uint32_t *sizes, size_t sizes_len,
+    size_t *positioncount,
+    size_t *texturecount,
+    size_t *normalcount,
+    size_t *cornercount,
+    size_t *facecount);
+
+/* Reads a scan, a binary STL file, into five lists: 80 bytes of header, a four-byte count, then 50 bytes for each triangle, a normal and three
+   points, all f32, and two bytes; all little-endian. Points with equal bits become one position, numbered by first appearance; a negative zero is
+   read as zero first. Widening to double loses nothing. The header, the normals and the two-byte fields are passed over, whatever is in them; folded
+   triangles are kept.
+   Lends the five lists at the full limits, as bh_read_panel does; 'textures' and 'normals' are never written, and their counts are 0.
+   On 0: the lists are a mesh of triangles whose corners have no texture point and no normal, with so many positions, corners and faces as the counts
+   say; no two positions are equal, each is used, and every coordinate is finite.
+   Answers, in this order: 9; 11 fewer than 84 bytes; 1 a count over BH_MAX_FACES; 11 or 13 where the length is below or above 84 + 50 * count; 14 a
+   point that is not finite; 1 more than BH_MAX_ENTRIES different positions.
+   Stack: 177 KB. */
+uint32_t bh_read_scan(
     const uint8_t *file, size_t file_len,
     double *positions, size_t positions_len,
     double *textures, size_t textures_len,

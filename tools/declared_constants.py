@@ -22,6 +22,7 @@ LINES = "crates/lines/specs/Lines.antt"
 PIECES = "crates/written/specs/Pieces.antt"
 SAVING = "crates/written/specs/Answer.antt"
 SMOOTHED = "crates/smoothed/specs/Refusals.antt"
+SCAN = "crates/scanned/specs/Scan.antt"
 WRITER = "crates/saving/src/lib.rt"
 CLEANING = "crates/cleanfile/specs/Cleaning.antt"
 SHEET = "crates/sheet/specs/Sheet.antt"
@@ -38,7 +39,7 @@ DAMAGED = "crates/try_damaged/src/main.rt"
 ORACLE = "oracle/judge/src/reading/numbers.rs"
 SOURCES = (
     LIMITS, CONSTS, MESH, TABLE, COMPACTION, MERGING, PORTED, HOUSE, RECORDS, LENGTHS, RECORD_CONSTS, READING, PIECES, SAVING, WRITER, CLEANING, LINES, SHEET, SHEET_CONSTS, ANSWERS,
-    FACES, FOLDED, SMOOTHED, FOURFOLD, SMOOTHABLE, EDGES, PANELS, REPLAY, DAMAGED, ORACLE,
+    FACES, FOLDED, SMOOTHED, SCAN, FOURFOLD, SMOOTHABLE, EDGES, PANELS, REPLAY, DAMAGED, ORACLE,
 )
 
 
@@ -84,13 +85,20 @@ NUMBER_ROWS = {
     ("UNFIT_COSINES", "UnfitCosines"): (SMOOTHED, r"when \(unfitCosines m ones twos\) (\d+)"),
 }
 # The rows of other calls that give one of these numbers too, by a rule of their own.
-OTHER_ROWS = {
-    "NOT_FINITE": (SAVING, r"when \(not \(finiteMesh m\)\) (\d+)"),
-    "COORDINATE": (SMOOTHED, r"when \(boundlessPosition m\) (\d+)"),
-    "NO_HOUSE_WIRES": (SMOOTHED, r"when \(unoriented m\) (\d+)"),
-    "OVER_LIMIT": (SMOOTHED, r"when \(overLimits \(resultOf m ones twos\)\) (\d+)"),
-    "ROOM": (SMOOTHED, r"when \(tooShort m r\) (\d+)"),
-}
+OTHER_ROWS = (
+    ("NOT_FINITE", SAVING, r"when \(not \(finiteMesh m\)\) (\d+)"),
+    ("COORDINATE", SMOOTHED, r"when \(boundlessPosition m\) (\d+)"),
+    ("NO_HOUSE_WIRES", SMOOTHED, r"when \(unoriented m\) (\d+)"),
+    ("OVER_LIMIT", SMOOTHED, r"when \(overLimits \(resultOf m ones twos\)\) (\d+)"),
+    ("ROOM", SMOOTHED, r"when \(tooShort m r\) (\d+)"),
+    ("FILE_CUT", SCAN, r"when \(ltb \(length s\) frontBytes\) (\d+)"),
+    ("OVER_LIMIT", SCAN, r"when \(ltb faceLimit \(scanCount s\)\) (\d+)"),
+    ("FILE_CUT", SCAN, r"when \(ltb \(length s\) \(scanLength \(scanCount s\)\)\) (\d+)"),
+    ("AFTER_END", SCAN, r"when \(ltb \(scanLength \(scanCount s\)\) \(length s\)\) (\d+)"),
+    ("NOT_FINITE", SCAN, r"when \(some notFinite ps\) (\d+)"),
+    ("OVER_LIMIT", SCAN, r"when \(ltb entryLimit \(length \(firstUses ps\)\)\) (\d+)"),
+    ("ROOM", SCAN, r"when \(short rooms\) (\d+)"),
+)
 # The most corners of a face of kind 4, which no limit of the interface is.
 SMALL_FACE = {
     LENGTHS: r"^byteFaceLimit = (\d+)$",
@@ -113,6 +121,7 @@ ROOM_RULES = {
     "bh_house_wires": (HOUSE, "houseShort"),
     "bh_components": (PANELS, "componentsNumber"),
     "bh_read_panel": (READING, "fullRoom"),
+    "bh_read_scan": (READING, "fullRoom"),
     "bh_write_panel": (SAVING, "savingNumber"),
     "bh_clean_panel": (CLEANING, "cleaningNumber"),
     "bh_sheet": (SHEET, "sheetNumber"),
@@ -158,9 +167,10 @@ def longest_file(texts, limits):
 def numbers_of(texts):
     """The table: C name and wrapper's name, and the number."""
     numbers = {names: only_one(texts, *row) for names, row in NUMBER_ROWS.items()}
-    for (name, _), number in numbers.items():
-        if name in OTHER_ROWS and only_one(texts, *OTHER_ROWS[name]) != number:
-            raise Unreadable(f"{name}: two calls differ, by {OTHER_ROWS[name][0]}")
+    by_name = {name: number for (name, _), number in numbers.items()}
+    for name, path, row in OTHER_ROWS:
+        if only_one(texts, path, row) != by_name[name]:
+            raise Unreadable(f"{name}: two calls differ, by {path}")
     return numbers
 
 
@@ -295,7 +305,9 @@ def consts(text):
 def lent_rooms(text):
     """The room of each list that the wrapper lends, by call and by the list's name."""
     plain = re.sub(r"//[^\n]*", "", text)
-    shared = dict(re.findall(r"(\w+)(?:: | = )vec!\[\s*0(?:\.0)?;\s+([^\]]*)\]", body_of(plain, r"macro_rules! rows ")))
+    shared, readers = (
+        dict(re.findall(r"(\w+)(?:: | = )vec!\[\s*0(?:\.0)?;\s+([^\]]*)\]", body_of(plain, rf"macro_rules! {name} "))) for name in ("rows", "read")
+    )
     rooms = {}
     for name in re.findall(r"pub fn (\w+)\(", plain):
         body = body_of(plain, rf"pub fn {name}\(")
@@ -305,6 +317,8 @@ def lent_rooms(text):
         through = re.search(r"rows!\(self, bh_\w+, (.*?)(?:, use_normal)?\)\s*\Z", body)
         if through:
             rooms[call[0]] = {list_: room.replace("$room", through[1]).replace("$mesh", "self") for list_, room in shared.items()}
+        elif re.search(r"\A\s*read!\(bh_\w+, file\)\s*\Z", body):
+            rooms[call[0]] = readers
         else:
             rooms[call[0]] = dict(re.findall(r"(\w+)(?:: | = )vec!\[\s*0(?:\.0)?;\s+([^\]]*)\]", body))
     if "fn corner_count(self) -> usize {\n        self.corners.len() / 3\n    }" not in text:

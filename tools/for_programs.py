@@ -1,8 +1,8 @@
-"""What the tests of ./meshsheet, ./meshclean and ./meshround share: the script in a copy, over a stand-in for its program and for the kit, so
+"""What the tests of ./meshsheet, ./scansheet, ./meshclean and ./meshround share: the script in a copy, over a stand-in for its program and for the kit, so
 that nothing is proved; and what is the same of them, how they read, build and run, and how two of them write a panel file.
 
 A test module makes a class of each base here with its own `NAME`, `PROGRAM` (the stand-in, a shell script) and `GIVEN` (text that the
-stand-in takes, and gives back as it is).
+stand-in takes, and gives back as it is), and its own `KIND` where it reads no panel file.
 """
 import os
 import platform
@@ -42,12 +42,14 @@ def put(path, text, mode=0o644):
 class Copy:
     """A folder with a space in its name, the script in it, and stand-ins."""
 
+    KIND = "panel file"
+
     def setUp(self):
         self.top = tempfile.TemporaryDirectory()
         self.addCleanup(self.top.cleanup)
         self.folder = os.path.join(self.top.name, "a folder")
         self.script = os.path.join(self.folder, self.NAME)
-        for name in (self.NAME, "tools/program.sh", "tools/refusals.txt", "rust/barleyhinge/Cargo.toml"):
+        for name in (self.NAME, "tools/program.sh", "tools/refusals.txt", "tools/scan_refusals.txt", "rust/barleyhinge/Cargo.toml"):
             os.makedirs(os.path.dirname(os.path.join(self.folder, name)), exist_ok=True)
             shutil.copy(os.path.join(ROOT, name), os.path.join(self.folder, name))
         put(os.path.join(self.folder, "crates.txt"), "")
@@ -107,8 +109,8 @@ class Reads(Copy):
 
     def test_what_is_no_file(self):
         self.assertEqual(self.shell('"$0" <&-'), (2, "", f"{self.NAME}: standard input is closed\n"))
-        self.assertEqual(self.shell('"$0" </'), (2, "", f"{self.NAME}: this is a folder, not a panel file\n"))
-        self.assertEqual(self.run_it("/"), (2, "", f"{self.NAME}: this is a folder, not a panel file\n"))
+        self.assertEqual(self.shell('"$0" </'), (2, "", f"{self.NAME}: this is a folder, not a {self.KIND}\n"))
+        self.assertEqual(self.run_it("/"), (2, "", f"{self.NAME}: this is a folder, not a {self.KIND}\n"))
         self.assertEqual(self.run_it("none"), (2, "", f"{self.NAME}: there is no file 'none'\n"))
         self.assertNotIn("\x1b", self.run_it("no\x1b[2Jne")[2])
 

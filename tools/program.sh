@@ -1,14 +1,17 @@
 # shellcheck shell=bash disable=SC2154
-# Sourced by ./meshsheet, ./meshclean and ./meshround, each of which runs a proved program of its own name. They set
+# Sourced by ./meshsheet, ./scansheet, ./meshclean and ./meshround, each of which runs a proved program of its own name. They set
 #   home       the folder that they stand in
 #   name       the program's
 #   usage      the line of usage
 #   help       what --help prints
 #   longest    how much a file may have of what goes by the program, as one says it
+#   kind       what a file is called that it reads, where that is no panel file
+#   words      the file that says what its refusals mean, where that is not tools/refusals.txt
 # before, and then
 #   take_options WORDS   does what --help and --version ask for, and ends where the words are not those of the usage
 #   open_input [FILE]    makes the file, or standard input, what the program reads; before the folder changes
 #   make_ready           sets 'run' to the words that run the program, which is proved and built where it is not
+#   print_sheet SHEET    on standard output, byte for byte, and said where that fails
 #   write_panel WHAT [FILE]    does the whole work of a program that writes a panel file, WHAT it is called
 #   refused NUMBER       says what a refusal means, and ends with 1
 #   fail WORDS           says that nothing could be read, run or written, and ends with 2
@@ -40,7 +43,7 @@ open_input() {
         exec <"$1"
     fi
     [ -e /dev/stdin ] || fail "standard input is closed"
-    [ ! -d /dev/stdin ] || fail "this is a folder, not a panel file"
+    [ ! -d /dev/stdin ] || fail "this is a folder, not a ${kind:-panel file}"
     if [ -t 0 ]; then
         echo "$usage" >&2
         exit 2
@@ -86,6 +89,11 @@ make_ready() {
     run=("$tools/bin/qemu-x86_64" "$tools/lib/ld-linux-x86-64.so.2" --library-path "$tools/lib" "${run[@]}")
 }
 
+print_sheet() {
+    [ -n "$1" ] || fail "the program printed no sheet"
+    { printf '%s' "$1"; } 2>/dev/null || fail "the sheet could not be written"
+}
+
 # Such a program always ends with status 0: on standard output it writes the file, or on standard error 'refused' and the number, or
 # 'unwritten'. What it writes is kept aside until it has ended.
 write_panel() {
@@ -106,7 +114,7 @@ write_panel() {
 }
 
 refused() {
-    echo "$name: the file is refused ($1): $(sed -n "s/^$1 //p" tools/refusals.txt | sed "s/LONGEST/$longest/")" >&2
+    echo "$name: the file is refused ($1): $(sed -n "s/^$1 //p" "${words:-tools/refusals.txt}" | sed "s/LONGEST/$longest/")" >&2
     exit 1
 }
 

@@ -1,4 +1,4 @@
-/* How much stack each call of the library needs: tools/stack builds and runs it over panel files and takes what it prints,
+/* How much stack each call of the library needs: tools/stack builds and runs it over panel files and scans and takes what it prints,
    'NAME KB BYTES FILE' for each call.
 
    Found by trying: KB, of 1,024 bytes, is the smallest stack on which the call still works on every file. A call runs in a process of
@@ -40,6 +40,10 @@ static void reading(void) {
     bh_read_panel(file, file_len, ROOM(mesh.positions), ROOM(mesh.textures), ROOM(mesh.normals), ROOM(mesh.corners), ROOM(mesh.sizes),
                   &mesh.counts[0], &mesh.counts[1], &mesh.counts[2], &mesh.counts[3], &mesh.counts[4]);
 }
+static void scanning(void) {
+    bh_read_scan(file, file_len, ROOM(made.positions), ROOM(made.textures), ROOM(made.normals), ROOM(made.corners), ROOM(made.sizes),
+                 &made.counts[0], &made.counts[1], &made.counts[2], &made.counts[3], &made.counts[4]);
+}
 static void number(void) { bh_mesh_number(LISTS); }
 static void face(void) { bh_face(LISTS, mesh.counts[4] - 1, &a, &b); }
 static void push(void) { bh_push(mesh.corners, 3 * mesh.counts[3], mesh.sizes, mesh.counts[4], ROOM(made.corners), ROOM(made.sizes), &a, &b); }
@@ -74,6 +78,7 @@ static struct { const char *name; void (*call)(void); size_t deepest, on; } call
     {"bh_house_wires", house, 0, 0},
     {"bh_components", panels, 0, 0},
     {"bh_read_panel", reading, 0, 0},
+    {"bh_read_scan", scanning, 0, 0},
     {"bh_write_panel", writing, 0, 0},
     {"bh_clean_panel", cleaning, 0, 0},
     {"bh_sheet", sheet, 0, 0},

@@ -20,6 +20,7 @@ RATIOS = (
     ("panels", ("components",), 1.0, ()),
     ("smoothing", ("loop_subdivision",), 1.0, ()),
     ("merging on spread points", ("put_together_same_attrs",), 3.0, (SPREAD,)),
+    ("scans", ("read_scan",), 1.0, ()),
 )
 GROWING = ("shell_condition", "hem_edges", "extract_boundaries", "house_wires", "components")
 MOST_GROWTH = 24.0

@@ -19,6 +19,7 @@ ghost use Rattle.ported.specs.Answers.{PortedAnswer};
 ghost use Rattle.house.specs.Answers.{HouseAnswer};
 ghost use Rattle.panels.specs.Contract.{PanelsAnswer};
 ghost use Rattle.reading.specs.Answer.{PanelRead};
+ghost use Rattle.scanned.specs.Answer.{ScanRead};
 ghost use Rattle.written.specs.Answer.{PanelWritten};
 ghost use Rattle.cleanfile.specs.Cleaning.{PanelCleaned};
 ghost use Rattle.sheet.specs.Sheet.{Printed};
@@ -377,6 +378,37 @@ pub extern "C" fn bh_read_panel(
     let panel = panelfile::read_panel(file, positions, textures, normals, corners, sizes);
     fileanswers::read(
         panel,
+        positioncount,
+        texturecount,
+        normalcount,
+        cornercount,
+        facecount,
+    )
+}
+
+// The reader of a scanner's own file, binary STL.
+#[no_mangle]
+pub extern "C" fn bh_read_scan(
+    file: &[u8],
+    positions: &mut [f64],
+    textures: &mut [f64],
+    normals: &mut [f64],
+    corners: &mut [u32],
+    sizes: &mut [u32],
+    positioncount: &mut usize,
+    texturecount: &mut usize,
+    normalcount: &mut usize,
+    cornercount: &mut usize,
+    facecount: &mut usize,
+) -> u32
+    ensures { λ r. ⌜ ScanRead (now (file .entry))
+        (meshOf (now (positions .entry)) (now (textures .entry)) (now (normals .entry)) (now (corners .entry)) (now (sizes .entry)))
+        (meshOf (now (positions .exit)) (now (textures .exit)) (now (normals .exit)) (now (corners .exit)) (now (sizes .exit)))
+        (fileanswer.readBy r (now (positioncount .exit)) (now (texturecount .exit)) (now (normalcount .exit)) (now (cornercount .exit)) (now (facecount .exit))) ⌝ }
+{
+    let scan = scanfile::read_scan(file, positions, textures, normals, corners, sizes);
+    fileanswers::read(
+        scan,
         positioncount,
         texturecount,
         normalcount,

@@ -17,7 +17,7 @@ use Rattle.edges.proofs.Answering.{answer-only}
 use Rattle.tracing.specs.Answers.{Answered}
 use Rattle.tracing.specs.declared.Wires.{Wires}
 use Rattle.determined.specs.Determined.{Call, Determined, _and_, done, equals, number, face, pushCall, compactionCall, removalCall}
-use Rattle.determined.specs.Determined.{mergingCall, smoothingCall, verdictCall, hemCall, portedCall, houseCall, panelsCall, readCall, writeCall, cleanCall, sheetCall, AllDetermined}
+use Rattle.determined.specs.Determined.{mergingCall, smoothingCall, verdictCall, hemCall, portedCall, houseCall, panelsCall, readCall, scanCall, writeCall, cleanCall, sheetCall, AllDetermined}
 
 -- ---- the general law
 
@@ -150,6 +150,24 @@ read-determined g r q a b =
       meshOf (p′ i) (t′ i) (u′ i) (c′ i) (s′ i),
     )
 
+scan-determined : Determined scanCall
+scan-determined g r q a b =
+    let n : r .0 .number ≡ q .0 .number = cc in
+    let p : r .0 .positions ≡ q .0 .positions = cc in
+    let t : r .0 .textures ≡ q .0 .textures = cc in
+    let u : r .0 .normals ≡ q .0 .normals = cc in
+    let c : r .0 .corners ≡ q .0 .corners = cc in
+    let f : r .0 .faces ≡ q .0 .faces = cc in
+    let p′ : r .1 .positions ≡ q .1 .positions = cc in
+    let t′ : r .1 .textures ≡ q .1 .textures = cc in
+    let u′ : r .1 .normals ≡ q .1 .normals = cc in
+    let c′ : r .1 .corners ≡ q .1 .corners = cc in
+    let s′ : r .1 .sizes ≡ q .1 .sizes = cc in
+    λ i. (
+      record { number = n i; positions = p i; textures = t i; normals = u i; corners = c i; faces = f i },
+      meshOf (p′ i) (t′ i) (u′ i) (c′ i) (s′ i),
+    )
+
 write-determined : Determined writeCall
 write-determined g r q a b =
     let n : r .0 .number ≡ q .0 .number = cc in
@@ -188,6 +206,7 @@ all-determined =
     and house-determined
     and panels-determined
     and read-determined
+    and scan-determined
     and write-determined
     and clean-determined
     and sheet-determined

@@ -24,6 +24,7 @@ all-tied = record {
   house-tied = λ κs a r e h. h;
   panels-tied = λ κs a r e h. h;
   read-tied = λ κs a r e h. h;
+  scan-tied = λ κs a r e h. h;
   write-tied = λ κs a r e h. h;
   sheet-tied = λ κs a r e h. h;
   clean-tied = λ κs a r e h. h;

@@ -24,6 +24,7 @@ use Rattle.house.specs.Answers.{HouseAnswer}
 use Rattle.panels.specs.Contract.{PanelsAnswer}
 use Rattle.panels.specs.declared.Answer.{Answer}
 use Rattle.reading.specs.Answer.{PanelRead}
+use Rattle.scanned.specs.Answer.{ScanRead}
 use Rattle.written.specs.Answer.{PanelWritten}
 use Rattle.cleanfile.specs.Cleaning.{PanelCleaned}
 use Rattle.sheet.specs.Sheet.{Printed}
@@ -112,6 +113,10 @@ panelsCall = lending (λ (g : Mesh × Bool) (before afterwards : Listed) (answer
 abbrev pub readCall : Call
 readCall = lending PanelRead
 
+-- `scanfile::read_scan`: likewise
+abbrev pub scanCall : Call
+scanCall = lending ScanRead
+
 -- `saving::write_panel`: a mesh is given, and the bytes of a file lent
 abbrev pub writeCall : Call
 writeCall = lending PanelWritten
@@ -139,6 +144,7 @@ calls =
     ∷ houseCall
     ∷ panelsCall
     ∷ readCall
+    ∷ scanCall
     ∷ writeCall
     ∷ cleanCall
     ∷ sheetCall

@@ -1,5 +1,5 @@
 -- The list of the calls is no retelling: each contract, as the source of its function has it, says what the list says. The kit hands
--- out a contract as `Post`: lifetimes, arguments, answer, arguments afterwards. A weaker `ensures` in any of the sixteen sources is
+-- out a contract as `Post`: lifetimes, arguments, answer, arguments afterwards. A weaker `ensures` in any of the seventeen sources is
 -- refused here. Assumes nothing.
 use Prim.Native.Nat.{ℕ}
 use mathlib.Core.Path.{_≡_}
@@ -14,7 +14,7 @@ use Rattle.removal.specs.Folded as removal
 use Rattle.smoothed.specs.Refusals as smoothed
 use Rattle.edges.specs.Answers.{HemLists, hemsIn}
 use Rattle.determined.specs.Determined.{Call, number, face, pushCall, compactionCall, removalCall, mergingCall, smoothingCall, verdictCall}
-use Rattle.determined.specs.Determined.{hemCall, portedCall, houseCall, panelsCall, readCall, writeCall, cleanCall, sheetCall}
+use Rattle.determined.specs.Determined.{hemCall, portedCall, houseCall, panelsCall, readCall, scanCall, writeCall, cleanCall, sheetCall}
 use Rattle.mesh.proofs.number.Reads as mesh-number
 use Rattle.mesh.proofs.face.Reads as mesh-face
 use Rattle.faces.proofs.push.Reads as push
@@ -28,6 +28,7 @@ use Rattle.ported.proofs.extract_boundaries.Reads as extract-boundaries
 use Rattle.house.proofs.house_wires.Reads as house-wires
 use Rattle.panels.proofs.components.Reads as components
 use Rattle.panelfile.proofs.read_panel.Reads as read-panel
+use Rattle.scanfile.proofs.read_scan.Reads as read-scan
 use Rattle.saving.proofs.write_panel.Reads as write-panel
 use Rattle.sheet.proofs.sheet.Reads as sheet
 use Rattle.cleanfile.proofs.clean.Reads as clean
@@ -87,7 +88,7 @@ abbrev pub OneResult :
 OneResult {K} {A} {R} {E} Post result =
     (κs : K) (a : A) (r q : R) (e f : E) → Post κs a r e → Post κs a q f → result r e ≡ result q f
 
--- the sixteen calls
+-- the seventeen calls
 pub record AllTied : Type 0 where
   pub number-tied : Tied mesh-number.Post number meshIn (λ r e. r)
   pub face-tied : Tied mesh-face.Post face (λ a. (meshIn a, rest a .0)) (λ r e. now r)
@@ -109,6 +110,7 @@ pub record AllTied : Type 0 where
   pub panels-tied :
       Tied components.Post panelsCall (λ a. ((meshIn a, rest a .0), listed (rest a .1))) (λ r e. (r, listed (rest e .1)))
   pub read-tied : Tied read-panel.Post readCall (λ a. (list a, meshIn (a .1))) (λ r e. (r, meshIn (e .1)))
+  pub scan-tied : Tied read-scan.Post scanCall (λ a. (list a, meshIn (a .1))) (λ r e. (r, meshIn (e .1)))
   pub write-tied : Tied write-panel.Post writeCall (λ a. (meshIn a, list (rest a))) (λ r e. (r, list (rest e)))
   pub sheet-tied : Tied sheet.Post sheetCall (λ a. (list a, list (a .1))) (λ r e. (r, list (e .1)))
   pub clean-tied : Tied clean.Post cleanCall (λ a. (list a, list (a .1))) (λ r e. (r, list (e .1)))

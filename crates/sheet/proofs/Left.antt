@@ -14,7 +14,7 @@ pub opened-kept :
     {file : List ℕ} {afterwards : Mesh} {r : MeshRead} → Opened file afterwards r
     → Cleaned file r (afterwards .corners) (afterwards .sizes)
 opened-kept {file} o = record {
-  number = o .number;
+  number-is = o .number;
   kept = λ z.
       let f = o .left z in
       record {

@@ -21,7 +21,7 @@ use Rattle.cleaning.specs.Cleaning.{cleaned}
 use Rattle.finding.specs.Found.{foundOf, foundIn}
 use Rattle.finding.specs.Working.{Findable}
 use Rattle.sheet.specs.Sheet.{printed, fileLimit, fileNumber, sheetOf, sheetNumber, Printed}
-use Rattle.sheet.specs.Working.{Kept, Cleaned}
+use Rattle.sheet.specs.Working.{Kept, Left}
 
 -- ---- the file's number, and its mesh after cleaning
 
@@ -54,30 +54,30 @@ findable m ok room =
       room = room;
     }
 
-module _ {file c s : List ℕ} {r : MeshRead} (left : Cleaned file r c s) where
-  pub refused-text : (r .number ≡ 0 → ⊥) → refusal (r .number) ≡ printed (readingNumber [] file) (panelMesh file)
-  refused-text h = ap refusal (left .number) ∙ printed-refused (readingNumber [] file) (panelMesh file) (λ z. h (left .number ∙ z))
+module _ {n : ℕ} {m : Mesh} {r : MeshRead} {c s : List ℕ} (left : Left n m r c s) where
+  pub refused-text : (r .number ≡ 0 → ⊥) → refusal (r .number) ≡ printed n m
+  refused-text h = ap refusal (left .number-is) ∙ printed-refused n m (λ z. h (left .number-is ∙ z))
 
   module _ (z : r .number ≡ 0) where
-    abbrev k : Kept (cleaned (panelMesh file)) r c s
+    abbrev k : Kept (cleaned m) r c s
     k = left .kept z
 
     pub corners-few : width * r .corners ≤ cornerNumbers
     corners-few =
-        omega (arith, k .corner-front .long, ap length (k .corner-front .is), accepted (cleaned (panelMesh file)) (k .accepted) .limits .corners)
+        omega (arith, k .corner-front .long, ap length (k .corner-front .is), accepted (cleaned m) (k .accepted) .limits .corners)
 
     pub kept-findable :
         {out : List ℕ} → sheetRoom ≤ length out
         → Findable (r .positions) (r .textures) (r .normals) (take (width * r .corners) c) (take (r .faces) s) out
-    kept-findable room = rw (k .positions, k .textures, k .normals, k .corner-front .is, k .size-front .is) (findable (cleaned (panelMesh file)) (k .accepted) room)
+    kept-findable room = rw (k .positions, k .textures, k .normals, k .corner-front .is, k .size-front .is) (findable (cleaned m) (k .accepted) room)
 
     pub kept-text :
         sheetText
         (foundOf (r .positions) (r .textures) (r .normals) (length (take (r .faces) s)) (rings (take (r .faces) s) (take (width * r .corners) c)))
-        ≡ printed (readingNumber [] file) (panelMesh file)
+        ≡ printed n m
     kept-text =
         rw (k .positions, k .textures, k .normals, k .corner-front .is, k .size-front .is)
-        (ap sheetText (found-by (cleaned (panelMesh file))) ∙ printed-done _ (panelMesh file) (sym (left .number) ∙ z))
+        (ap sheetText (found-by (cleaned m)) ∙ printed-done _ m (sym (left .number-is) ∙ z))
 
 -- ---- the ways out of the call
 

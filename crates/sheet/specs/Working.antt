@@ -25,7 +25,11 @@ pub record Kept (m : Mesh) (r : MeshRead) (corners sizes : List ℕ) : Type 0 wh
   pub corner-front : Front corners (m .corners) (width * r .corners)
   pub size-front : Front sizes (m .sizes) (r .faces)
 
--- the file's number and, where that is 0, its mesh after cleaning
-pub record Cleaned (file : List ℕ) (r : MeshRead) (corners sizes : List ℕ) : Type 0 where
-  pub number : r .number ≡ readingNumber [] file
-  pub kept : r .number ≡ 0 → Kept (cleaned (panelMesh file)) r corners sizes
+-- a number and, where that is 0, a mesh after cleaning
+pub record Left (number : ℕ) (m : Mesh) (r : MeshRead) (corners sizes : List ℕ) : Type 0 where
+  pub number-is : r .number ≡ number
+  pub kept : r .number ≡ 0 → Kept (cleaned m) r corners sizes
+
+-- those of a file
+abbrev pub Cleaned : List ℕ → MeshRead → List ℕ → List ℕ → Type 0
+Cleaned file r corners sizes = Left (readingNumber [] file) (panelMesh file) r corners sizes

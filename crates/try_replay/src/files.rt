@@ -1,6 +1,6 @@
-// Cases of the calls on panel files: the reader and the cleaner. The room for the file is made in a function of its own.
+// Cases of the calls on files: the readers of panel files and of scans, and the cleaner. The room for the file is made in a function of its own.
 //
-// `list` is the list of answers, `at` where the case's own words begin, `subject` where the words of its panel file do.
+// `list` is the list of answers, `at` where the case's own words begin, `subject` where the words of its file do.
 use crate::bytes;
 use crate::cases::Outcome;
 use crate::list;
@@ -14,7 +14,7 @@ pub const CLEANING: u32 = 15;
 // More than any file of the list has bytes, and than any room for one.
 pub const BYTES: usize = 262144;
 
-// The reader and the cleaner: any other kind than the first is the cleaner.
+// The cleaner and the readers: any other kind than the cleaner's is one of theirs.
 pub(crate) fn ask(list: &[u8], subject: usize, kind: u32, at: usize) -> Outcome {
     let mut all = [0u8; BYTES];
     ask_in(list, subject, kind, at, &mut all)
@@ -31,10 +31,10 @@ fn ask_in(list: &[u8], subject: usize, kind: u32, at: usize, all: &mut [u8]) -> 
 }
 
 fn ask_of(list: &[u8], kind: u32, at: usize, file: &[u8]) -> Outcome {
-    if kind == READING {
-        return reader::read_panel(list, at, file);
+    if kind == CLEANING {
+        return bytes::clean_panel(list, at, file);
     }
-    bytes::clean_panel(list, at, file)
+    reader::ask(list, kind, at, file)
 }
 
 // ---- the file: some bytes, several times over, and then others

@@ -24,7 +24,7 @@ use cases::About;
 use cases::Outcome;
 
 fn main() {
-    let mut all = [0u8; 1048576];
+    let mut all = [0u8; 2097152];
     run(&mut all);
 }
 
@@ -62,7 +62,7 @@ fn replay(list: &[u8], counts: &mut [u32]) -> bool {
     list.len() % 4 == 0
 }
 
-// One record: a mesh, a panel file or cosines, which the cases after it are about, or a case. Answers what the next record is about.
+// One record: a mesh, a file or cosines, which the cases after it are about, or a case. Answers what the next record is about.
 fn record(list: &[u8], at: usize, next: usize, about: About, counts: &mut [u32]) -> About {
     let kind = list::word(list, list::plus(at, 1));
     let place = list::plus(at, 2);

@@ -6,9 +6,10 @@ use crate::cases::About;
 use crate::cases::Outcome;
 use crate::files;
 use crate::list;
+use crate::reader;
 use crate::surfaces;
 
-// The kind of a record that holds a mesh, and of one that holds a panel file. The modules that ask the calls have the kinds of theirs.
+// The kind of a record that holds a mesh, and of one that holds a panel file or a scan. The modules that ask the calls have the kinds of theirs.
 pub const MESH: u32 = 0;
 
 pub const FILE: u32 = 12;
@@ -34,9 +35,12 @@ pub(crate) fn ask(list: &[u8], about: About, kind: u32, at: usize) -> Outcome {
     read_positions(list, about.subject, case)
 }
 
-// Whether a call reads a panel file in the place of a mesh.
+// Whether a call reads a file in the place of a mesh.
 fn is_of_files(kind: u32) -> bool {
     if kind == files::READING {
+        return true;
+    }
+    if kind == reader::SCANNING {
         return true;
     }
     kind == files::CLEANING

@@ -1,22 +1,27 @@
-// Cases of the reader of panel files. It lends the five lists of a mesh.
+// Cases of the two calls that read a file into the five lists of a mesh, which they are lent: the reader of panel files and that of scans.
 use crate::cases;
 use crate::cases::Outcome;
 use crate::cases::Said;
 use crate::lent;
+use reading::MeshRead;
+
+// The kind of the records of the reader of scans.
+pub const SCANNING: u32 = 18;
 
 // The stated rooms: the full limits. No room of the list is larger.
 const FLOATS: usize = 6144;
 
 const CORNERS: usize = 12288;
 
-pub(crate) fn read_panel(list: &[u8], at: usize, file: &[u8]) -> Outcome {
+pub(crate) fn ask(list: &[u8], kind: u32, at: usize, file: &[u8]) -> Outcome {
     let room = lent::rooms_of_reading(list, at);
     let mut p = [0.0; FLOATS];
     let mut t = [0.0; FLOATS];
     let mut n = [0.0; FLOATS];
     let mut c = [0u32; CORNERS];
     let mut s = [0u32; CORNERS];
-    let r = panelfile::read_panel(
+    let r = read(
+        kind,
         file,
         lent::lend_floats(&mut p, room.first),
         lent::lend_floats(&mut t, room.second),
@@ -37,4 +42,20 @@ pub(crate) fn read_panel(list: &[u8], at: usize, file: &[u8]) -> Outcome {
     let with_n = lent::hold_floats(with_t, &n, list);
     let with_c = lent::hold(with_n, &c, list);
     lent::hold(with_c, &s, list)
+}
+
+// The call itself: any other kind than that of scans is the reader of panel files.
+fn read(
+    kind: u32,
+    file: &[u8],
+    positions: &mut [f64],
+    textures: &mut [f64],
+    normals: &mut [f64],
+    corners: &mut [u32],
+    sizes: &mut [u32],
+) -> MeshRead {
+    if kind == SCANNING {
+        return scanfile::read_scan(file, positions, textures, normals, corners, sizes);
+    }
+    panelfile::read_panel(file, positions, textures, normals, corners, sizes)
 }

@@ -1,6 +1,7 @@
 //! The untouched Rust: its own functions on its own mesh, which is made beforehand. Where a function changes its mesh, a copy is
 //! made for each run; neither that nor the disposal of what comes back is timed.
 
+use crate::scan;
 use crate::shapes::Case;
 use crate::time::fastest;
 use judge::rust::into_rust;
@@ -42,7 +43,8 @@ pub fn time(call: Call, case: &Case) -> Option<Duration> {
         Call::LoopSubdivision => changed(&|mesh| {
             mesh.loop_subdivision();
         }),
-        Call::Face | Call::ReadPanel | Call::WritePanel | Call::CleanPanel | Call::Sheet => return None,
+        Call::ReadScan => scan::time(case),
+        Call::Face | Call::ReadPanel | Call::WritePanel | Call::CleanPanel | Call::Sheet | Call::ScanSheet => return None,
     })
 }
 

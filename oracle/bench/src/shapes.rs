@@ -2,6 +2,7 @@
 
 use comparer::Random;
 use judge::mesh::Corner;
+use judge::reading::numbers::ATTRIBUTES;
 use judge::{Mesh, MISSING};
 
 /// A mesh, and the tolerance that it is merged with.
@@ -33,6 +34,26 @@ pub fn of_triangles(triangles: usize) -> Vec<Case> {
         case("sheet of triangles", triangle_sheet(triangles)),
         case("triangles apart", mesh((0..3 * triangles).map(|i| circle(i, 3 * triangles, 0.5)).collect(), apart)),
     ]
+}
+
+/// What a scan is made of, each of so many triangles: a tube, whose points stand in six triangles each; as many different points as a mesh may have,
+/// anywhere, in any order; and eight points.
+pub fn scanned(triangles: usize) -> Vec<Case> {
+    let case = |name, mesh| Case { name, mesh, tolerance: 1.0 };
+    vec![
+        case("tube of triangles", triangle_tube(triangles)),
+        case("spread points", anywhere(triangles, (3 * triangles).min(ATTRIBUTES))),
+        case("eight points", anywhere(triangles, 8)),
+    ]
+}
+
+/// Triangles over so many points anywhere, each used about as often as the next, in any order.
+fn anywhere(triangles: usize, points: usize) -> Mesh {
+    let random = Random::of(2, triangles as u64);
+    let mut corners: Vec<u32> = (0..3 * triangles).map(|i| (i % points) as u32).collect();
+    random.shuffle(&mut corners);
+    let places = (0..points).map(|_| [random.unit(), random.unit(), random.unit()]).collect();
+    mesh(places, corners.chunks(3).map(|three| three.to_vec()).collect())
 }
 
 /// Points on a grid whose cells are far apart, half as many as there are corners in each list.

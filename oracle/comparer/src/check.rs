@@ -57,13 +57,14 @@ pub fn rust_differs(call: Call, question: &Question, right: &Answer) -> Option<S
         .find_map(|(name, other)| between(right, &other).map(|difference| format!("{name} and document 01 differ: {difference}")))
 }
 
-/// Whether the Rust can be asked: it knows no refusal but an index out of range, has no house wires and no panel files, and smooths by its own
+/// Whether the Rust can be asked: it knows no refusal but an index out of range, has no house wires, no panel files and no scans, and smooths by its own
 /// cosines alone.
 pub fn rust_knows(call: Call, question: &Question, right: &Answer) -> bool {
     match call {
         Call::MeshNumber => [0, 5].contains(&right.number),
         Call::Face => reading::numbers::mesh_number(&question.mesh) == 0,
         Call::HouseWires | Call::ReadPanel | Call::WritePanel | Call::CleanPanel | Call::Sheet => false,
+        Call::ReadScan | Call::ScanSheet => false,
         Call::LoopSubdivision => right.number == 0 && rust::has_its_cosines(question),
         _ => right.number == 0,
     }

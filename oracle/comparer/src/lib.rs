@@ -1,9 +1,9 @@
 //! The comparer: the product's C interface against the judge, mesh by mesh.
 //!
 //! `library` asks the product, with lent lists that are filled with a pattern (`lent`); `check` holds what came back to the judge's
-//! answer. `meshes`, `shapes`, `pinched`, `round`, `surfaces`, `coordinates`, `damage`, `files` and `faults` make what is asked. A difference is made small by
+//! answer. `meshes`, `shapes`, `pinched`, `round`, `surfaces`, `coordinates`, `damage`, `files`, `faults` and `scans` make what is asked. A difference is made small by
 //! `shrink` and printed by `show`. What was written is read back by `round_trip`. `slips`, `wrong`, `wrong_broken` (over `one_by_one`), `wrong_files`,
-//! `wrong_house`, `wrong_large`, `wrong_merging`, `wrong_removal` and `wrong_smoothing` (over `wrong_points`) show that the comparer can fail. What is public
+//! `wrong_house`, `wrong_large`, `wrong_merging`, `wrong_removal`, `wrong_scans` (over `wrong_scan`) and `wrong_smoothing` (over `wrong_points`) show that the comparer can fail. What is public
 //! serves the lister too.
 
 pub mod check;
@@ -21,6 +21,7 @@ pub mod random;
 mod round;
 mod round_trip;
 mod run;
+pub mod scans;
 mod shapes;
 mod show;
 mod shrink;
@@ -39,6 +40,8 @@ mod wrong_large;
 mod wrong_merging;
 mod wrong_points;
 mod wrong_removal;
+mod wrong_scan;
+mod wrong_scans;
 mod wrong_smoothing;
 
 pub use library::{Asked, Library, Product, Watch};

@@ -16,6 +16,32 @@ macro_rules! on_mesh {
     };
 }
 
+/// A function that reads a file, a panel file or a scan, into the five lists of a mesh.
+pub type Reader = Option<
+    unsafe extern "C" fn(
+        *const u8,
+        usize,
+        *mut f64,
+        usize,
+        *mut f64,
+        usize,
+        *mut f64,
+        usize,
+        *mut u32,
+        usize,
+        *mut u32,
+        usize,
+        *mut u64,
+        *mut u64,
+        *mut u64,
+        *mut u64,
+        *mut u64,
+    ) -> u32,
+>;
+
+/// One that makes of a file another, or a sheet.
+pub type Writer = Option<unsafe extern "C" fn(*const u8, usize, *mut u8, usize, *mut u64) -> u32>;
+
 /// Where each function of the product is; none where the library does not have it yet.
 #[repr(C)]
 #[derive(Clone, Copy)]
@@ -31,35 +57,17 @@ pub struct Library {
     pub extract_boundaries: on_mesh!(*mut u32, usize, *mut u32, usize, *mut u64, *mut u64 => u32),
     pub house_wires: on_mesh!(*mut u32, usize, *mut u32, usize, *mut u64, *mut u64 => u32),
     pub components: on_mesh!(bool, *mut u32, usize, *mut u32, usize, *mut u64, *mut u64 => u32),
-    pub read_panel: Option<
-        unsafe extern "C" fn(
-            *const u8,
-            usize,
-            *mut f64,
-            usize,
-            *mut f64,
-            usize,
-            *mut f64,
-            usize,
-            *mut u32,
-            usize,
-            *mut u32,
-            usize,
-            *mut u64,
-            *mut u64,
-            *mut u64,
-            *mut u64,
-            *mut u64,
-        ) -> u32,
-    >,
+    pub read_panel: Reader,
     pub write_panel: on_mesh!(*mut u8, usize, *mut u64 => u32),
-    pub clean_panel: Option<unsafe extern "C" fn(*const u8, usize, *mut u8, usize, *mut u64) -> u32>,
-    pub sheet: Option<unsafe extern "C" fn(*const u8, usize, *mut u8, usize, *mut u64) -> u32>,
+    pub clean_panel: Writer,
+    pub sheet: Writer,
     pub push: Option<
         unsafe extern "C" fn(*const u32, usize, *const u32, usize, *mut u32, usize, *mut u32, usize, *mut u64, *mut u64) -> u32,
     >,
     pub loop_subdivision: on_mesh!(
         *const f64, usize, *const f64, usize, *mut f64, usize, *mut u32, usize, *mut u32, usize, *mut u64, *mut u64, *mut u64 => u32),
+    pub read_scan: Reader,
+    pub scan_sheet: Writer,
 }
 
 /// What came back from the product.
@@ -142,6 +150,8 @@ impl Product for Library {
             Call::Sheet => self.sheet.is_some(),
             Call::Push => self.push.is_some(),
             Call::LoopSubdivision => self.loop_subdivision.is_some(),
+            Call::ReadScan => self.read_scan.is_some(),
+            Call::ScanSheet => self.scan_sheet.is_some(),
         }
     }
 
@@ -289,24 +299,36 @@ impl Library {
                     counts.add(2)
                 );
             }
-            Call::ReadPanel | Call::CleanPanel | Call::Sheet => unreachable!(),
+            Call::ReadPanel | Call::CleanPanel | Call::Sheet | Call::ReadScan | Call::ScanSheet => unreachable!(),
+        }
+    }
+
+    /// The function of a call that makes bytes of a file's.
+    fn writer(&self, call: Call) -> Writer {
+        match call {
+            Call::Sheet => self.sheet,
+            Call::ScanSheet => self.scan_sheet,
+            _ => self.clean_panel,
         }
     }
 
     unsafe fn ask_of_file(&self, call: Call, file: &[u8], asked: &mut Asked) {
         let counts = asked.counts.as_mut_ptr();
-        if call != Call::ReadPanel {
-            let function = if call == Call::Sheet { self.sheet } else { self.clean_panel };
-            let (made, room) = asked.lists[0].bytes();
-            asked.number = function.unwrap()(file.as_ptr(), file.len(), made, room, counts);
-            return;
-        }
+        let reader = match call {
+            Call::ReadPanel => self.read_panel.unwrap(),
+            Call::ReadScan => self.read_scan.unwrap(),
+            _ => {
+                let (made, room) = asked.lists[0].bytes();
+                asked.number = self.writer(call).unwrap()(file.as_ptr(), file.len(), made, room, counts);
+                return;
+            }
+        };
         let (positions, positions_room) = asked.lists[0].floats();
         let (textures, textures_room) = asked.lists[1].floats();
         let (normals, normals_room) = asked.lists[2].floats();
         let (corners, corners_room) = asked.lists[3].words();
         let (sizes, sizes_room) = asked.lists[4].words();
-        asked.number = self.read_panel.unwrap()(
+        asked.number = reader(
             file.as_ptr(),
             file.len(),
             positions,

@@ -1,6 +1,6 @@
 //! The words after `./compare`.
 
-use judge::Call;
+use judge::{About, Call};
 use std::time::{SystemTime, UNIX_EPOCH};
 
 pub const USAGE: &str = include_str!("../usage.txt");
@@ -10,7 +10,7 @@ pub struct Options {
     pub seed: u64,
     pub only: Option<Call>,
     pub at: Option<u64>,
-    pub files: bool,
+    pub about: About,
     pub self_test: bool,
     pub random_only: bool,
     pub reading: bool,
@@ -24,7 +24,7 @@ impl Options {
             seed: now % 1_000_000_000,
             only: None,
             at: None,
-            files: false,
+            about: About::Mesh,
             self_test: false,
             random_only: false,
             reading: false,
@@ -35,8 +35,8 @@ impl Options {
                 "--seed" => options.seed = number(&word, words.next())?,
                 "--at" => options.at = Some(number(&word, words.next())?),
                 "--only" => options.only = Some(call(words.next())?),
-                "--files" => {
-                    options.files = true;
+                "--files" | "--scans" => {
+                    options.about = if word == "--files" { About::PanelFile } else { About::Scan };
                     options.count = number(&word, words.next())?;
                 }
                 "--self-test" => options.self_test = true,

@@ -6,9 +6,9 @@ use crate::meshes::{self, Case};
 use crate::options::{Options, USAGE};
 use crate::random::Random;
 use crate::tally::{grouped, Tally};
-use crate::{damage, files, show, shrink, slips, surfaces};
+use crate::{damage, files, scans, show, shrink, slips, surfaces};
 use judge::reading::numbers::stated_rooms;
-use judge::{Call, Question};
+use judge::{About, Call, Question};
 use std::ffi::CString;
 
 /// Runs as the words say. Without a library document 01's reading stands in its place. 0: no difference; 1: a difference, or a slip
@@ -42,7 +42,11 @@ pub fn run(library: Option<&Library>, watch: Watch, words: Vec<String>) -> i32 {
             return 1;
         }
     }
-    let what = if options.files { "files" } else { "meshes" };
+    let what = match options.about {
+        About::Mesh => "meshes",
+        About::PanelFile => "files",
+        About::Scan => "scans",
+    };
     tally.print();
     println!("{} {what}, {} questions, no difference", grouped(indices(&options).count() as u64), grouped(tally.questions()));
     0
@@ -50,7 +54,7 @@ pub fn run(library: Option<&Library>, watch: Watch, words: Vec<String>) -> i32 {
 
 /// The calls that are compared; what the library lacks is named.
 fn calls(product: &dyn Product, options: &Options) -> Vec<Call> {
-    let wanted = |call: &Call| options.self_test || call.reads_a_file() == options.files;
+    let wanted = |call: &Call| options.self_test || call.about() == options.about;
     let chosen = |call: &Call| options.only.map_or(wanted(call), |only| only == *call);
     let (there, absent): (Vec<Call>, Vec<Call>) = Call::ALL.into_iter().filter(chosen).partition(|call| product.has(*call));
     if !absent.is_empty() {
@@ -60,9 +64,9 @@ fn calls(product: &dyn Product, options: &Options) -> Vec<Call> {
     there
 }
 
-/// The indices of the meshes or files of a run. The meshes that are gone through one by one come first.
+/// The indices of the meshes, files or scans of a run. The meshes that are gone through one by one come first.
 fn indices(options: &Options) -> std::ops::Range<u64> {
-    let small = if options.files { 0 } else { meshes::exhaustive_count() };
+    let small = if options.about == About::Mesh { meshes::exhaustive_count() } else { 0 };
     let from = if options.random_only { small } else { 0 };
     options.at.map_or(from..small + options.count, |at| at..at + 1)
 }
@@ -75,7 +79,7 @@ fn tell_progress(index: u64, all: &std::ops::Range<u64>) {
     }
 }
 
-/// Puts one mesh or one file to all calls.
+/// Puts one mesh, one file or one scan to all calls.
 fn one(
     product: &dyn Product,
     watch: Watch,
@@ -85,7 +89,7 @@ fn one(
     tally: &mut Tally,
 ) -> Result<(), String> {
     let random = Random::of(options.seed, index);
-    let mut subject = Subject::of(&random, options.files, index);
+    let mut subject = Subject::of(&random, options.about, index);
     for call in calls {
         if let Some(question) = subject.question(&random, *call) {
             tell(watch, *call, index);
@@ -99,7 +103,7 @@ fn one(
     Ok(())
 }
 
-/// What is asked about: a mesh, or a file.
+/// What is asked about: a mesh, or a file, or a scan.
 pub struct Subject {
     question: Question,
     /// The same with its faces in any order, for `push`.
@@ -110,12 +114,13 @@ pub struct Subject {
 }
 
 impl Subject {
-    /// The mesh, or the file, with this index.
-    pub fn of(random: &Random, is_file: bool, index: u64) -> Subject {
-        if is_file {
-            let file = match random.below(20) {
-                0..=3 => files::with_touching_hems(random),
-                4..=6 => files::with_large_faces(random),
+    /// The mesh, or the file, or the scan, with this index.
+    pub fn of(random: &Random, about: About, index: u64) -> Subject {
+        if about != About::Mesh {
+            let file = match (about, random.below(20)) {
+                (About::Scan, _) => scans::random(random),
+                (_, 0..=3) => files::with_touching_hems(random),
+                (_, 4..=6) => files::with_large_faces(random),
                 _ => files::random(random),
             };
             let question = Question { file, ..Question::default() };

@@ -2,8 +2,9 @@
 
 use judge::mesh::Corner;
 use judge::reading::numbers::{mesh_number, stated_rooms};
+use judge::reading::scan::{FRONT, HEADER, TRIANGLE};
 use judge::rust::{self, has_its_cosines};
-use judge::{Call, Mesh, Question, MISSING};
+use judge::{About, Call, Mesh, Question, MISSING};
 use std::ops::Range;
 
 /// How many smaller questions are tried.
@@ -23,7 +24,12 @@ pub fn shrink(call: Call, question: &Question, differs: &dyn Fn(&Question) -> bo
     loop {
         let found = shrinker.found;
         if call.reads_a_file() {
-            shrinker.file();
+            if call.about() == About::Scan {
+                shrinker.triangles();
+            } else {
+                shrinker.records();
+            }
+            shrinker.bytes();
         } else {
             shrinker.faces();
             shrinker.corners();
@@ -78,8 +84,23 @@ impl Shrinker<'_> {
         }
     }
 
-    /// Leaves out records, then bytes, then makes bytes 0.
-    fn file(&mut self) {
+    /// Leaves out triangles of a scan, and as many from its count.
+    fn triangles(&mut self) {
+        self.leave_out(
+            |question| question.file.len().saturating_sub(FRONT) / TRIANGLE,
+            |shrinker, range| {
+                let mut file = shrinker.best.file.clone();
+                let count = u32::from_le_bytes(file[HEADER..FRONT].try_into().unwrap());
+                file[HEADER..FRONT].copy_from_slice(&count.saturating_sub(range.len() as u32).to_le_bytes());
+                file.drain(FRONT + TRIANGLE * range.start..FRONT + TRIANGLE * range.end);
+                let candidate = Question { file, ..shrinker.best.clone() };
+                shrinker.attempt(candidate)
+            },
+        );
+    }
+
+    /// Leaves out records of a panel file.
+    fn records(&mut self) {
         self.leave_out(
             |question| records(&question.file).len(),
             |shrinker, range| {
@@ -89,6 +110,10 @@ impl Shrinker<'_> {
                 shrinker.attempt(candidate)
             },
         );
+    }
+
+    /// Leaves out bytes, then makes bytes 0.
+    fn bytes(&mut self) {
         self.leave_out(
             |question| question.file.len(),
             |shrinker, range| {

@@ -104,7 +104,7 @@ fn report(call: Call, name: &str, found: Option<u64>) -> i32 {
 fn found(product: &dyn Product, call: Call, seed: u64, slip: Option<Slip>, patience: u64) -> Option<u64> {
     (1..=patience).find(|count| {
         let random = Random::of(seed, *count);
-        let mut subject = Subject::of(&random, call.reads_a_file(), meshes::exhaustive_count() + count);
+        let mut subject = Subject::of(&random, call.about(), meshes::exhaustive_count() + count);
         let question = subject.question(&random, call);
         question.map_or(false, |question| compare(product, call, question, slip).difference.is_some())
     })

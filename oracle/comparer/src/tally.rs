@@ -98,6 +98,8 @@ fn shows(call: Call) -> Option<&'static str> {
         Call::Components => Some("several panels"),
         Call::WritePanel => Some("read back, and written again"),
         Call::CleanPanel => Some("another file than it was"),
+        Call::ReadScan => Some("with points that became one position"),
+        Call::ScanSheet => Some("a sheet, and no refusal"),
         Call::HouseWires | Call::LoopSubdivision => Some("with a position that has four hem edges or more"),
         _ => None,
     }
@@ -112,6 +114,8 @@ fn is_telling(call: Call, question: &Question, compared: &Compared) -> bool {
         Call::WritePanel => compared.with_way_back,
         Call::CleanPanel => matches!(&compared.right.lists[0], Numbers::Bytes(file) if *file != question.file),
         Call::HouseWires | Call::LoopSubdivision => is_pinched(&question.mesh),
+        Call::ReadScan => count(compared, 0) < count(compared, 3),
+        Call::ScanSheet => matches!(&compared.right.lists[0], Numbers::Bytes(text) if text.starts_with(b"mesh")),
         _ => false,
     }
 }

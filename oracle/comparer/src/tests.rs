@@ -7,7 +7,7 @@ use crate::random::Random;
 use crate::run::{run, Subject};
 use crate::shrink::shrink;
 use crate::wrong::answers;
-use crate::{surfaces, wrong_points, wrong_smoothing};
+use crate::{scans, surfaces, wrong_points, wrong_scan, wrong_smoothing};
 use judge::reading::numbers::mesh_number;
 use judge::{reading, rust, Answer, Call, Mesh, Numbers, Question};
 use std::collections::{BTreeMap, BTreeSet};
@@ -24,6 +24,11 @@ fn the_rust_is_document_01_on_some_meshes() {
 #[test]
 fn files_are_compared() {
     assert_eq!(run(None, None, words("--files 200 --seed 1")), 0)
+}
+
+#[test]
+fn scans_are_compared() {
+    assert_eq!(run(None, None, words("--scans 400 --seed 1")), 0)
 }
 
 #[test]
@@ -59,7 +64,7 @@ fn smallest(call: Call, name: &'static str) -> Question {
     let differs = |question: &Question| compare(&product, call, question, None).difference.is_some();
     let first = (0..5_000).find_map(|i| {
         let random = Random::of(7, i);
-        let mut subject = Subject::of(&random, call.reads_a_file(), meshes::exhaustive_count() + i);
+        let mut subject = Subject::of(&random, call.about(), meshes::exhaustive_count() + i);
         subject.question(&random, call).filter(|question| differs(question)).cloned()
     });
     shrink(call, &first.unwrap(), &differs)
@@ -105,6 +110,8 @@ fn differences_become_small() {
     assert!(touching.mesh.corner_count() <= 6, "{:?}", touching);
     let after_the_end = smallest(Call::ReadPanel, "an index asked before bytes after the end");
     assert!(after_the_end.file.len() <= 4 + 1 + 36 + 4 + 1);
+    let minus_zero = smallest(Call::ReadScan, "a negative zero kept apart");
+    assert_eq!(minus_zero.file.len(), 84 + 50);
     let wraps = smallest(Call::MeshNumber, "sizes added in 32 bits");
     assert!(wraps.mesh.positions.is_empty() && wraps.mesh.sizes.len() <= 2, "{:?}", wraps);
 }
@@ -159,6 +166,15 @@ fn the_order_of_maps_changes_where_wires_begin_but_not_their_steps() {
         }
     }
     assert!(another_order > 0);
+}
+
+#[test]
+fn what_the_misreadings_of_scans_share_is_right() {
+    let show = |read: Result<Mesh, u32>| format!("{read:?}");
+    for i in 0..4_000 {
+        let file = scans::random(&Random::of(8, i));
+        assert_eq!(show(wrong_scan::read(&file, wrong_scan::Misread::None)), show(reading::scan::read(&file)));
+    }
 }
 
 /// Questions to smoothing that are accepted, and their answers.

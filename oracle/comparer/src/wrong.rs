@@ -1,7 +1,7 @@
 //! Wrong answers that look right: what a product with one misreading of document 01 would say.
 
 use crate::wrong_merging::{merging, Misread};
-use crate::{wrong_broken, wrong_files, wrong_house, wrong_large, wrong_removal, wrong_smoothing};
+use crate::{wrong_broken, wrong_files, wrong_house, wrong_large, wrong_removal, wrong_scans, wrong_smoothing};
 use judge::mesh::{Corner, Merged, Pushed, Verdict};
 use judge::reading::merging::put_together_same_attrs;
 use judge::reading::{cleaning, edges, numbers, panel_file, panels};
@@ -62,7 +62,12 @@ fn of_its_own(call: Call) -> &'static [(&'static str, Wrong)] {
         }
         Call::WritePanel => wrong_files::WRITER,
         Call::CleanPanel => wrong_files::CLEANER,
-        Call::Sheet => &[("panels by normals", panels_by_normals), ("hems by the smallest end", hems_by_the_smallest_end)],
+        Call::Sheet => &[
+            ("panels by normals", panels_by_normals),
+            ("hems by the smallest end", |q, right| hems_by_the_smallest_end(panel_file::read(&q.file).ok()?, right)),
+        ],
+        Call::ReadScan => wrong_scans::READER,
+        Call::ScanSheet => wrong_scans::SHEET,
         Call::LoopSubdivision => wrong_smoothing::SMOOTHING,
         Call::Push => &[
             ("quadrangles among the larger faces", |q, right| accepted(right, || pushed_by(q, |n| (n >= 3).then(|| n.min(4))))),
@@ -323,11 +328,11 @@ fn text(right: &Answer) -> String {
     }
 }
 
-/// The lines of the hems by the rule that request 5 took back.
-fn hems_by_the_smallest_end(question: &Question, right: &Answer) -> Option<Answer> {
+/// The lines of the hems of what was read, by the rule that request 5 took back.
+pub fn hems_by_the_smallest_end(read: Mesh, right: &Answer) -> Option<Answer> {
     let text = text(right);
     let at = text.find("hem ").filter(|_| right.number == 0)?;
-    let wires = wrong_house::smallest_end(&cleaning::cleaned(panel_file::read(&question.file).ok()?));
+    let wires = wrong_house::smallest_end(&cleaning::cleaned(read));
     let line = |wire: &Vec<u32>| format!("hem{}\n", wire.iter().map(|position| format!(" {position}")).collect::<String>());
     Some(Answer::sheet(text[..at].to_string() + &wires.iter().map(line).collect::<String>()))
 }

@@ -21,11 +21,13 @@ pub enum Call {
     Sheet,
     Push,
     LoopSubdivision,
+    ReadScan,
+    ScanSheet,
 }
 
 impl Call {
     /// In the order in which they came to be compared.
-    pub const ALL: [Call; 16] = [
+    pub const ALL: [Call; 18] = [
         Call::MeshNumber,
         Call::Face,
         Call::RemoveUnusedAttrs,
@@ -42,6 +44,8 @@ impl Call {
         Call::Sheet,
         Call::Push,
         Call::LoopSubdivision,
+        Call::ReadScan,
+        Call::ScanSheet,
     ];
 
     /// The name in the C interface, without its prefix.
@@ -63,17 +67,35 @@ impl Call {
             Call::Sheet => "sheet",
             Call::Push => "push",
             Call::LoopSubdivision => "loop_subdivision",
+            Call::ReadScan => "read_scan",
+            Call::ScanSheet => "scan_sheet",
         }
     }
 
-    /// Whether the call reads a panel file in the place of a mesh.
+    pub fn about(self) -> About {
+        match self {
+            Call::ReadPanel | Call::CleanPanel | Call::Sheet => About::PanelFile,
+            Call::ReadScan | Call::ScanSheet => About::Scan,
+            _ => About::Mesh,
+        }
+    }
+
+    /// Whether the call reads a file in the place of a mesh.
     pub fn reads_a_file(self) -> bool {
-        matches!(self, Call::ReadPanel | Call::CleanPanel | Call::Sheet)
+        self.about() != About::Mesh
     }
 }
 
+/// What a call is asked about.
+#[derive(Clone, Copy, Debug, PartialEq, Eq)]
+pub enum About {
+    Mesh,
+    PanelFile,
+    Scan,
+}
+
 /// All that a call can be given. A call looks at its own part: `face`, `tolerance`, `use_normal` and the cosines belong to one call each, `file` to
-/// the three that read a panel file, of the mesh only the faces to `push`, `rooms` holds the length of each lent result list, in the order of the C interface.
+/// those that read a panel file or a scan, of the mesh only the faces to `push`, `rooms` holds the length of each lent result list, in the order of the C interface.
 #[derive(Clone, Debug, Default)]
 pub struct Question {
     pub mesh: Mesh,
@@ -129,8 +151,8 @@ impl Answer {
             Call::ShellCondition => return Answer { number, lists: vec![], counts: vec![Count::Untouched] },
             Call::HemEdges => (vec![words(), words()], 1),
             Call::Push | Call::ExtractBoundaries | Call::HouseWires | Call::Components => (vec![words(), words()], 2),
-            Call::ReadPanel => (vec![floats(), floats(), floats(), words(), words()], 5),
-            Call::WritePanel | Call::CleanPanel | Call::Sheet => (vec![Bytes(vec![])], 1),
+            Call::ReadPanel | Call::ReadScan => (vec![floats(), floats(), floats(), words(), words()], 5),
+            Call::WritePanel | Call::CleanPanel | Call::Sheet | Call::ScanSheet => (vec![Bytes(vec![])], 1),
             Call::LoopSubdivision => (vec![floats(), words(), words()], 3),
         };
         Answer { number, lists, counts: vec![Count::Is(0); counts] }

@@ -8,5 +8,5 @@ pub mod mesh;
 pub mod reading;
 pub mod rust;
 
-pub use calls::{Answer, Call, Count, Numbers, Question};
+pub use calls::{About, Answer, Call, Count, Numbers, Question};
 pub use mesh::{Mesh, Verdict, MISSING};

@@ -96,5 +96,6 @@ fn answered(call: Call, question: &Question) -> Option<Answer> {
         }
         Call::LoopSubdivision => Answer::smoothed(loop_subdivision(mesh)),
         Call::HouseWires | Call::ReadPanel | Call::WritePanel | Call::CleanPanel | Call::Sheet => return None,
+        Call::ReadScan | Call::ScanSheet => return None,
     })
 }

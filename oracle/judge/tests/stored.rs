@@ -2,7 +2,7 @@
 
 use judge::mesh::Mesh;
 use judge::reading::smoothing::{self, Cosines};
-use judge::reading::{panel_file, sheet, writing};
+use judge::reading::{panel_file, scan, sheet, writing};
 use std::collections::BTreeMap;
 use std::fs::{read, read_to_string};
 use std::path::{Path, PathBuf};
@@ -58,6 +58,16 @@ fn sheets_prints_each_sheet() {
     assert_eq!(sheets, stored("try_sheets"));
 }
 
+/// With SCAN_SHEETS the stored output is made.
+#[test]
+fn scans_prints_each_sheet() {
+    let sheets: String = files("try_scans").iter().map(|(name, file)| format!("== {name}\n{}", scan::sheet(file))).collect();
+    if std::env::var_os("SCAN_SHEETS").is_some() {
+        std::fs::write(root().join("crates/try_scans/stdout"), &sheets).unwrap();
+    }
+    assert_eq!(sheets, stored("try_scans"));
+}
+
 #[test]
 fn damaged_counts_each_number() {
     let counted: String = files("try_damaged")
@@ -72,12 +82,26 @@ fn of(cover: &Path, ending: &str) -> PathBuf {
     PathBuf::from(format!("{}.{ending}", cover.display()))
 }
 
-/// The covers of examples/, each without its ending.
-fn covers() -> Vec<PathBuf> {
+/// What of examples/ has a sheet, and beside it a file of this kind, each without its ending.
+fn with_sheets(ending: &str) -> Vec<PathBuf> {
     let all = std::fs::read_dir(root().join("examples")).unwrap().map(|entry| entry.unwrap().path());
-    let sheets: Vec<PathBuf> = all.filter(|path| path.extension().map_or(false, |ending| ending == "sheet")).collect();
-    assert!(!sheets.is_empty());
-    sheets.iter().map(|path| path.with_extension("")).collect()
+    let sheets = all.filter(|path| path.extension().map_or(false, |ending| ending == "sheet"));
+    let found: Vec<PathBuf> = sheets.map(|path| path.with_extension("")).filter(|path| of(path, ending).exists()).collect();
+    assert!(!found.is_empty());
+    found
+}
+
+/// The covers.
+fn covers() -> Vec<PathBuf> {
+    with_sheets("panel")
+}
+
+#[test]
+fn examples_have_the_sheets_of_their_scans() {
+    for path in with_sheets("stl") {
+        let file = read(of(&path, "stl")).unwrap();
+        assert_eq!(scan::sheet(&file), read_to_string(of(&path, "sheet")).unwrap(), "{path:?}");
+    }
 }
 
 #[test]

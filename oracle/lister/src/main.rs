@@ -1,4 +1,4 @@
-//! Writes the list of answers that crate `try_replay` replays: cases of every call but the sheet, with every number that it can answer.
+//! Writes the list of answers that crate `try_replay` replays: cases of every call but the sheets, with every number that it can answer.
 //! Each answer is document 01's reading; where the Rust has one too, untouched and ascending, it must be the same.
 //!
 //!     lister FILE     writes the list there, and prints how many cases each call has, and how many the Rust answered
@@ -9,6 +9,7 @@ mod large;
 mod merging;
 mod panel_files;
 mod record;
+mod scans;
 mod smoothing;
 mod subjects;
 mod touching;
@@ -22,9 +23,9 @@ use record::{File, List};
 /// The longest file that the list holds as an answer.
 const MOST_BYTES: usize = 4_096;
 
-/// The calls that the list asks: all but the sheet.
+/// The calls that the list asks: all but the sheets, of a panel file and of a scan.
 fn calls() -> impl Iterator<Item = Call> {
-    Call::ALL.into_iter().filter(|call| *call != Call::Sheet)
+    Call::ALL.into_iter().filter(|call| ![Call::Sheet, Call::ScanSheet].contains(call))
 }
 
 /// Those that are asked of every mesh. Smoothing has surfaces of its own.
@@ -45,6 +46,7 @@ fn numbers(call: Call) -> &'static [u32] {
         Call::PutTogetherSameAttrs => &[0, 1, 2, 3, 4, 5, 6, 7, 8, 9],
         Call::HouseWires => &[0, 1, 2, 3, 4, 5, 9, 10],
         Call::ReadPanel | Call::CleanPanel => &[0, 1, 3, 5, 9, 11, 12, 13, 14],
+        Call::ReadScan => &[0, 1, 9, 11, 13, 14],
         Call::WritePanel => &[0, 1, 2, 3, 4, 5, 9, 14],
         Call::Push => &[0, 1, 2, 3, 9],
         Call::LoopSubdivision => &[0, 1, 2, 3, 4, 5, 7, 9, 10, 15, 16, 17],
@@ -185,6 +187,15 @@ impl Lister {
         self.case(Call::WritePanel, &Question { mesh: mesh.clone(), rooms, ..Question::default() });
     }
 
+    /// A scan, put to its reader, with exact rooms.
+    fn scan(&mut self, file: &File) -> Question {
+        self.list.file(file);
+        let rooms = stated_rooms(Call::ReadScan, &Mesh::default());
+        let question = Question { file: file.bytes(), rooms, ..Question::default() };
+        self.case(Call::ReadScan, &question);
+        question
+    }
+
     /// A panel file, put to the cleaner alone.
     fn clean(&mut self, file: &File) {
         self.list.file(file);
@@ -241,6 +252,13 @@ fn list() -> Lister {
         lister.smoothing(&question);
         lister.short_rooms_of(Call::LoopSubdivision, &mut question);
     }
+    for files in [scans::read(), scans::both_sides(), scans::limits(), scans::at_random()] {
+        files.iter().for_each(|file| {
+            lister.scan(file);
+        });
+    }
+    let mut question = lister.scan(&scans::read()[2]);
+    lister.short_rooms_of(Call::ReadScan, &mut question);
     lister
 }
 

@@ -5,14 +5,14 @@ use judge::{Answer, Call, Count, Mesh, Numbers, Question};
 
 /// The kind of a record that holds a mesh; `kind` has those of the calls.
 const MESH: u32 = 0;
-/// The kind of a record that holds a panel file.
+/// The kind of a record that holds a panel file, or a scan.
 const FILE: u32 = 12;
 /// The kind of a record that holds two lists of cosines.
 const COSINES: u32 = 17;
 /// What stands for a verdict that is not answered.
 const NONE: u32 = 0xffff_ffff;
 
-/// A panel file: some bytes, several times over, and then others.
+/// A panel file, or a scan: some bytes, several times over, and then others.
 #[derive(Clone, Debug, Default)]
 pub struct File {
     pub unit: Vec<u8>,
@@ -52,7 +52,7 @@ impl List {
         self.mesh = body;
     }
 
-    /// The panel file that the cases after it are about.
+    /// The panel file, or the scan, that the cases after it are about.
     pub fn file(&mut self, file: &File) {
         let mut body = [file.unit.len(), file.unit.len() * file.times, file.rest.len()].map(|n| n as u32).to_vec();
         body.extend(packed(&file.unit));
@@ -111,7 +111,8 @@ fn kind(call: Call) -> u32 {
         Call::WritePanel => 14,
         Call::CleanPanel => 15,
         Call::LoopSubdivision => 16,
-        Call::Sheet => unreachable!("the list does not ask the sheet"),
+        Call::ReadScan => 18,
+        Call::Sheet | Call::ScanSheet => unreachable!("the list does not ask the sheets"),
         _ => 1 + place(call) as u32,
     }
 }

@@ -1,13 +1,16 @@
 //! The library tried from Rust: reads a panel file from standard input, cleans it and prints its sheet, as document 01 has it; then a
 //! line from each call that the sheet does not need, the cleaned cover as a panel file among them. A refusal prints 'refused' and its
 //! number. Last comes the sheet again, from the one call that makes all of it. One byte more than a file may have is read, so that a longer one is refused and not cut.
+//! With any word after its name it reads a scan, a binary STL file, and goes on with the panel file of the scan's mesh.
 //! examples/cover.c is the same from C; tools/try_library builds and runs both.
 //!
 //! It has C's `main`, since the start-up code of a Rust `main` does not get through the emulator that runs x86-64 programs on Arm.
 #![no_main]
 
-use barleyhinge::{clean_panel, read_panel, sheet, Faces, Mesh, OwnedMesh, Refusal, Rows, MAX_ENTRIES, MAX_FACES, MAX_FILE};
+use barleyhinge::{clean_panel, read_panel, read_scan, sheet, Faces, Mesh, OwnedMesh, Refusal, Rows};
+use barleyhinge::{FILE_ROOM, MAX_ENTRIES, MAX_FACES, MAX_FILE};
 use std::io::Read;
+use std::os::raw::{c_char, c_int};
 
 /// Reads, removes folded faces, compacts: the clean cover, and for each of its faces the number of the drawn face it came from.
 fn draw(file: &[u8]) -> Result<(OwnedMesh, Vec<u32>), Refusal> {
@@ -92,10 +95,27 @@ fn print_broken(mut clean: OwnedMesh) {
     }
 }
 
-#[no_mangle]
-pub extern "C" fn main() -> i32 {
+/// The file, or of a scan the panel file of its mesh.
+fn read(is_scan: bool) -> Result<Vec<u8>, Refusal> {
     let mut file = vec![];
-    std::io::stdin().take(MAX_FILE as u64 + 1).read_to_end(&mut file).unwrap();
+    let most = if is_scan { FILE_ROOM } else { MAX_FILE + 1 };
+    std::io::stdin().take(most as u64).read_to_end(&mut file).unwrap();
+    if is_scan {
+        read_scan(&file)?.mesh().to_panel()
+    } else {
+        Ok(file)
+    }
+}
+
+#[no_mangle]
+pub extern "C" fn main(count: c_int, _: *const *const c_char) -> c_int {
+    let file = match read(count > 1) {
+        Ok(file) => file,
+        Err(refusal) => {
+            println!("refused {}", refusal.number());
+            return 0;
+        }
+    };
     let done = draw(&file).and_then(|(clean, origins)| {
         print_sheet(clean.mesh())?;
         print_row("drawn as", &origins);

@@ -184,6 +184,48 @@ macro_rules! rows {
     }};
 }
 
+/// A call that reads a file into the five lists of a mesh, which are lent at the full limits.
+macro_rules! read {
+    ($name: ident, $file: expr) => {{
+        let mut read = OwnedMesh {
+            positions: vec![0.0; 3 * MAX_ENTRIES],
+            textures: vec![0.0; 2 * MAX_ENTRIES],
+            normals: vec![0.0; 3 * MAX_ENTRIES],
+            corners: vec![0; 3 * MAX_CORNERS],
+            sizes: vec![0; MAX_FACES],
+        };
+        let (mut positions, mut textures, mut normals, mut corners, mut faces) = (0, 0, 0, 0, 0);
+        let number = unsafe {
+            library::$name(
+                $file.as_ptr(),
+                $file.len(),
+                read.positions.as_mut_ptr(),
+                read.positions.len(),
+                read.textures.as_mut_ptr(),
+                read.textures.len(),
+                read.normals.as_mut_ptr(),
+                read.normals.len(),
+                read.corners.as_mut_ptr(),
+                read.corners.len(),
+                read.sizes.as_mut_ptr(),
+                read.sizes.len(),
+                &mut positions,
+                &mut textures,
+                &mut normals,
+                &mut corners,
+                &mut faces,
+            )
+        };
+        Refusal::unless_done(number)?;
+        read.positions.truncate(3 * positions);
+        read.textures.truncate(2 * textures);
+        read.normals.truncate(3 * normals);
+        read.corners.truncate(3 * corners);
+        read.sizes.truncate(faces);
+        Ok(read)
+    }};
+}
+
 impl Faces {
     /// Faces in any order, grouped: triangles first, then quadrangles, then larger faces. `corners` has the corners of all faces, one
     /// face behind the other, and `sizes` how many corners each has; faces of fewer than three are dropped. Refuses 1, 2 and 3; indices
@@ -400,42 +442,16 @@ impl<'a> Mesh<'a> {
 
 /// Reads a panel file. Every coordinate of the mesh is finite.
 pub fn read_panel(file: &[u8]) -> Result<OwnedMesh, Refusal> {
-    let mut read = OwnedMesh {
-        positions: vec![0.0; 3 * MAX_ENTRIES],
-        textures: vec![0.0; 2 * MAX_ENTRIES],
-        normals: vec![0.0; 3 * MAX_ENTRIES],
-        corners: vec![0; 3 * MAX_CORNERS],
-        sizes: vec![0; MAX_FACES],
-    };
-    let (mut positions, mut textures, mut normals, mut corners, mut faces) = (0, 0, 0, 0, 0);
-    let number = unsafe {
-        library::bh_read_panel(
-            file.as_ptr(),
-            file.len(),
-            read.positions.as_mut_ptr(),
-            read.positions.len(),
-            read.textures.as_mut_ptr(),
-            read.textures.len(),
-            read.normals.as_mut_ptr(),
-            read.normals.len(),
-            read.corners.as_mut_ptr(),
-            read.corners.len(),
-            read.sizes.as_mut_ptr(),
-            read.sizes.len(),
-            &mut positions,
-            &mut textures,
-            &mut normals,
-            &mut corners,
-            &mut faces,
-        )
-    };
-    Refusal::unless_done(number)?;
-    read.positions.truncate(3 * positions);
-    read.textures.truncate(2 * textures);
-    read.normals.truncate(3 * normals);
-    read.corners.truncate(3 * corners);
-    read.sizes.truncate(faces);
-    Ok(read)
+    read!(bh_read_panel, file)
+}
+
+/// Reads a scan, a binary STL file: triangles without texture points and normals, whose points with equal bits are one position, numbered by first
+/// appearance; a negative zero is read as zero first. Folded triangles are kept, and the file's header, normals and two-byte fields are passed
+/// over, whatever is in them. No two positions of the mesh are equal, each is used, and every coordinate is finite. Refuses 11 (fewer than 84
+/// bytes), 1 (a count over [`MAX_FACES`]), 11 or 13 (the length is below or above what the count asks), 14 (a point that is not finite) and 1 (more than
+/// [`MAX_ENTRIES`] different positions), in this order.
+pub fn read_scan(file: &[u8]) -> Result<OwnedMesh, Refusal> {
+    read!(bh_read_scan, file)
 }
 
 /// Cleans a panel file, as the program `meshclean` does: folded faces go or are cut open, then the entries that no corner uses go, and what

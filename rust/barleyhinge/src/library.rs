@@ -159,6 +159,20 @@ extern "C" {
         facecount: *mut usize,
     ) -> u32;
 
+    pub fn bh_read_scan(
+        file: *const u8, file_len: usize,
+        positions: *mut f64, positions_len: usize,
+        textures: *mut f64, textures_len: usize,
+        normals: *mut f64, normals_len: usize,
+        corners: *mut u32, corners_len: usize,
+        sizes: *mut u32, sizes_len: usize,
+        positioncount: *mut usize,
+        texturecount: *mut usize,
+        normalcount: *mut usize,
+        cornercount: *mut usize,
+        facecount: *mut usize,
+    ) -> u32;
+
     pub fn bh_write_panel(
         positions: *const f64, positions_len: usize,
         textures: *const f64, textures_len: usize,

@@ -5,7 +5,7 @@
 #[non_exhaustive]
 #[repr(u32)]
 pub enum Refusal {
-    /// A list is over its limit, or would be in what smoothing gives.
+    /// A list is over its limit, or would be in what smoothing gives, or in the mesh of a scan.
     OverLimit = 1,
     /// A length is no multiple of its width, or the sizes don't add up to the corners.
     Misfit = 2,
@@ -25,11 +25,11 @@ pub enum Refusal {
     Room = 9,
     /// House wires, or smoothing, where the verdict is neither Oriented nor Closed.
     NoHouseWires = 10,
-    /// The file stops inside a record, or before its end record.
+    /// The file stops inside a record, or before its end record; a scan stops before the last triangle of its count.
     FileCut = 11,
     /// A record's kind is unknown, or its length is wrong for its kind.
     Record = 12,
-    /// Bytes follow the end record.
+    /// Bytes follow the end record, or the last triangle of a scan.
     AfterEnd = 13,
     /// A coordinate in a file is not finite: not a number, or an infinity.
     NotFinite = 14,
@@ -93,7 +93,7 @@ impl Refusal {
             Refusal::NoHouseWires => "the verdict is neither Oriented nor Closed",
             Refusal::FileCut => "the file stops too early",
             Refusal::Record => "a record's kind is unknown, or its length is wrong",
-            Refusal::AfterEnd => "bytes follow the end record",
+            Refusal::AfterEnd => "bytes follow the end record, or the last triangle of a scan",
             Refusal::NotFinite => "a coordinate in a file is not finite",
             Refusal::NotTriangle => "a face isn't a triangle",
             Refusal::FoldedOrUnused => "a face is folded, or a position is in no face",

@@ -7,7 +7,7 @@ use Rattle.try_replay.proofs.main.Statement.{statement}
 use Rattle.try_replay.proofs.main.Tie as tie
 
 slice-aggregate-run : tie.Need-slice-aggregate-run
-slice-aggregate-run c = sym (length-replicate {A = ℕ} 1048576 0)
+slice-aggregate-run c = sym (length-replicate {A = ℕ} 2097152 0)
 
 run-requires : tie.Need-run-requires
 run-requires c κs = search needs

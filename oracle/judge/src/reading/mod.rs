@@ -9,6 +9,7 @@ pub mod merging;
 pub mod numbers;
 pub mod panel_file;
 pub mod panels;
+pub mod scan;
 pub mod sheet;
 pub mod smoothing;
 pub mod writing;
@@ -42,5 +43,7 @@ pub fn answer(call: Call, question: &Question) -> Answer {
         Call::Sheet => Answer::sheet(sheet::sheet(file)),
         Call::Push => Answer::pushed(cleaning::push(mesh)),
         Call::LoopSubdivision => Answer::smoothed(smoothing::loop_subdivision(mesh, question.cosines())),
+        Call::ReadScan => Answer::read(scan::read(file).unwrap()),
+        Call::ScanSheet => Answer::sheet(scan::sheet(file)),
     }
 }

@@ -1,6 +1,6 @@
 //! 'The mesh' and 'Numbers returned'.
 
-use super::{door, edges, panel_file, smoothing, writing};
+use super::{door, edges, panel_file, scan, smoothing, writing};
 use crate::calls::{Call, Question};
 use crate::mesh::{Mesh, Verdict, MISSING};
 use std::ops::Range;
@@ -32,7 +32,8 @@ pub fn number(call: Call, question: &Question) -> u32 {
         // What is left is a mesh, its coordinates are finite, and its file fits: nothing is refused after the reading.
         Call::CleanPanel => first(&[rooms, writing::clean(&question.file).err().unwrap_or(0)]),
         // A refused file has a sheet of its own, which says so: only its room can be refused.
-        Call::Sheet => rooms,
+        Call::Sheet | Call::ScanSheet => rooms,
+        Call::ReadScan => first(&[rooms, scan::read(&question.file).err().unwrap_or(0)]),
         Call::Push => first(&[faces_number(mesh), rooms]),
         Call::LoopSubdivision => match mesh_number(mesh) {
             0 => first(&[smoothing::number(mesh, question.cosines()), rooms]),
@@ -146,11 +147,12 @@ pub fn stated_rooms(call: Call, mesh: &Mesh) -> Vec<usize> {
         Call::HemEdges => vec![corners, corners],
         Call::ExtractBoundaries => vec![2 * corners, corners],
         Call::HouseWires | Call::Components => vec![corners, corners],
-        Call::ReadPanel => vec![3 * ATTRIBUTES, 2 * ATTRIBUTES, 3 * ATTRIBUTES, 3 * CORNERS, FACES],
+        // Document 02: a scan asks for room at the full limits too, in all five lists.
+        Call::ReadPanel | Call::ReadScan => vec![3 * ATTRIBUTES, 2 * ATTRIBUTES, 3 * ATTRIBUTES, 3 * CORNERS, FACES],
         // Document 02: the whole file. The cleaner's is not known beforehand: as for the reader, the full limits.
         Call::WritePanel => vec![writing::length(mesh)],
         Call::CleanPanel => vec![writing::LONGEST],
-        Call::Sheet => vec![super::sheet::ROOM],
+        Call::Sheet | Call::ScanSheet => vec![super::sheet::ROOM],
         // Document 02 names no room for smoothing: a position more for each corner at most, since an edge begins at each corner; four faces for one.
         Call::LoopSubdivision => vec![mesh.positions.len() + 3 * corners, 4 * mesh.corners.len(), 4 * mesh.sizes.len()],
     }

@@ -18,7 +18,8 @@ pub fn sheet(file: &[u8]) -> String {
     }
 }
 
-fn sheet_of(mesh: &Mesh) -> String {
+/// The lines of a mesh that was read and cleaned.
+pub fn sheet_of(mesh: &Mesh) -> String {
     let (positions, textures, normals) = (mesh.positions.len() / 3, mesh.textures.len() / 2, mesh.normals.len() / 3);
     let verdict = edges::verdict(mesh);
     let mut sheet = format!("mesh {positions} {textures} {normals} {}\n", mesh.sizes.len());

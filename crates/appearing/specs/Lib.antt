@@ -1,0 +1,4 @@
+-- keys numbered by first appearance
+pub mod Appearing
+-- the steps of the code
+pub mod Steps

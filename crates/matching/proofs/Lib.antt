@@ -1,0 +1,4 @@
+pub mod Digits
+pub mod Both
+pub mod Filling
+pub mod Rooms

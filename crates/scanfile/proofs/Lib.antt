@@ -1,0 +1,4 @@
+pub mod Lengths
+pub mod Finite
+pub mod Answers
+pub mod Reading

@@ -1,0 +1,8 @@
+pub mod Points
+pub mod Prefixes
+pub mod Threes
+pub mod Lengths
+pub mod Numbers
+pub mod Meshes
+pub mod Likewise
+pub mod Formats
