@@ -115,6 +115,7 @@ ROOM_RULES = {
     "bh_remove_unused_attrs": (COMPACTION, "tooShort"),
     "bh_remove_degenerate_faces": (FOLDED, "tooShort"),
     "bh_put_together_same_attrs": (MERGING, "mergeNumber"),
+    "bh_put_together_by_cell": (MERGING, "mergeNumber"),
     "bh_loop_subdivision": (SMOOTHED, "tooShort"),
     "bh_hem_edges": (EDGES, "hemNumber"),
     "bh_extract_boundaries": (PORTED, "portedShort"),

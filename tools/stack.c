@@ -52,6 +52,7 @@ static void compaction(void) {
 }
 static void removal(void) { bh_remove_degenerate_faces(LISTS, ROOM(made.corners), ROOM(made.sizes), ROOM(origins), &a, &b); }
 static void merging(void) { bh_put_together_same_attrs(LISTS, 0.125, ROOM(made.corners), &a, &b, &c); }
+static void by_cell(void) { bh_put_together_by_cell(LISTS, 0.125, ROOM(made.corners), &a, &b, &c); }
 static void smoothing(void) {
     bh_loop_subdivision(LISTS, ROOM(ones), ROOM(twos), ROOM(made.positions), ROOM(made.corners), ROOM(made.sizes), &a, &b, &c);
 }
@@ -71,6 +72,7 @@ static struct { const char *name; void (*call)(void); size_t deepest, on; } call
     {"bh_remove_unused_attrs", compaction, 0, 0},
     {"bh_remove_degenerate_faces", removal, 0, 0},
     {"bh_put_together_same_attrs", merging, 0, 0},
+    {"bh_put_together_by_cell", by_cell, 0, 0},
     {"bh_loop_subdivision", smoothing, 0, 0},
     {"bh_shell_condition", condition, 0, 0},
     {"bh_hem_edges", hems, 0, 0},

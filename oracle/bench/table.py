@@ -20,10 +20,12 @@ RATIOS = (
     ("panels", ("components",), 1.0, ()),
     ("smoothing", ("loop_subdivision",), 1.0, ()),
     ("merging on spread points", ("put_together_same_attrs",), 3.0, (SPREAD,)),
+    ("merging by cell on spread points", ("put_together_by_cell",), 0.3, (SPREAD,)),
     ("scans", ("read_scan",), 1.0, ()),
 )
 GROWING = ("shell_condition", "hem_edges", "extract_boundaries", "house_wires", "components")
 MOST_GROWTH = 24.0
+PLAIN, BY_CELL = "put_together_same_attrs", "put_together_by_cell"
 
 
 def least(files):
@@ -90,6 +92,23 @@ def print_goals(times):
         if call in GROWING
     ]
     print_goal(f"edges, wires and panels from 256 to 4,096 corners: growth at most {MOST_GROWTH:.0f}", grown, MOST_GROWTH)
+    print_engines(times)
+
+
+def print_engines(times):
+    """Merging by cell beside the plain engine. The lists have half as many points as there are corners."""
+    full = SIZES[-1]
+
+    def beside(mesh, sizes):
+        rows = {call: times.get((call, mesh), {}).get for call in (PLAIN, BY_CELL)}
+        pairs = [(rows[BY_CELL](("ours", size)), rows[PLAIN](("ours", size)), size) for size in sizes]
+        return [(cell / plain, f"`{BY_CELL}`", mesh, f"{size:,}") for cell, plain, size in pairs if cell and plain]
+
+    print_goal("merging by cell/plain on spread points, 2,048 in each list: at most 0.1", beside(SPREAD, (full,)), 0.1)
+    print_goal("merging by cell/plain on one cell: at most 1.5", beside("one cell", SIZES), 1.5)
+    grown = quotient(times.get((BY_CELL, SPREAD), {}), ("ours", full), ("ours", SIZES[0]))
+    goal = f"merging by cell on spread points from 128 to 2,048 in each list: growth at most {MOST_GROWTH:.0f}"
+    print_goal(goal, [(grown, f"`{BY_CELL}`", SPREAD, "")], MOST_GROWTH)
 
 
 def print_goal(goal, found, most):

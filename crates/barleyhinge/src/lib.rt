@@ -183,6 +183,38 @@ pub extern "C" fn bh_put_together_same_attrs(
     answers::merged(merged, positionpairs, texturepairs, normalpairs)
 }
 
+// The same by the second engine, for scans.
+#[no_mangle]
+pub extern "C" fn bh_put_together_by_cell(
+    positions: &[f64],
+    textures: &[f64],
+    normals: &[f64],
+    corners: &[u32],
+    sizes: &[u32],
+    tolerance: f64,
+    newcorners: &mut [u32],
+    positionpairs: &mut usize,
+    texturepairs: &mut usize,
+    normalpairs: &mut usize,
+) -> u32
+    ensures { λ r. ⌜ PutTogether
+        (meshOf (now (positions .entry)) (now (textures .entry)) (now (normals .entry)) (now (corners .entry)) (now (sizes .entry))) tolerance
+        (now (newcorners .entry))
+        (now (newcorners .exit))
+        (answer.mergedBy r (now (positionpairs .exit)) (now (texturepairs .exit)) (now (normalpairs .exit))) ⌝ }
+{
+    let merged = merging::put_together_by_cell(
+        positions,
+        textures,
+        normals,
+        corners,
+        sizes,
+        tolerance,
+        newcorners,
+    );
+    answers::merged(merged, positionpairs, texturepairs, normalpairs)
+}
+
 // Smoothing by Loop's method: the new positions, corners and sizes, and how many positions, corners and faces they are.
 #[no_mangle]
 pub extern "C" fn bh_loop_subdivision(

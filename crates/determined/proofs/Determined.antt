@@ -75,7 +75,7 @@ removal-determined g r q a b =
     let z : r .1 .origins ≡ q .1 .origins = cc in
     λ i. (record { number = n i; corners = c i; faces = f i }, removal.resultOf (x i) (y i) (z i))
 
-merging-determined : Determined mergingCall
+pub merging-determined : Determined mergingCall
 merging-determined g r q a b =
     let n : r .0 .number ≡ q .0 .number = cc in
     let p : r .0 .positions ≡ q .0 .positions = cc in

@@ -1,6 +1,7 @@
 -- Each contract of the source is, word for word, what the list of the calls says of it. Assumes nothing.
 use Rattle.determined.specs.Determined.{Call, Determined}
-use Rattle.determined.specs.Tied.{Tied, OneResult, AllTied}
+use Rattle.determined.specs.Tied.{Tied, OneResult, AllTied, EnginesAgree, meshIn, rest, list}
+use Rattle.determined.proofs.Determined.{merging-determined}
 
 -- so what is said of the list is said of the sources: a call whose results are determined has a source whose contract allows one result
 pub source-determined :
@@ -17,6 +18,7 @@ all-tied = record {
   compaction-tied = λ κs a r e h. h;
   removal-tied = λ κs a r e h. h;
   merging-tied = λ κs a r e h. h;
+  by-cell-tied = λ κs a r e h. h;
   smoothing-tied = λ κs a r e h. h;
   verdict-tied = λ κs a r e h. h;
   hem-tied = λ κs a r e h. h;
@@ -29,3 +31,9 @@ all-tied = record {
   sheet-tied = λ κs a r e h. h;
   clean-tied = λ κs a r e h. h;
 }
+
+-- the two engines of merging have one contract, and it determines the result
+pub engines-agree : EnginesAgree
+engines-agree κs κt a r q e f h k =
+    merging-determined ((meshIn a, rest a .0), list (rest a .1)) (r, list (rest e .1)) (q, list (rest f .1)) (all-tied .merging-tied κs a r e h)
+    (all-tied .by-cell-tied κt a q f k)

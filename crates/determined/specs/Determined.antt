@@ -83,7 +83,7 @@ compactionCall = lending Compaction
 abbrev pub removalCall : Call
 removalCall = lending Removal
 
--- `merging::put_together_same_attrs`: a mesh and a tolerance are given
+-- `merging::put_together_same_attrs` and `merging::put_together_by_cell`: a mesh and a tolerance are given
 abbrev pub mergingCall : Call
 mergingCall = lending (λ (g : Mesh × Float). PutTogether (g .0) (g .1))
 

@@ -1,5 +1,5 @@
 -- The list of the calls is no retelling: each contract, as the source of its function has it, says what the list says. The kit hands
--- out a contract as `Post`: lifetimes, arguments, answer, arguments afterwards. A weaker `ensures` in any of the seventeen sources is
+-- out a contract as `Post`: lifetimes, arguments, answer, arguments afterwards. A weaker `ensures` in any of the eighteen sources is
 -- refused here. Assumes nothing.
 use Prim.Native.Nat.{ℕ}
 use mathlib.Core.Path.{_≡_}
@@ -21,6 +21,7 @@ use Rattle.faces.proofs.push.Reads as push
 use Rattle.compaction.proofs.remove_unused_attrs.Reads as remove-unused-attrs
 use Rattle.folded.proofs.remove_degenerate_faces.Reads as remove-degenerate-faces
 use Rattle.merging.proofs.put_together_same_attrs.Reads as put-together-same-attrs
+use Rattle.merging.proofs.put_together_by_cell.Reads as put-together-by-cell
 use Rattle.smoothing.proofs.loop_subdivision.Reads as loop-subdivision
 use Rattle.edges.proofs.shell_condition.Reads as shell-condition
 use Rattle.edges.proofs.hem_edges.Reads as hem-edges
@@ -88,7 +89,7 @@ abbrev pub OneResult :
 OneResult {K} {A} {R} {E} Post result =
     (κs : K) (a : A) (r q : R) (e f : E) → Post κs a r e → Post κs a q f → result r e ≡ result q f
 
--- the seventeen calls
+-- the eighteen calls: two of them, the engines of merging, have one contract
 pub record AllTied : Type 0 where
   pub number-tied : Tied mesh-number.Post number meshIn (λ r e. r)
   pub face-tied : Tied mesh-face.Post face (λ a. (meshIn a, rest a .0)) (λ r e. now r)
@@ -99,6 +100,8 @@ pub record AllTied : Type 0 where
       Tied remove-degenerate-faces.Post removalCall (λ a. (meshIn a, removedLists (rest a))) (λ r e. (r, removedLists (rest e)))
   pub merging-tied :
       Tied put-together-same-attrs.Post mergingCall (λ a. ((meshIn a, rest a .0), list (rest a .1))) (λ r e. (r, list (rest e .1)))
+  pub by-cell-tied :
+      Tied put-together-by-cell.Post mergingCall (λ a. ((meshIn a, rest a .0), list (rest a .1))) (λ r e. (r, list (rest e .1)))
   pub smoothing-tied :
       Tied loop-subdivision.Post smoothingCall
       (λ a. ((meshIn a, list (rest a), list (rest a .1)), smoothedLists (rest a .1 .1)))
@@ -114,3 +117,14 @@ pub record AllTied : Type 0 where
   pub write-tied : Tied write-panel.Post writeCall (λ a. (meshIn a, list (rest a))) (λ r e. (r, list (rest e)))
   pub sheet-tied : Tied sheet.Post sheetCall (λ a. (list a, list (a .1))) (λ r e. (r, list (e .1)))
   pub clean-tied : Tied clean.Post cleanCall (λ a. (list a, list (a .1))) (λ r e. (r, list (e .1)))
+
+-- ---- the two engines of merging
+
+-- what two sources allow on the same arguments is equal, as far as the caller sees it
+abbrev pub SameResult : {K A R E B : Type 0} → (K → A → R → E → Type 0) → (K → A → R → E → Type 0) → (R → E → B) → Type 0
+SameResult {K} {A} {R} {E} One Other result =
+    (κs κt : K) (a : A) (r q : R) (e f : E) → One κs a r e → Other κt a q f → result r e ≡ result q f
+
+-- `put_together_same_attrs` and `put_together_by_cell`: number, counts and lent list
+abbrev pub EnginesAgree : Type 0
+EnginesAgree = SameResult {B = mergingCall .Result} put-together-same-attrs.Post put-together-by-cell.Post (λ r e. (r, list (rest e .1)))

@@ -1,7 +1,7 @@
 // Merging: `put_together_same_attrs` gives near positions, texture points and normals one index each.
 //
 // The Rust's `create_blocks`, `create_adjacency` and `create_components` are the crate `nearby`, and its `centralize` is the crate
-// `centring`; what is done for each of the three lists is here.
+// `centring`; what is done for each of the three lists is here. The crate `bycell` is a second engine in the place of `nearby`.
 ghost use mathlib.Core.Path.{_≡_};
 ghost use mathlib.Core.Bool.{true, false, _||_};
 ghost use mathlib.Core.List.{map};
@@ -12,9 +12,9 @@ ghost use Rattle.lists.specs.Lists.{some, joined};
 ghost use Rattle.mesh.specs.Mesh.{meshOf, missing, cornersIn};
 ghost use Rattle.floating.specs.Limits.{boundless, distant};
 ghost use Rattle.floating.specs.Scaling.{scaledList};
-ghost use Rattle.nearby.specs.Pairs.{comparedPairs};
+ghost use Rattle.nearby.specs.Pairs.{pairs, comparedPairs};
 ghost use Rattle.nearby.specs.Walk.{groups};
-ghost use Rattle.nearby.specs.Engine.{nearBy, Listed};
+ghost use Rattle.nearby.specs.Engine.{besideAt, nearBy, Listed};
 ghost use Rattle.together.specs.Centre as centre;
 ghost use Rattle.together.specs.Merging.{mergeNumber, mergedTo, unlessMissing, PutTogether};
 ghost use Rattle.together.specs.Working.{Mergeable, Settled, Scalable, Indexed, sentCorner};
@@ -55,7 +55,60 @@ pub fn put_together_same_attrs(
             normals: 0,
         };
     }
-    merge(positions, textures, normals, corners, sizes, tolerance, out)
+    merge(
+        positions,
+        textures,
+        normals,
+        corners,
+        sizes,
+        tolerance,
+        out,
+        false,
+    )
+}
+
+// The same, for scans: the points are ordered by cell, and only those in cells within two on each axis are compared. It has the very
+// contract of `put_together_same_attrs`, so it answers the same.
+pub fn put_together_by_cell(
+    positions: &[f64],
+    textures: &[f64],
+    normals: &[f64],
+    corners: &[u32],
+    sizes: &[u32],
+    tolerance: f64,
+    out: &mut [u32],
+) -> Merged
+    ensures { λ r. ⌜ PutTogether
+        (meshOf (now (positions .entry)) (now (textures .entry)) (now (normals .entry)) (now (corners .entry)) (now (sizes .entry)))
+        tolerance (now (out .entry)) (now (out .exit)) r ⌝ }
+{
+    let number = number(
+        positions,
+        textures,
+        normals,
+        corners,
+        sizes,
+        tolerance,
+        out.len(),
+    );
+    if number != 0 {
+        return Merged {
+            number: number,
+            positions: 0,
+            textures: 0,
+            normals: 0,
+        };
+    }
+    merge(
+        positions,
+        textures,
+        normals,
+        corners,
+        sizes,
+        tolerance,
+        out,
+        true,
+    )
 }
 
 // ---- the number
@@ -144,6 +197,7 @@ fn has_distant(s: &[f64], t: f64) -> bool
 
 // ---- the three lists of a mesh that earns 0
 
+// `by_cell` says by which engine; what is promised does not depend on it.
 fn merge(
     positions: &[f64],
     textures: &[f64],
@@ -152,6 +206,7 @@ fn merge(
     sizes: &[u32],
     t: f64,
     out: &mut [u32],
+    by_cell: bool,
 ) -> Merged
     requires { ⌜ mergeNumber (meshOf (now positions) (now textures) (now normals) (now corners) (now sizes)) t (length (now out)) ≡ 0 ⌝ }
     ensures { λ r. ⌜ PutTogether
@@ -161,9 +216,9 @@ fn merge(
     let mut pmap = [0u32; mesh::ENTRIES];
     let mut tmap = [0u32; mesh::ENTRIES];
     let mut nmap = [0u32; mesh::ENTRIES];
-    let p = merge_positions(positions, t, &mut pmap);
-    let u = merge_list(textures, 2, t, textures.len() / 2, &mut tmap);
-    let n = merge_list(normals, 3, t, normals.len() / 3, &mut nmap);
+    let p = merge_positions(positions, t, &mut pmap, by_cell);
+    let u = merge_list(textures, 2, t, textures.len() / 2, &mut tmap, by_cell);
+    let n = merge_list(normals, 3, t, normals.len() / 3, &mut nmap, by_cell);
     send_corners(corners, &pmap, &tmap, &nmap, out);
     Merged {
         number: 0,
@@ -174,7 +229,7 @@ fn merge(
 }
 
 // Positions are first scaled; with no positions nothing is scaled.
-fn merge_positions(positions: &[f64], t: f64, map: &mut [u32]) -> usize
+fn merge_positions(positions: &[f64], t: f64, map: &mut [u32], by_cell: bool) -> usize
     requires { ⌜ (Scalable (now positions) t) × (length (now positions) / 3 ≤ length (now map)) ⌝ }
     ensures { λ r. ⌜ (r ≡ comparedPairs t 3 (scaledList (now (positions .entry))))
         × (Settled (length (now (positions .entry)) / 3) (mergedTo t 3 (scaledList (now (positions .entry)))) (now (map .entry)) (now (map .exit))) ⌝ }
@@ -186,7 +241,7 @@ fn merge_positions(positions: &[f64], t: f64, map: &mut [u32]) -> usize
     floating::scale(positions, &mut room);
     let end = positions.len();
     let scaled = &room[..end];
-    merge_list(scaled, 3, t, end / 3, map)
+    merge_list(scaled, 3, t, end / 3, map, by_cell)
 }
 
 // ---- corners
@@ -231,8 +286,21 @@ fn merge_groups(s: &[f64], w: usize, t: f64, cells: &[u64], n: usize, map: &mut 
     centring::centralize_groups(s, w, n, &order, &ends, count, map);
 }
 
+// The same by the points in the order of their cells, with how many pairs were compared.
+fn merge_by_cell(s: &[f64], w: usize, t: f64, cells: &[u64], n: usize, map: &mut [u32]) -> usize
+    requires { ⌜ (Listed w n (now s) (now cells)) × (n ≤ length (now map)) ⌝ }
+    ensures { λ r. ⌜ (r ≡ pairs (besideAt w (now (cells .entry))) n)
+        × (Settled n (centre.sentTo w (now (s .entry)) (groups (nearBy t w (now (s .entry)) (now (cells .entry))) n)) (now (map .entry)) (now (map .exit))) ⌝ }
+{
+    let mut order = [0usize; mesh::ENTRIES];
+    let mut ends = [0usize; mesh::ENTRIES];
+    let found = bycell::create_components(s, w, t, cells, n, &mut order, &mut ends);
+    centring::centralize_groups(s, w, n, &order, &ends, found.groups, map);
+    found.pairs
+}
+
 // The Rust's `sub_put_together_same_attrs`: where each of the n points of one list goes, to `map`, and how many pairs were compared.
-fn merge_list(s: &[f64], w: usize, t: f64, n: usize, map: &mut [u32]) -> usize
+fn merge_list(s: &[f64], w: usize, t: f64, n: usize, map: &mut [u32], by_cell: bool) -> usize
     requires { ⌜ Mergeable t w n (now s) (now map) ⌝ }
     ensures { λ r. ⌜ (r ≡ comparedPairs t w (now (s .entry))) × (Settled n (mergedTo t w (now (s .entry))) (now (map .entry)) (now (map .exit))) ⌝ }
 {
@@ -240,6 +308,9 @@ fn merge_list(s: &[f64], w: usize, t: f64, n: usize, map: &mut [u32]) -> usize
     nearby::fill_cells(s, t, &mut room);
     let end = s.len();
     let cells = &room[..end];
+    if by_cell {
+        return merge_by_cell(s, w, t, cells, n, map);
+    }
     merge_groups(s, w, t, cells, n, map);
     nearby::count_pairs(cells, w, n)
 }

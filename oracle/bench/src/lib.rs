@@ -44,7 +44,7 @@ pub unsafe extern "C" fn bench(library: Library, _: Watch, argc: c_int, argv: *c
 fn round_cases(call: Call, corners: usize) -> Vec<Case> {
     match call {
         _ if call.about() == About::Scan => vec![],
-        Call::LoopSubdivision | Call::PutTogetherSameAttrs => vec![],
+        Call::LoopSubdivision | Call::PutTogetherSameAttrs | Call::PutTogetherByCell => vec![],
         _ => shapes::round(corners),
     }
 }
@@ -61,7 +61,7 @@ fn cases(call: Call, corners: usize, is_short: bool) -> Vec<Case> {
     if [Call::HemEdges, Call::ExtractBoundaries, Call::HouseWires].contains(&call) {
         cases.push(shapes::touching_holes(corners));
     }
-    if call == Call::PutTogetherSameAttrs {
+    if call.merges() {
         cases.push(shapes::spread_points(corners));
         if !is_short {
             cases.push(shapes::one_cell(corners));

@@ -32,7 +32,7 @@ pub fn time(call: Call, case: &Case) -> Option<Duration> {
         Call::RemoveDegenerateFaces => changed(&|mesh| {
             mesh.remove_degenerate_faces();
         }),
-        Call::PutTogetherSameAttrs => changed(&|mesh| {
+        Call::PutTogetherSameAttrs | Call::PutTogetherByCell => changed(&|mesh| {
             mesh.put_together_same_attrs(case.tolerance);
         }),
         Call::ShellCondition => fastest(|| (), |()| mesh.shell_condition()),

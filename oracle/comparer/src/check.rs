@@ -65,6 +65,8 @@ pub fn rust_knows(call: Call, question: &Question, right: &Answer) -> bool {
         Call::Face => reading::numbers::mesh_number(&question.mesh) == 0,
         Call::HouseWires | Call::ReadPanel | Call::WritePanel | Call::CleanPanel | Call::Sheet => false,
         Call::ReadScan | Call::ScanSheet => false,
+        // It has one merging, and is asked it with the plain engine's question, which is this one's too.
+        Call::PutTogetherByCell => false,
         Call::LoopSubdivision => right.number == 0 && rust::has_its_cosines(question),
         _ => right.number == 0,
     }

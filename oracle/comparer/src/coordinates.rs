@@ -52,6 +52,34 @@ fn chain(random: &Random, count: usize, width: usize, step: f64) -> Vec<f64> {
     places.iter().flat_map(|place| (0..width).map(|at| coordinate(*place, at)).collect::<Vec<_>>()).collect()
 }
 
+/// So many points at the borders of cells of this step: on whole multiples of it or a bit beside them, in cells that differ by 0 to 3, for many points
+/// on one axis alone.
+pub fn at_borders(random: &Random, count: usize, width: usize, step: f64) -> Vec<f64> {
+    let base: Vec<f64> = (0..width).map(|_| random.pick(&[0.0, 0.0, -1.0, -2.0, -3.0, 1.0, 5.0, 1000.0])).collect();
+    let cells = [0.0, 0.0, 0.0, 1.0, 2.0, 2.0, 2.0, 3.0, 3.0];
+    let mut points = vec![];
+    for _ in 0..count {
+        let moved = random.below(width + 1);
+        for axis in 0..width {
+            let away = if moved == width || moved == axis { random.pick(&cells) } else { 0.0 };
+            points.push(beside(random, (base[axis] + away) * step, step));
+        }
+    }
+    points
+}
+
+/// A border, or a number just below it, just above it, or within the cell behind it.
+fn beside(random: &Random, border: f64, step: f64) -> f64 {
+    let by = |bits: i64| f64::from_bits(border.to_bits().wrapping_add(bits as u64));
+    match random.below(8) {
+        0..=1 if border == 0.0 => random.pick(&[0.0, -0.0, 5e-324, -5e-324]),
+        0 => by(-1),
+        1 => by(1),
+        2 => border + step * random.unit(),
+        _ => border,
+    }
+}
+
 /// A few places, and about each of them points at quarters, halves and wholes of the step.
 fn clusters(random: &Random, count: usize, step: f64) -> Vec<f64> {
     let places: Vec<f64> = (0..random.within(1, 4)).map(|_| random.below(5) as f64 * 0.25).collect();

@@ -2,8 +2,9 @@
 //!
 //! `library` asks the product, with lent lists that are filled with a pattern (`lent`); `check` holds what came back to the judge's
 //! answer. `meshes`, `shapes`, `pinched`, `round`, `surfaces`, `coordinates`, `damage`, `files`, `faults` and `scans` make what is asked. A difference is made small by
-//! `shrink` and printed by `show`. What was written is read back by `round_trip`. `slips`, `wrong`, `wrong_broken` (over `one_by_one`), `wrong_files`,
-//! `wrong_house`, `wrong_large`, `wrong_merging`, `wrong_removal`, `wrong_scans` (over `wrong_scan`) and `wrong_smoothing` (over `wrong_points`) show that the comparer can fail. What is public
+//! `shrink` and printed by `show`. What was written is read back by `round_trip`.
+//! `slips`, `wrong`, `wrong_broken` (over `one_by_one`), `wrong_files`, `wrong_house`, `wrong_large`, `wrong_merging`, `wrong_removal`, `wrong_scans`
+//! (over `wrong_scan`) and `wrong_smoothing` (over `wrong_points`) show that the comparer can fail. What is public
 //! serves the lister too.
 
 pub mod check;
@@ -34,6 +35,7 @@ mod tests;
 mod tests_house;
 mod wrong;
 mod wrong_broken;
+mod wrong_by_cell;
 mod wrong_files;
 mod wrong_house;
 mod wrong_large;

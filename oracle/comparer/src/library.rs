@@ -68,6 +68,7 @@ pub struct Library {
         *const f64, usize, *const f64, usize, *mut f64, usize, *mut u32, usize, *mut u32, usize, *mut u64, *mut u64, *mut u64 => u32),
     pub read_scan: Reader,
     pub scan_sheet: Writer,
+    pub put_together_by_cell: on_mesh!(f64, *mut u32, usize, *mut u64, *mut u64, *mut u64 => u32),
 }
 
 /// What came back from the product.
@@ -152,6 +153,7 @@ impl Product for Library {
             Call::LoopSubdivision => self.loop_subdivision.is_some(),
             Call::ReadScan => self.read_scan.is_some(),
             Call::ScanSheet => self.scan_sheet.is_some(),
+            Call::PutTogetherByCell => self.put_together_by_cell.is_some(),
         }
     }
 
@@ -194,6 +196,12 @@ impl Library {
             };
         }
         let counts = asked.counts.as_mut_ptr();
+        macro_rules! merge {
+            ($name: ident) => {{
+                let (corners, room) = asked.lists[0].words();
+                asked.number = on!($name, question.tolerance, corners, room, counts, counts.add(1), counts.add(2));
+            }};
+        }
         macro_rules! rows {
             ($name: ident $(, $more: expr)*) => {{
                 let (flat, flat_room) = asked.lists[0].words();
@@ -240,11 +248,8 @@ impl Library {
                     counts.add(1)
                 );
             }
-            Call::PutTogetherSameAttrs => {
-                let (corners, room) = asked.lists[0].words();
-                let tolerance = question.tolerance;
-                asked.number = on!(put_together_same_attrs, tolerance, corners, room, counts, counts.add(1), counts.add(2));
-            }
+            Call::PutTogetherSameAttrs => merge!(put_together_same_attrs),
+            Call::PutTogetherByCell => merge!(put_together_by_cell),
             Call::ShellCondition => {
                 let mut verdict = UNTOUCHED_VERDICT;
                 asked.number = on!(shell_condition, &mut verdict);

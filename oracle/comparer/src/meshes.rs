@@ -106,6 +106,17 @@ fn furnished(random: &Random, faces: Vec<Vec<u32>>, positions: usize, tolerance:
     Case { mesh, tolerance }
 }
 
+/// Its points moved to the borders of cells. Positions are scaled before they are merged: in a box of at most 1 their cells are half as wide.
+pub fn to_borders(random: &Random, case: &mut Case) {
+    let (mesh, tolerance) = (&mut case.mesh, case.tolerance);
+    if !(2f64.powi(-30)..=1.0).contains(&tolerance) {
+        return;
+    }
+    mesh.positions = coordinates::at_borders(random, mesh.positions.len() / 3, 3, tolerance * random.pick(&[0.5, 0.5, 1.0]));
+    mesh.textures = coordinates::at_borders(random, mesh.textures.len() / 2, 2, tolerance);
+    mesh.normals = coordinates::at_borders(random, mesh.normals.len() / 3, 3, tolerance);
+}
+
 /// The same mesh with its faces in any order, now and then with faces of fewer than three corners between them, and one of 32, 33, 300 or 301.
 pub fn any_order(random: &Random, mesh: &Mesh) -> Mesh {
     if [1, 2].contains(&mesh_number(mesh)) {

@@ -110,6 +110,8 @@ pub struct Subject {
     any_order: Question,
     /// A surface of triangles, for smoothing.
     surface: Question,
+    /// What merging is asked, by each of its engines: nothing yet, nothing this time, or the rooms.
+    merging: Option<Option<Vec<usize>>>,
     is_small: bool,
 }
 
@@ -124,25 +126,30 @@ impl Subject {
                 _ => files::random(random),
             };
             let question = Question { file, ..Question::default() };
-            return Subject { question, any_order: Question::default(), surface: Question::default(), is_small: false };
+            let (any_order, surface) = (Question::default(), Question::default());
+            return Subject { question, any_order, surface, merging: None, is_small: false };
         }
         let is_small = index < meshes::exhaustive_count();
-        let Case { mut mesh, tolerance } = match is_small {
+        let mut case = match is_small {
             true => meshes::exhaustive(index, random),
             false if random.once_in(3) => meshes::with_touching_hems(random),
             false if random.once_in(16) => meshes::with_large_faces(random),
             false => meshes::random(random),
         };
+        if random.once_in(4) {
+            meshes::to_borders(random, &mut case);
+        }
+        let Case { mut mesh, tolerance } = case;
         if !is_small && random.once_in(8) {
             damage::coordinates(random, &mut mesh);
         }
         let any_order = Question { mesh: meshes::any_order(random, &mesh), ..Question::default() };
         let question = Question { mesh, tolerance, ..Question::default() };
-        Subject { question, any_order, surface: Question::default(), is_small }
+        Subject { question, any_order, surface: Question::default(), merging: None, is_small }
     }
 
-    /// The question that a call is asked. Merging takes long where there are many points, so it is not asked every time. Smoothing takes few meshes
-    /// as they come, so it is asked of surfaces of its own, or of the small mesh.
+    /// The question that a call is asked. Both engines of merging are asked the same one. Smoothing takes few meshes as they come, so it is asked of
+    /// surfaces of its own, or of the small mesh.
     pub fn question(&mut self, random: &Random, call: Call) -> Option<&Question> {
         if call == Call::Push {
             let stated = stated_rooms(call, &self.any_order.mesh);
@@ -154,11 +161,11 @@ impl Subject {
             self.surface = if self.is_small { surfaces::small(random, mesh) } else { surfaces::question(random) };
             return Some(&self.surface);
         }
-        if call == Call::PutTogetherSameAttrs {
-            let points = mesh.positions.len() / 3 + mesh.textures.len() / 2 + mesh.normals.len() / 3;
-            if random.below(if self.is_small { 32 } else { 1 + points / 200 }) != 0 {
-                return None;
-            }
+        if call.merges() {
+            let rooms = self.merging.take().unwrap_or_else(|| self.rooms_of_merging(random, call));
+            self.merging = Some(rooms.clone());
+            self.question.rooms = rooms?;
+            return Some(&self.question);
         }
         let (stated, faces) = (stated_rooms(call, mesh), mesh.sizes.len());
         self.question.face =
@@ -166,6 +173,17 @@ impl Subject {
         self.question.use_normal = random.once_in(2);
         self.question.rooms = if self.is_small { stated } else { damage::rooms(random, stated) };
         Some(&self.question)
+    }
+
+    /// Merging takes long where there are many points, so it is not asked every time.
+    fn rooms_of_merging(&self, random: &Random, call: Call) -> Option<Vec<usize>> {
+        let mesh = &self.question.mesh;
+        let points = mesh.positions.len() / 3 + mesh.textures.len() / 2 + mesh.normals.len() / 3;
+        if random.below(if self.is_small { 32 } else { 1 + points / 200 }) != 0 {
+            return None;
+        }
+        let stated = stated_rooms(call, mesh);
+        Some(if self.is_small { stated } else { damage::rooms(random, stated) })
     }
 }
 

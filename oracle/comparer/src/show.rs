@@ -16,7 +16,7 @@ pub fn question(call: Call, question: &Question) -> String {
     if call == Call::Face {
         let _ = writeln!(text, "  face {}", question.face);
     }
-    if call == Call::PutTogetherSameAttrs {
+    if call.merges() {
         let _ = writeln!(text, "  tolerance {:?} = {:#x}", question.tolerance, question.tolerance.to_bits());
     }
     if call == Call::Components {

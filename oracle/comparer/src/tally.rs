@@ -93,7 +93,7 @@ fn shows(call: Call) -> Option<&'static str> {
         Call::RemoveUnusedAttrs => Some("renumbered"),
         Call::RemoveDegenerateFaces => Some("removed or split"),
         Call::Push => Some("grouped anew"),
-        Call::PutTogetherSameAttrs => Some("merged"),
+        Call::PutTogetherSameAttrs | Call::PutTogetherByCell => Some("merged"),
         Call::ExtractBoundaries => Some("several wires"),
         Call::Components => Some("several panels"),
         Call::WritePanel => Some("read back, and written again"),
@@ -107,7 +107,11 @@ fn shows(call: Call) -> Option<&'static str> {
 
 fn is_telling(call: Call, question: &Question, compared: &Compared) -> bool {
     match call {
-        Call::RemoveUnusedAttrs | Call::RemoveDegenerateFaces | Call::PutTogetherSameAttrs | Call::Push => {
+        Call::RemoveUnusedAttrs
+        | Call::RemoveDegenerateFaces
+        | Call::PutTogetherSameAttrs
+        | Call::PutTogetherByCell
+        | Call::Push => {
             matches!(&compared.right.lists[0], Numbers::Words(corners) if *corners != question.mesh.corners)
         }
         Call::ExtractBoundaries | Call::Components => count(compared, 1) > 1,

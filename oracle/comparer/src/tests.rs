@@ -6,6 +6,7 @@ use crate::meshes;
 use crate::random::Random;
 use crate::run::{run, Subject};
 use crate::shrink::shrink;
+use crate::wrong_by_cell::by_cell;
 use crate::wrong::answers;
 use crate::{scans, surfaces, wrong_points, wrong_scan, wrong_smoothing};
 use judge::reading::numbers::mesh_number;
@@ -146,6 +147,25 @@ fn the_order_of_sets_changes_representatives_but_no_group() {
         }
     }
     assert!(another_representative > 0);
+}
+
+/// Without a slip merging by the runs of an order is merging; points at the borders of cells are among them, and cells that differ by 2 and by 3.
+#[test]
+fn the_runs_of_an_order_have_what_is_compared() {
+    let mut at_reach = [0; 2];
+    for i in 0..600 {
+        let random = Random::of(9, i);
+        let mut case = meshes::exhaustive(meshes::exhaustive_count() - 1 - i, &random);
+        meshes::to_borders(&random, &mut case);
+        let question = Question { rooms: vec![case.mesh.corners.len()], mesh: case.mesh, tolerance: case.tolerance, ..Question::default() };
+        let right = reading::answer(Call::PutTogetherByCell, &question);
+        assert_eq!(format!("{:?}", by_cell(&question, None)), format!("{right:?}"));
+        let cells: Vec<f64> = question.mesh.textures.iter().map(|c| (c / question.tolerance).trunc()).collect();
+        let apart = |by: f64| cells.chunks(2).any(|a| cells.chunks(2).any(|b| a[0] - b[0] == by && a[1] == b[1]));
+        at_reach[0] += apart(2.0) as u32;
+        at_reach[1] += apart(3.0) as u32;
+    }
+    assert!(at_reach[0] > 100 && at_reach[1] > 100, "{at_reach:?}");
 }
 
 /// The steps of wires that close, each a pair of positions.

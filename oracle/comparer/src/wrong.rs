@@ -1,7 +1,7 @@
 //! Wrong answers that look right: what a product with one misreading of document 01 would say.
 
 use crate::wrong_merging::{merging, Misread};
-use crate::{wrong_broken, wrong_files, wrong_house, wrong_large, wrong_removal, wrong_scans, wrong_smoothing};
+use crate::{wrong_broken, wrong_by_cell, wrong_files, wrong_house, wrong_large, wrong_removal, wrong_scans, wrong_smoothing};
 use judge::mesh::{Corner, Merged, Pushed, Verdict};
 use judge::reading::merging::put_together_same_attrs;
 use judge::reading::{cleaning, edges, numbers, panel_file, panels};
@@ -68,6 +68,7 @@ fn of_its_own(call: Call) -> &'static [(&'static str, Wrong)] {
         ],
         Call::ReadScan => wrong_scans::READER,
         Call::ScanSheet => wrong_scans::SHEET,
+        Call::PutTogetherByCell => wrong_by_cell::BY_CELL,
         Call::LoopSubdivision => wrong_smoothing::SMOOTHING,
         Call::Push => &[
             ("quadrangles among the larger faces", |q, right| accepted(right, || pushed_by(q, |n| (n >= 3).then(|| n.min(4))))),

@@ -22,7 +22,7 @@ pub fn answers(call: Call) -> &'static [(&'static str, Wrong)] {
         Call::CleanPanel => CLEANER,
         Call::Sheet => SHEET,
         Call::WritePanel => WRITER,
-        Call::LoopSubdivision => &[],
+        Call::LoopSubdivision | Call::ReadScan | Call::ScanSheet => &[],
         _ => LIMIT,
     }
 }

@@ -22,11 +22,19 @@ pub enum Misread {
 
 /// What merging answers with this misreading of an accepted question.
 pub fn merging(question: &Question, misread: Misread) -> Answer {
+    merging_by(question, Some(misread), &every_pair)
+}
+
+/// From the cells of some points: for each the others that are compared with it, ascending, and how many pairs that are.
+pub type Reach = dyn Fn(&[Vec<f64>]) -> (Vec<Vec<usize>>, u64);
+
+/// The same, with what is compared found in some way, and with or without a misreading.
+pub fn merging_by(question: &Question, misread: Option<Misread>, reach: &Reach) -> Answer {
     let (mesh, tolerance) = (&question.mesh, question.tolerance);
     let columns = [
-        column(&scaled(&mesh.positions), 3, tolerance, misread),
-        column(&mesh.textures, 2, tolerance, misread),
-        column(&mesh.normals, 3, tolerance, misread),
+        column(&scaled(&mesh.positions), 3, tolerance, misread, reach),
+        column(&mesh.textures, 2, tolerance, misread, reach),
+        column(&mesh.normals, 3, tolerance, misread, reach),
     ];
     let new = |(i, index): (usize, &u32)| if *index == MISSING { MISSING } else { columns[i % 3].0[*index as usize] as u32 };
     Answer::merged(Merged {
@@ -45,20 +53,16 @@ fn scaled(positions: &[f64]) -> Vec<f64> {
 }
 
 /// The representatives of one list, and how many pairs were compared.
-fn column(list: &[f64], width: usize, tolerance: f64, misread: Misread) -> (Vec<usize>, u64) {
+fn column(list: &[f64], width: usize, tolerance: f64, misread: Option<Misread>, reach: &Reach) -> (Vec<usize>, u64) {
     let points: Vec<&[f64]> = list.chunks(width).collect();
-    let cut = |c: &f64| if misread == Misread::CellRoundedDown { (c / tolerance).floor() } else { (c / tolerance).trunc() };
+    let cut = |c: &f64| if misread == Some(Misread::CellRoundedDown) { (c / tolerance).floor() } else { (c / tolerance).trunc() };
     let cells: Vec<Vec<f64>> = points.iter().map(|point| point.iter().map(cut).collect()).collect();
-    let mut near = vec![vec![]; points.len()];
-    let mut pairs = 0;
-    for (i, j) in (0..points.len()).flat_map(|i| (0..points.len()).map(move |j| (i, j))).filter(|(i, j)| i != j) {
-        if cells[i].iter().zip(&cells[j]).all(|(a, b)| (a - b).abs() <= 2.0) {
-            pairs += 1;
-            let (distance, bound) = (squared_distance(points[i], points[j]), tolerance * tolerance);
-            if distance < bound || distance == bound && misread == Misread::NearAtTheTolerance {
-                near[i].push(j);
-            }
-        }
+    let (mut near, pairs) = reach(&cells);
+    for (i, compared) in near.iter_mut().enumerate() {
+        compared.retain(|j| {
+            let (distance, bound) = (squared_distance(points[i], points[*j]), tolerance * tolerance);
+            distance < bound || distance == bound && misread == Some(Misread::NearAtTheTolerance)
+        });
     }
     let mut representatives = vec![usize::MAX; points.len()];
     for lowest in 0..points.len() {
@@ -68,37 +72,46 @@ fn column(list: &[f64], width: usize, tolerance: f64, misread: Misread) -> (Vec<
             group.iter().for_each(|i| representatives[*i] = best);
         }
     }
-    (representatives, pairs / 2)
+    (representatives, pairs)
+}
+
+/// Every pair is looked at, from both ends.
+fn every_pair(cells: &[Vec<f64>]) -> (Vec<Vec<usize>>, u64) {
+    let is_compared = |i: usize, j: usize| i != j && cells[i].iter().zip(&cells[j]).all(|(a, b)| (a - b).abs() <= 2.0);
+    let of = |i: usize| -> Vec<usize> { (0..cells.len()).filter(|j| is_compared(i, *j)).collect() };
+    let reach: Vec<Vec<usize>> = (0..cells.len()).map(of).collect();
+    let ends: usize = reach.iter().map(|compared| compared.len()).sum();
+    (reach, ends as u64 / 2)
 }
 
 fn squared_distance(a: &[f64], b: &[f64]) -> f64 {
     a.iter().zip(b).map(|(a, b)| (a - b) * (a - b)).reduce(|sum, s| sum + s).unwrap()
 }
 
-fn group(lowest: usize, near: &[Vec<usize>], done: &[usize], misread: Misread) -> Vec<usize> {
+fn group(lowest: usize, near: &[Vec<usize>], done: &[usize], misread: Option<Misread>) -> Vec<usize> {
     let (mut order, mut stack) = (vec![], vec![lowest]);
     while let Some(point) = stack.pop() {
         if order.contains(&point) || done[point] != usize::MAX {
             continue;
         }
         order.push(point);
-        if misread == Misread::WalkInOrder {
+        if misread == Some(Misread::WalkInOrder) {
             stack.extend(near[point].iter().rev());
-        } else if misread != Misread::NotConnected || point == lowest {
+        } else if misread != Some(Misread::NotConnected) || point == lowest {
             stack.extend(&near[point]);
         }
     }
     order
 }
 
-fn representative(group: &[usize], points: &[&[f64]], misread: Misread) -> usize {
+fn representative(group: &[usize], points: &[&[f64]], misread: Option<Misread>) -> usize {
     let sum = |axis: usize| group.iter().fold(0.0, |sum, i| sum + points[*i][axis]) / group.len() as f64;
     let mean: Vec<f64> = (0..points[0].len()).map(sum).collect();
-    let centre: &[f64] = if misread == Misread::NoCentre { points[group[0]] } else { &mean };
+    let centre: &[f64] = if misread == Some(Misread::NoCentre) { points[group[0]] } else { &mean };
     let mut best = group[0];
     for i in group {
         let (this, least) = (squared_distance(points[*i], centre), squared_distance(points[best], centre));
-        if this < least || this == least && misread == Misread::LastOfEquals {
+        if this < least || this == least && misread == Some(Misread::LastOfEquals) {
             best = *i;
         }
     }

@@ -23,11 +23,12 @@ pub enum Call {
     LoopSubdivision,
     ReadScan,
     ScanSheet,
+    PutTogetherByCell,
 }
 
 impl Call {
     /// In the order in which they came to be compared.
-    pub const ALL: [Call; 18] = [
+    pub const ALL: [Call; 19] = [
         Call::MeshNumber,
         Call::Face,
         Call::RemoveUnusedAttrs,
@@ -46,6 +47,7 @@ impl Call {
         Call::LoopSubdivision,
         Call::ReadScan,
         Call::ScanSheet,
+        Call::PutTogetherByCell,
     ];
 
     /// The name in the C interface, without its prefix.
@@ -69,6 +71,7 @@ impl Call {
             Call::LoopSubdivision => "loop_subdivision",
             Call::ReadScan => "read_scan",
             Call::ScanSheet => "scan_sheet",
+            Call::PutTogetherByCell => "put_together_by_cell",
         }
     }
 
@@ -78,6 +81,11 @@ impl Call {
             Call::ReadScan | Call::ScanSheet => About::Scan,
             _ => About::Mesh,
         }
+    }
+
+    /// Whether it is one of the two calls that merge. They are asked the same and must answer the same.
+    pub fn merges(self) -> bool {
+        [Call::PutTogetherSameAttrs, Call::PutTogetherByCell].contains(&self)
     }
 
     /// Whether the call reads a file in the place of a mesh.
@@ -94,7 +102,7 @@ pub enum About {
     Scan,
 }
 
-/// All that a call can be given. A call looks at its own part: `face`, `tolerance`, `use_normal` and the cosines belong to one call each, `file` to
+/// All that a call can be given. A call looks at its own part: `face`, `use_normal` and the cosines belong to one call each, `tolerance` to the two that merge, `file` to
 /// those that read a panel file or a scan, of the mesh only the faces to `push`, `rooms` holds the length of each lent result list, in the order of the C interface.
 #[derive(Clone, Debug, Default)]
 pub struct Question {
@@ -147,7 +155,7 @@ impl Answer {
             Call::Face => (vec![], 2),
             Call::RemoveUnusedAttrs => (vec![words(), floats(), floats(), floats()], 3),
             Call::RemoveDegenerateFaces => (vec![words(), words(), words()], 2),
-            Call::PutTogetherSameAttrs => (vec![words()], 3),
+            Call::PutTogetherSameAttrs | Call::PutTogetherByCell => (vec![words()], 3),
             Call::ShellCondition => return Answer { number, lists: vec![], counts: vec![Count::Untouched] },
             Call::HemEdges => (vec![words(), words()], 1),
             Call::Push | Call::ExtractBoundaries | Call::HouseWires | Call::Components => (vec![words(), words()], 2),

@@ -23,9 +23,9 @@ use record::{File, List};
 /// The longest file that the list holds as an answer.
 const MOST_BYTES: usize = 4_096;
 
-/// The calls that the list asks: all but the sheets, of a panel file and of a scan.
+/// The calls that the list asks: all but the sheets, of a panel file and of a scan, and merging by cell, which answers what the plain call does.
 fn calls() -> impl Iterator<Item = Call> {
-    Call::ALL.into_iter().filter(|call| ![Call::Sheet, Call::ScanSheet].contains(call))
+    Call::ALL.into_iter().filter(|call| ![Call::Sheet, Call::ScanSheet, Call::PutTogetherByCell].contains(call))
 }
 
 /// Those that are asked of every mesh. Smoothing has surfaces of its own.

@@ -113,6 +113,7 @@ fn kind(call: Call) -> u32 {
         Call::LoopSubdivision => 16,
         Call::ReadScan => 18,
         Call::Sheet | Call::ScanSheet => unreachable!("the list does not ask the sheets"),
+        Call::PutTogetherByCell => unreachable!("the list asks the plain call"),
         _ => 1 + place(call) as u32,
     }
 }

@@ -334,12 +334,31 @@ impl<'a> Mesh<'a> {
         Ok(Unfolded { faces: made, origins })
     }
 
-    /// Merging: near positions, texture points and normals each get the index of one of them.
+    /// Merging: near positions, texture points and normals each get the index of one of them. It looks at every pair of points: take
+    /// [`put_together_by_cell`](Self::put_together_by_cell) where there are hundreds of points or more.
     pub fn put_together_same_attrs(self, tolerance: f64) -> Result<Merged, Refusal> {
         let mut made = Merged { corners: vec![0; self.corners.len()], ..Merged::default() };
         let number = on!(
             self,
             bh_put_together_same_attrs,
+            tolerance,
+            made.corners.as_mut_ptr(),
+            made.corners.len(),
+            &mut made.position_pairs,
+            &mut made.texture_pairs,
+            &mut made.normal_pairs
+        );
+        Refusal::unless_done(number)?;
+        Ok(made)
+    }
+
+    /// Merging by cell: the very answers of [`put_together_same_attrs`](Self::put_together_same_attrs), found another way. The points are ordered by
+    /// cell, and only cells within two on each axis are looked at: take it for hundreds of points or more, as in a scan.
+    pub fn put_together_by_cell(self, tolerance: f64) -> Result<Merged, Refusal> {
+        let mut made = Merged { corners: vec![0; self.corners.len()], ..Merged::default() };
+        let number = on!(
+            self,
+            bh_put_together_by_cell,
             tolerance,
             made.corners.as_mut_ptr(),
             made.corners.len(),

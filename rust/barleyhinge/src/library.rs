@@ -72,6 +72,19 @@ extern "C" {
         normalpairs: *mut usize,
     ) -> u32;
 
+    pub fn bh_put_together_by_cell(
+        positions: *const f64, positions_len: usize,
+        textures: *const f64, textures_len: usize,
+        normals: *const f64, normals_len: usize,
+        corners: *const u32, corners_len: usize,
+        sizes: *const u32, sizes_len: usize,
+        tolerance: f64,
+        newcorners: *mut u32, newcorners_len: usize,
+        positionpairs: *mut usize,
+        texturepairs: *mut usize,
+        normalpairs: *mut usize,
+    ) -> u32;
+
     pub fn bh_loop_subdivision(
         positions: *const f64, positions_len: usize,
         textures: *const f64, textures_len: usize,

@@ -1,14 +1,14 @@
--- `merging::merge_list` meets its contract, by the laws of `OneList`. Assumes nothing.
+-- `merging::merge_list` meets its contract, by the laws of `OneList`, whichever engine it goes by. Assumes nothing.
 use mathlib.Core.Path.{_≡_, sym}
 use Prim.Native.Nat.{ℕ}
-use native.Mathlib.Omega.{arith}
 use lib.Seq.{length-take-le}
 use lib.ListN.{length, take, replicate, length-replicate}
 use denote.Ref.{now}
-use borrow.Author.Needs.{needs}
 use Rattle.mesh.specs.Limits.{pointNumbers}
 use Rattle.together.proofs.OneList.{fits, cells-are, listed, pairs-are, settled-are}
 use Rattle.nearby.specs.Engine.{cellsOf}
+use native.Mathlib.Omega.{arith}
+use borrow.Author.Needs.{needs}
 use Rattle.merging.proofs.merge_list.Statement.{statement}
 use Rattle.merging.proofs.merge_list.Tie as tie
 
@@ -25,10 +25,15 @@ slice-aggregate-fill-cells : tie.Need-slice-aggregate-fill-cells
 slice-aggregate-fill-cells c = search needs
 
 fill-cells-requires : tie.Need-fill-cells-requires
-fill-cells-requires c κs = (c .before .before .before .pre .near, omega (arith, fits (c .before .before .before .pre), length-replicate {A = ℕ} pointNumbers 0))
+fill-cells-requires c κs =
+    let pre = c .before .before .before .pre in
+    (pre .near, omega (arith, fits pre, length-replicate {A = ℕ} pointNumbers 0))
 
 array-share-prefix-room : tie.Need-array-share-prefix-room
-array-share-prefix-room c = omega (arith, fits (c .before .before .before .before .before .pre), c .before .fill-cells .kept .1 .1 .0, length-replicate {A = ℕ} pointNumbers 0)
+array-share-prefix-room c =
+    let pre = c .before .before .before .before .before .pre in
+    let fill-cells = c .before .fill-cells in
+    omega (arith, fits pre, fill-cells .kept .1 .1 .0, length-replicate {A = ℕ} pointNumbers 0)
 
 slice-aggregate-cells : tie.Need-slice-aggregate-cells
 slice-aggregate-cells c =
@@ -36,14 +41,11 @@ slice-aggregate-cells c =
     let fill-cells = c .before .before .fill-cells in
     sym (length-take-le _ _ (omega (arith, fits pre, fill-cells .kept .1 .1 .0, length-replicate {A = ℕ} pointNumbers 0)))
 
-merge-groups-requires : tie.Need-merge-groups-requires
-merge-groups-requires c κs =
-    let pre = c .before .before .before .before .before .before .before .pre in
-    let before = c .before .before .before in
-    (listed pre _ (cells (before)), pre .room)
-
-count-pairs-requires : tie.Need-count-pairs-requires
-count-pairs-requires c κs = listed (c .before .before .before .before .before .before .before .before .before .before .pre) _ (cells (c .before .before .before .before .before .before)) .points
+merge-by-cell-requires : tie.Need-merge-by-cell-requires
+merge-by-cell-requires c κs =
+    let pre = c .before .before .before .before .before .before .before .before .pre in
+    let at-fill-cells = c .before .before .before .before in
+    (listed pre _ (cells at-fill-cells), pre .room)
 
 same-length : tie.Need-same-length
 same-length c = search needs
@@ -51,10 +53,32 @@ same-length c = search needs
 returns : tie.Need-returns
 returns c =
     let pre = c .before .before .before .before .before .before .before .before .before .before .before .pre in
-    let before = c .before .before .before .before .before .before .before in
-    let merge-groups = c .before .before .before .merge-groups in
+    let at-fill-cells = c .before .before .before .before .before .before .before in
+    let merge-by-cell = c .before .before .merge-by-cell in
+    (pairs-are pre _ (cells at-fill-cells) _ (merge-by-cell .ensures .0), settled-are pre _ (cells at-fill-cells) _ (merge-by-cell .ensures .1))
+
+merge-groups-requires : tie.Need-merge-groups-requires
+merge-groups-requires c κs =
+    let pre = c .before .before .before .before .before .before .before .before .pre in
+    let at-fill-cells = c .before .before .before .before in
+    (listed pre _ (cells at-fill-cells), pre .room)
+
+count-pairs-requires : tie.Need-count-pairs-requires
+count-pairs-requires c κs =
+    let pre = c .before .before .before .before .before .before .before .before .before .before .before .pre in
+    let at-fill-cells = c .before .before .before .before .before .before .before in
+    listed pre _ (cells at-fill-cells) .points
+
+same-length-2 : tie.Need-same-length-2
+same-length-2 c = search needs
+
+returns-2 : tie.Need-returns-2
+returns-2 c =
+    let pre = c .before .before .before .before .before .before .before .before .before .before .before .before .pre in
+    let at-fill-cells = c .before .before .before .before .before .before .before .before in
     let count-pairs = c .count-pairs in
-    (pairs-are pre _ (cells (before)) _ (count-pairs .ensures), settled-are pre _ (cells (before)) _ (merge-groups .ensures))
+    let merge-groups = c .before .before .before .merge-groups in
+    (pairs-are pre _ (cells at-fill-cells) _ (count-pairs .ensures), settled-are pre _ (cells at-fill-cells) _ (merge-groups .ensures))
 
 pub merge-list-spec : {M : Type 1} → statement M
 merge-list-spec =
@@ -64,7 +88,10 @@ merge-list-spec =
     fill-cells-requires
     array-share-prefix-room
     slice-aggregate-cells
+    merge-by-cell-requires
+    same-length
+    returns
     merge-groups-requires
     count-pairs-requires
-    same-length
-    returns)
+    same-length-2
+    returns-2)

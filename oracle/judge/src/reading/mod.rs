@@ -31,7 +31,10 @@ pub fn answer(call: Call, question: &Question) -> Answer {
         }
         Call::RemoveUnusedAttrs => Answer::compacted(cleaning::remove_unused_attrs(mesh)),
         Call::RemoveDegenerateFaces => Answer::unfolded(cleaning::remove_degenerate_faces(mesh)),
-        Call::PutTogetherSameAttrs => Answer::merged(merging::put_together_same_attrs(mesh, question.tolerance)),
+        // Two engines, one meaning: request 9 of document 02 asks for the same representatives and the same pairs.
+        Call::PutTogetherSameAttrs | Call::PutTogetherByCell => {
+            Answer::merged(merging::put_together_same_attrs(mesh, question.tolerance))
+        }
         Call::ShellCondition => Answer::verdict(edges::verdict(mesh)),
         Call::HemEdges => Answer::hem_edges(&edges::hem_edges(mesh)),
         Call::ExtractBoundaries => Answer::rows(&edges::ported_wires(mesh)),

@@ -22,7 +22,9 @@ pub fn number(call: Call, question: &Question) -> u32 {
     match call {
         Call::Face => 0,
         Call::MeshNumber | Call::ShellCondition => mesh_number(mesh),
-        Call::PutTogetherSameAttrs => first(&[mesh_number(mesh), merging_number(mesh, question.tolerance), rooms]),
+        Call::PutTogetherSameAttrs | Call::PutTogetherByCell => {
+            first(&[mesh_number(mesh), merging_number(mesh, question.tolerance), rooms])
+        }
         Call::HouseWires => match first(&[mesh_number(mesh), rooms]) {
             0 if [Verdict::Irregular, Verdict::Regular].contains(&edges::verdict(mesh)) => 10,
             number => number,
@@ -140,7 +142,7 @@ pub fn stated_rooms(call: Call, mesh: &Mesh) -> Vec<usize> {
         Call::MeshNumber | Call::Face | Call::ShellCondition => vec![],
         Call::RemoveUnusedAttrs => vec![mesh.corners.len(), mesh.positions.len(), mesh.textures.len(), mesh.normals.len()],
         Call::RemoveDegenerateFaces => vec![mesh.corners.len(), corners / 3, corners / 3],
-        Call::PutTogetherSameAttrs => vec![mesh.corners.len()],
+        Call::PutTogetherSameAttrs | Call::PutTogetherByCell => vec![mesh.corners.len()],
         // Document 01 names no call for `push`: as for compaction, the input's own lengths.
         Call::Push => vec![mesh.corners.len(), mesh.sizes.len()],
         // Document 01 names no call for the hem edges: its starts and its ends have room as wires have.
