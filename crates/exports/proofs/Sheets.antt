@@ -63,14 +63,14 @@ module _ (a : List ℕ) (e : fileNumber a ≡ 0) where
 
 -- with its room a call answers 0 and writes the sheet
 module _ {a : List ℕ} (r : SheetCall a) where
-  call-done : r .answer .number ≡ 0
+  pub call-done : r .answer .number ≡ 0
   unfolding sheetNumber short
   call-done = r .contract .number ∙ rw (le-ltb (length (r .out)) sheetRoom (r .room))
 
-  as-long : r .answer .length ≡ length (sheetOf a)
+  pub as-long : r .answer .length ≡ length (sheetOf a)
   as-long = r .contract .count ∙ after-done (r .answer .number) (length (sheetOf a)) 0 call-done
 
-  sheet-written : written r ≡ sheetOf a
+  pub sheet-written : written r ≡ sheetOf a
   sheet-written =
       ap₂ take as-long (r .contract .bytes ∙ after-done (r .answer .number) (sets (r .out) 0 (sheetOf a)) (r .out) call-done)
       ∙ take-written (r .out) (sheetOf a) (length (sheetOf a)) refl (omega (arith, as-long, r .contract .fits))

@@ -1,7 +1,7 @@
 //! Holds what the product answered to what the judge answers, and the judge's parts to each other.
 
 use crate::library::{Asked, Product, UNTOUCHED};
-use crate::round_trip;
+use crate::{orders, round_trip};
 use judge::{reading, rust, Answer, Call, Count, Numbers, Question};
 
 /// A change to what the product answered, before it is compared: see `slips`.
@@ -15,6 +15,8 @@ pub struct Compared {
     pub with_rust: bool,
     /// Whether what was written was read back and written again.
     pub with_way_back: bool,
+    /// Whether the mesh was cleaned in every order, or the cleaned file again.
+    pub with_orders: bool,
     /// What is wrong, in words; none where all agree.
     pub difference: Option<String>,
 }
@@ -25,7 +27,7 @@ pub fn compare(product: &dyn Product, call: Call, question: &Question, slip: Opt
     let with_rust = rust_knows(call, question, &right) && has_turn(call, question, &right);
     if with_rust {
         if let Some(difference) = rust_differs(call, question, &right) {
-            return Compared { right, with_rust, with_way_back: false, difference: Some(difference) };
+            return Compared { right, with_rust, with_way_back: false, with_orders: false, difference: Some(difference) };
         }
     }
     let mut asked = product.ask(call, question);
@@ -33,15 +35,24 @@ pub fn compare(product: &dyn Product, call: Call, question: &Question, slip: Opt
         slip(&mut asked, question, &right);
     }
     let with_way_back = call == Call::WritePanel && right.number == 0 && product.has(Call::ReadPanel);
-    let difference = difference(&asked, &right).or_else(|| {
-        if with_way_back {
-            round_trip::differs(product, &question.mesh, &asked)
-        } else {
-            None
-        }
+    let with_orders = right.number == 0 && has_orders(product, call);
+    let difference = difference(&asked, &right).or_else(|| match call {
+        Call::WritePanel if with_way_back => round_trip::differs(product, &question.mesh, &asked),
+        Call::RemoveDegenerateFaces if with_orders => orders::differ(product, &question.mesh, None),
+        Call::CleanPanel if with_orders => orders::files_differ(product, &question.file, &asked),
+        _ => None,
     });
     let difference = difference.map(|difference| format!("the product differs: {difference}"));
-    Compared { right, with_rust, with_way_back, difference }
+    Compared { right, with_rust, with_way_back, with_orders, difference }
+}
+
+/// Whether the product can clean in another order what this call is asked of.
+fn has_orders(product: &dyn Product, call: Call) -> bool {
+    match call {
+        Call::RemoveDegenerateFaces => product.has(Call::RemoveUnusedAttrs),
+        Call::CleanPanel => true,
+        _ => false,
+    }
 }
 
 /// Where the Rust, untouched or ascending, answers something else than document 01's reading; none where it agrees, or is not asked.

@@ -2,7 +2,7 @@
 //!
 //! `library` asks the product, with lent lists that are filled with a pattern (`lent`); `check` holds what came back to the judge's
 //! answer. `meshes`, `shapes`, `pinched`, `round`, `surfaces`, `coordinates`, `damage`, `files`, `faults` and `scans` make what is asked. A difference is made small by
-//! `shrink` and printed by `show`. What was written is read back by `round_trip`.
+//! `shrink` and printed by `show`. What was written is read back by `round_trip`, and what was cleaned is cleaned in every other order by `orders`.
 //! `slips`, `wrong`, `wrong_broken` (over `one_by_one`), `wrong_files`, `wrong_house`, `wrong_large`, `wrong_merging`, `wrong_removal`, `wrong_scans`
 //! (over `wrong_scan`) and `wrong_smoothing` (over `wrong_points`) show that the comparer can fail. What is public
 //! serves the lister too.
@@ -17,6 +17,7 @@ mod library;
 pub mod meshes;
 mod one_by_one;
 mod options;
+mod orders;
 mod pinched;
 pub mod random;
 mod round;

@@ -3,9 +3,11 @@
 use crate::check::{compare, Slip};
 use crate::library::{Asked, Product, UNTOUCHED};
 use crate::meshes;
+use crate::orders;
 use crate::random::Random;
 use crate::run::Subject;
 use crate::wrong::{self, Wrong};
+use judge::reading::numbers::mesh_number;
 use judge::{Answer, Call, Numbers, Question};
 
 /// How many meshes or files a slip may take to be found.
@@ -80,6 +82,11 @@ pub fn run(product: &dyn Product, calls: &[Call], seed: u64) -> i32 {
             let slip = |asked: &mut Asked, question: &Question, right: &Answer| mistake(*call, asked, question, right, *wrong);
             missed += report(*call, name, found(product, *call, seed, Some(&slip), PATIENCE));
         }
+        if *call == Call::RemoveDegenerateFaces && product.has(Call::RemoveUnusedAttrs) {
+            for (name, slip) in orders::SLIPS {
+                missed += report(*call, name, found_in_orders(product, seed, slip));
+            }
+        }
     }
     println!("{}", if missed == 0 { "every slip was found" } else { "NOT EVERY SLIP WAS FOUND" });
     (missed > 0) as i32
@@ -107,5 +114,18 @@ fn found(product: &dyn Product, call: Call, seed: u64, slip: Option<Slip>, patie
         let mut subject = Subject::of(&random, call.about(), meshes::exhaustive_count() + count);
         let question = subject.question(&random, call);
         question.map_or(false, |question| compare(product, call, question, slip).difference.is_some())
+    })
+}
+
+/// The mesh at which the comparer saw a difference between two orders of cleaning.
+fn found_in_orders(product: &dyn Product, seed: u64, slip: orders::Slip) -> Option<u64> {
+    (1..=PATIENCE).find(|count| {
+        let random = Random::of(seed, *count);
+        let call = Call::RemoveDegenerateFaces;
+        let mut subject = Subject::of(&random, call.about(), meshes::exhaustive_count() + count);
+        let question = subject.question(&random, call);
+        question.map_or(false, |question| {
+            mesh_number(&question.mesh) == 0 && orders::differ(product, &question.mesh, Some(slip)).is_some()
+        })
     })
 }

@@ -13,6 +13,8 @@ struct Asked {
     with_rust: u64,
     /// Questions whose answer shows something: see `shows`.
     telling: u64,
+    /// Questions whose mesh was cleaned in every order, or whose cleaned file was cleaned again.
+    with_orders: u64,
     /// The most corners and the most points of a mesh that the Rust was asked about, and the most corners of a face.
     corners: usize,
     face: usize,
@@ -34,6 +36,7 @@ impl Tally {
         let mesh = &question.mesh;
         asked.by_number[compared.right.number as usize] += 1;
         asked.with_rust += compared.with_rust as u64;
+        asked.with_orders += compared.with_orders as u64;
         if compared.with_rust {
             asked.corners = asked.corners.max(mesh.corner_count());
             asked.face = asked.face.max(mesh.sizes.iter().max().map_or(0, |size| *size as usize));
@@ -71,6 +74,10 @@ impl Tally {
             }
             if let Some(what) = shows(*call) {
                 println!("  {:<26}{what}: {}", "", grouped(asked.telling));
+            }
+            if asked.with_orders > 0 {
+                let what = if call.reads_a_file() { "cleaned again" } else { "cleaned in every order" };
+                println!("  {:<26}{what}: {}", "", grouped(asked.with_orders));
             }
             if *call == Call::ShellCondition {
                 let [irregular, regular, oriented, closed] = self.verdicts.map(grouped);

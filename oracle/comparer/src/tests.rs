@@ -1,7 +1,7 @@
 //! Tests of the comparer, and of what in the Rust rests on the order of its maps.
 
 use crate::check::compare;
-use crate::library::{Asked, Product};
+use crate::library::{Asked, Product, Reading};
 use crate::meshes;
 use crate::random::Random;
 use crate::run::{run, Subject};
@@ -10,7 +10,7 @@ use crate::wrong_by_cell::by_cell;
 use crate::wrong::answers;
 use crate::{scans, surfaces, wrong_points, wrong_scan, wrong_smoothing};
 use judge::reading::numbers::mesh_number;
-use judge::{reading, rust, Answer, Call, Mesh, Numbers, Question};
+use judge::{reading, rust, Answer, Call, Mesh, Numbers, Question, MISSING};
 use std::collections::{BTreeMap, BTreeSet};
 
 fn words(words: &str) -> Vec<String> {
@@ -252,4 +252,34 @@ fn the_order_of_the_map_of_edges_changes_no_smoothing() {
         let [untouched, ascending] = made.map(|made| format!("{:?}", Answer::smoothed(made)));
         assert_eq!(untouched, ascending);
     }
+}
+
+/// A product whose removal is right and whose compaction misreads something.
+struct RightRemoval(Misreading);
+
+impl Product for RightRemoval {
+    fn has(&self, call: Call) -> bool {
+        [Call::RemoveDegenerateFaces, Call::RemoveUnusedAttrs].contains(&call)
+    }
+
+    fn ask(&self, call: Call, question: &Question) -> Asked {
+        match call {
+            Call::RemoveDegenerateFaces => Asked::answering(call, question, &reading::answer(call, question)),
+            _ => self.0.ask(call, question),
+        }
+    }
+}
+
+#[test]
+fn orders_that_leave_another_mesh_are_found() {
+    let positions = (0..9).map(f64::from).collect();
+    let corners = [2, 1, 0].iter().flat_map(|position| [*position, MISSING, MISSING]).collect();
+    let mesh = Mesh { positions, corners, sizes: vec![3], ..Mesh::default() };
+    let rooms = reading::numbers::stated_rooms(Call::RemoveDegenerateFaces, &mesh);
+    let question = Question { mesh, rooms, ..Question::default() };
+    let differs = |product: &dyn Product| compare(product, Call::RemoveDegenerateFaces, &question, None).difference;
+    assert_eq!(differs(&Reading), None);
+    let old_order = RightRemoval(Misreading(Call::RemoveUnusedAttrs, "entries kept in their old order"));
+    let found = "the product differs: [Remove, Compact, Compact] leaves another mesh than [Remove, Compact]";
+    assert!(differs(&old_order).unwrap().starts_with(found));
 }

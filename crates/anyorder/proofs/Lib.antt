@@ -1,0 +1,9 @@
+pub mod Changed
+pub mod Columns
+pub mod Twice
+pub mod Removal
+pub mod Cleaning
+pub mod Orders
+pub mod Calls
+pub mod CanBeHad
+pub mod Needed

@@ -1,0 +1,4 @@
+pub mod Orders
+pub mod Promises
+pub mod Calls
+pub mod Needed
