@@ -11,14 +11,14 @@
 /* A mesh at the full limits. */
 struct mesh {
     double positions[3 * BH_MAX_ENTRIES], textures[2 * BH_MAX_ENTRIES], normals[3 * BH_MAX_ENTRIES];
-    uint32_t corners[3 * BH_MAX_CORNERS], sizes[BH_MAX_FACES];
+    uint32_t corners[BH_CORNER_WIDTH * BH_MAX_CORNERS], sizes[BH_MAX_FACES];
     size_t positioncount, texturecount, normalcount, cornercount, facecount;
 };
 
 /* The five lists of a mesh, as every call on a mesh takes them. */
 #define LISTS(m) \
     (m)->positions, 3 * (m)->positioncount, (m)->textures, 2 * (m)->texturecount, (m)->normals, 3 * (m)->normalcount, \
-    (m)->corners, 3 * (m)->cornercount, (m)->sizes, (m)->facecount
+    (m)->corners, BH_CORNER_WIDTH * (m)->cornercount, (m)->sizes, (m)->facecount
 /* A lent list: where it is, and its whole length. */
 #define ROOM(list) list, sizeof list / sizeof *list
 
@@ -88,7 +88,7 @@ static void print_sheet(void) {
 
 /* The faces in the opposite order, so that larger ones come first, and a face of no corners; grouped again, in 'left'. */
 static void print_turned(void) {
-    static uint32_t corners[3 * BH_MAX_CORNERS], sizes[BH_MAX_FACES];
+    static uint32_t corners[BH_CORNER_WIDTH * BH_MAX_CORNERS], sizes[BH_MAX_FACES];
     size_t start, len, at = 0, faces = 0;
     for (size_t k = clean.facecount; k > 0; k--) {
         bh_face(LISTS(&clean), k - 1, &start, &len);

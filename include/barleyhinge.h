@@ -7,8 +7,9 @@
      positions  3 numbers to a position       at most BH_MAX_ENTRIES positions
      textures   2 numbers to a texture point  at most BH_MAX_ENTRIES
      normals    3 numbers to a normal         at most BH_MAX_ENTRIES
-     corners    3 numbers to a corner: the index of its position, of its texture point and of its normal; at most BH_MAX_CORNERS.
-                BH_MISSING is no index: a texture point or a normal may be missing, a position never
+     corners    BH_CORNER_WIDTH numbers to a corner: the index of its position, of its texture point and of its normal, and its mark; at most
+                BH_MAX_CORNERS. BH_MISSING is no index: a texture point or a normal may be missing, a position never. The mark, 0 for none, may be
+                any number: no rule tests it, and it moves with its corner
      sizes      how many corners each face has, 3 to BH_MAX_FACE_CORNERS: triangles first, then quadrangles, then larger faces.
                 The corners of the faces stand one after the other in 'corners'; so faces are numbered, from 0
 
@@ -31,12 +32,13 @@
 #ifndef BARLEYHINGE_H
 #define BARLEYHINGE_H
 
-/* The version of this interface. Since 0.8.0 a face may have 300 corners, where it was 32: compile anew what has arrays of BH_MAX_FACE_CORNERS. A panel
-   file has a face of more than 32 corners as a record of kind 5, which an older reader refuses by 12. No function has another signature. */
+/* The version of this interface. Since 0.10.0 a corner is four numbers, where it was three: every list of corners has another length, and what was
+   compiled before must not be linked with it, though no function has another signature. A panel file has a face with a mark as a record of kind 6, which
+   an older reader refuses by 12. Since 0.8.0 a face may have 300 corners, where it was 32, and one of more than 32 is a record of kind 5. */
 #define BH_VERSION_MAJOR 0
-#define BH_VERSION_MINOR 9
+#define BH_VERSION_MINOR 10
 #define BH_VERSION_PATCH 0
-#define BH_VERSION "0.9.0"
+#define BH_VERSION "0.10.0"
 
 #include <stdbool.h>
 #include <stddef.h>
@@ -51,6 +53,7 @@ extern "C" {
 
 /* The limits. */
 enum bh_limit {
+    BH_CORNER_WIDTH = 4,  /* numbers of a corner: position, texture point, normal, mark */
     BH_MAX_ENTRIES = 2048,
     BH_MAX_CORNERS = 4096,
     BH_MAX_FACES = 1365,
@@ -58,7 +61,7 @@ enum bh_limit {
     BH_COSINES = 64,      /* values in a list of cosines, and the most neighbours of a position that is smoothed */
     BH_MAX_FILE = 65536,  /* bytes of a panel file that has a sheet; of a longer one the sheet is 'refused 1' */
     BH_SHEET_ROOM = 65536, /* bytes: room for every sheet */
-    BH_FILE_ROOM = 211629  /* bytes: room for every panel file that a mesh can make, all of its lists at their limits */
+    BH_FILE_ROOM = 229378  /* bytes: room for every panel file that a mesh can make, all of its lists at their limits and a mark in every face */
 };
 
 /* The numbers that calls return. */
@@ -75,7 +78,7 @@ enum bh_number {
     BH_ROOM = 9,            /* a lent list is shorter than its stated room */
     BH_NO_HOUSE_WIRES = 10, /* house wires, or smoothing, where the verdict is neither Oriented nor Closed */
     BH_FILE_CUT = 11,       /* the file stops inside a record, or before its end record; a scan stops before the last triangle of its count */
-    BH_RECORD = 12,         /* a record's kind is unknown, or its length is wrong for its kind */
+    BH_RECORD = 12,         /* a record's kind is unknown, or its length is wrong for its kind, or a face of kind 6 has no mark */
     BH_AFTER_END = 13,      /* bytes follow the end record, or the last triangle of a scan */
     BH_NOT_FINITE = 14,     /* a coordinate in a file is not finite: not a number, or an infinity */
     BH_NOT_TRIANGLE = 15,   /* smoothing: a face isn't a triangle */
@@ -153,7 +156,7 @@ void bh_face(
    order in which they came. Faces of fewer than three corners are dropped. 'corners' has the corners of all faces, one face behind the
    other, and 'sizes' how many corners each has, 0 to BH_MAX_FACE_CORNERS.
    Lends two lists, each with the room of the list that it is made from.
-   On 0: 3 numbers in 'newcorners' for each of '*cornercount' corners, and '*facecount' sizes.
+   On 0: BH_CORNER_WIDTH numbers in 'newcorners' for each of '*cornercount' corners, each with its mark, and '*facecount' sizes.
    Answers 1, 2, 3 (a face of more than 300 corners) or 9. Indices are not looked at: bh_mesh_number does that, and answers 5.
    Stack: 1 KB. */
 uint32_t bh_push(
@@ -164,7 +167,7 @@ uint32_t bh_push(
     size_t *cornercount,
     size_t *facecount);
 
-/* Compaction: entries that no corner uses go; the others are renumbered by first use, from 0, each of the three lists by itself.
+/* Compaction: entries that no corner uses go; the others are renumbered by first use, from 0, each of the three lists by itself. Marks stay.
    Lends four lists, each with the room of the list that it is made from. The sizes don't change and are not given back.
    On 0: corners_len numbers in 'newcorners', and in the other three 3, 2 and 3 numbers for each position, texture point and normal
    that '*positioncount', '*texturecount' and '*normalcount' count. A missing index stays missing. Each number, the infinities and both
@@ -187,8 +190,8 @@ uint32_t bh_remove_unused_attrs(
 
 /* Folded faces (two corners with one position) go or are cut open; no face of the result is folded.
    Lends 'newcorners', with room for corners_len numbers, and 'newsizes' and 'origins', each with room for a third of the count of
-   corners, rounded down (corners_len / 9). The attribute lists don't change.
-   On 0: 3 numbers in 'newcorners' for each of '*cornercount' corners, '*facecount' sizes, and as many origins: face k of the result
+   corners, rounded down (corners_len / BH_CORNER_WIDTH / 3). The attribute lists don't change.
+   On 0: BH_CORNER_WIDTH numbers in 'newcorners' for each of '*cornercount' corners, '*facecount' sizes, and as many origins: face k of the result
    came from face origins[k]. Where nothing is folded they are 0, 1, 2, .. . bh_remove_unused_attrs changes no face's number, so they
    hold after it too.
    May also answer 9.
@@ -207,7 +210,7 @@ uint32_t bh_remove_degenerate_faces(
 
 /* Merging: near positions, texture points and normals each get the index of one of them. Positions are first scaled to their box.
    'tolerance' is from 2^-30 to 1. Lends 'newcorners', with room for corners_len numbers; the other lists don't change.
-   On 0: corners_len numbers in 'newcorners', and how many pairs were compared among positions, texture points and normals.
+   On 0: corners_len numbers in 'newcorners', each corner with its own mark, and how many pairs were compared among positions, texture points and normals.
    May also answer 6, 7, 8 and 9.
    Stack: 227 KB. */
 uint32_t bh_put_together_same_attrs(
@@ -242,11 +245,11 @@ uint32_t bh_put_together_by_cell(
 
 /* Smoothing by Loop's method: four triangles for one, with new positions. Every face is a triangle, none is folded, every position is in
    some face, and the verdict is Oriented or Closed. Old positions are moved and come first, then one new position for each edge, in the
-   order of the edges' first use. Old corners keep their texture point and normal; the corners on edges have neither (BH_MISSING).
+   order of the edges' first use. Old corners keep their texture point, normal and mark; the corners on edges have no texture point and no normal (BH_MISSING), and a mark of 0.
    'ones' are the cosines of pi/n and 'twos' those of 2*pi/n, for n from 1 to BH_COSINES: ones[n - 1] is cos(pi / n).
-   Lends 'newpositions', with room for 3 numbers for each position and each corner (positions_len + corners_len), 'newcorners', with room
+   Lends 'newpositions', with room for 3 numbers for each position and each corner (positions_len + 3 * (corners_len / BH_CORNER_WIDTH)), 'newcorners', with room
    for 4 * corners_len numbers, and 'newsizes', with room for 4 * sizes_len. Texture points and normals don't change and are not given back.
-   On 0: 3 numbers for each of '*positioncount' positions, 3 for each of '*cornercount' corners, and '*facecount' sizes: with the texture
+   On 0: 3 numbers for each of '*positioncount' positions, BH_CORNER_WIDTH for each of '*cornercount' corners, and '*facecount' sizes: with the texture
    points and normals that were given, an accepted mesh.
    Answers, after 1 to 5 and in this order: 7 a position is not finite or too large; 15 a face is no triangle; 16 a face is folded or a
    position is in no face; 10 the verdict is neither Oriented nor Closed; 17 a cosine list has not BH_COSINES values, each from -1 to 1, or a
@@ -278,7 +281,7 @@ uint32_t bh_shell_condition(
     uint32_t *verdict);
 
 /* The hem edges: those used an odd number of times, ascending by their lower and then their higher position, each in the direction
-   of its last use. Lends 'starts' and 'ends', each with room for one number per corner (corners_len / 3).
+   of its last use. Lends 'starts' and 'ends', each with room for one number per corner (corners_len / BH_CORNER_WIDTH).
    On 0: '*count' edges, from starts[i] to ends[i].
    May also answer 9.
    Stack: 97 KB. */
@@ -293,7 +296,7 @@ uint32_t bh_hem_edges(
     size_t *count);
 
 /* The ported wires along the hem edges, as truck traces them, with its maps in ascending order.
-   Lends 'flat', with room for two numbers per corner (2 * (corners_len / 3)), and 'lengths', with room for one.
+   Lends 'flat', with room for two numbers per corner (2 * (corners_len / BH_CORNER_WIDTH)), and 'lengths', with room for one.
    On 0: '*flatcount' positions in 'flat', the wires one after the other, and in 'lengths' how many each of '*wirecount' wires has.
    May also answer 9.
    Stack: 153 KB. */
@@ -346,11 +349,11 @@ uint32_t bh_components(
     size_t *panelcount);
 
 /* Reads a panel file into five lists. Lends them at the full limits: 3 * BH_MAX_ENTRIES numbers for positions, 2 * BH_MAX_ENTRIES for
-   texture points, 3 * BH_MAX_ENTRIES for normals, 3 * BH_MAX_CORNERS for corners, BH_MAX_FACES for sizes.
+   texture points, 3 * BH_MAX_ENTRIES for normals, BH_CORNER_WIDTH * BH_MAX_CORNERS for corners, BH_MAX_FACES for sizes.
    On 0: the lists are a mesh, with so many positions, texture points, normals, corners and faces as the five counts say, and every
-   coordinate is finite.
+   coordinate is finite. Corners of a face of kind 6 have its marks, those of kinds 4 and 5 marks of 0.
    Answers, in this order: 9; record by record 11 header cut, 12 kind, 12 length, 11 body cut, 12 a face's own count is not that of its
-   length, 3 a face of more than 32 corners in kind 4 or of more than 300 in kind 5, 14 a coordinate that is not finite, 1 limit; then 13; then 5.
+   length, 12 a face of kind 6 whose marks are all 0, 3 a face of more than 32 corners in kind 4 or of more than 300 in kinds 5 and 6, 14 a coordinate that is not finite, 1 limit; then 13; then 5.
    Stack: 182 KB. */
 uint32_t bh_read_panel(
     const uint8_t *file, size_t file_len,
@@ -370,7 +373,7 @@ uint32_t bh_read_panel(
    read as zero first. Widening to double loses nothing. The header, the normals and the two-byte fields are passed over, whatever is in them; folded
    triangles are kept.
    Lends the five lists at the full limits, as bh_read_panel does; 'textures' and 'normals' are never written, and their counts are 0.
-   On 0: the lists are a mesh of triangles whose corners have no texture point and no normal, with so many positions, corners and faces as the counts
+   On 0: the lists are a mesh of triangles whose corners have no texture point, no normal and a mark of 0, with so many positions, corners and faces as the counts
    say; no two positions are equal, each is used, and every coordinate is finite.
    Answers, in this order: 9; 11 fewer than 84 bytes; 1 a count over BH_MAX_FACES; 11 or 13 where the length is below or above 84 + 50 * count; 14 a
    point that is not finite; 1 more than BH_MAX_ENTRIES different positions.
@@ -390,9 +393,9 @@ uint32_t bh_read_scan(
 
 /* Writes a mesh as a panel file: positions, texture points, normals, faces in their order, end. bh_read_panel of what was written gives the
    same mesh, bit for bit, and a mesh that was read from a written file is written as the same bytes.
-   A face of up to 32 corners is a record of kind 4, a larger one of kind 5.
-   Lends 'file', with room for the whole file: 28 bytes for a position or a normal, 20 for a texture point, 5 for a face of up to 32 corners,
-   6 for a larger one, and 12 for each corner of it, 4 for the end; BH_FILE_ROOM bytes are enough for every mesh.
+   A face with any mark not 0 is a record of kind 6; of the others one of up to 32 corners is of kind 4, a larger one of kind 5.
+   Lends 'file', with room for the whole file: 28 bytes for a position or a normal, 20 for a texture point; for a face without marks 5 where it has up to
+   32 corners and else 6, and 12 for each corner; for a face with a mark 6, and 16 for each corner; 4 for the end. BH_FILE_ROOM bytes are enough for every mesh.
    On 0: '*length' bytes in 'file'.
    May also answer 14, where a coordinate is not finite, of an entry that no corner uses too; then 9, where 'file' is shorter than the
    whole file.

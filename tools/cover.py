@@ -1,7 +1,8 @@
-"""What the sheet says of a cover, worked out again for its picture: folded faces, compaction, edges, verdict, hems, panels.
+"""What the sheet says of a cover, worked out again for its picture: folded faces, compaction, edges, verdict, hems, panels, marks.
 
-Outside the proofs, by the rules of document 01, hems by request 5 of document 02; test_draw_hems holds it to the stored sheets. A face here is
-(source, ring): where it stands in the drawing, and its positions. Texture points and normals change no hem.
+Outside the proofs, by the rules of document 01, hems by request 5 of document 02 and marks by request 11; test_draw_hems holds it to the stored
+sheets. A face here is (source, ring, marks): where it stands in the drawing, its positions, and the mark of each corner; without the last it has
+none. Texture points, normals and marks change no hem.
 """
 from dataclasses import dataclass, field
 
@@ -11,27 +12,28 @@ def grouped(faces):
     return [f for n in (3, 4) for f in faces if len(f[1]) == n] + [f for f in faces if len(f[1]) > 4]
 
 
-def split(ring):
+def split(ring, places):
     """A larger face cut open where two of its corners have equal positions; pieces of fewer than three corners vanish."""
-    for i, position in enumerate(ring):
-        if position in ring[i + 1 :]:
-            j = ring.index(position, i + 1)
-            return split(ring[i:j]) + split(ring[j:] + ring[:i])
-    return [ring] if len(ring) >= 3 else []
+    for i, place in enumerate(places):
+        for j in range(i + 1, len(places)):
+            if ring[places[j]] == ring[place]:
+                return split(ring, places[i:j]) + split(ring, places[j:] + places[:i])
+    return [places] if len(places) >= 3 else []
 
 
 def unfolded(ring):
-    """What a face leaves: nothing, itself, or pieces."""
+    """What a face leaves: nothing, itself, or pieces; each by the places of its corners in the ring, which say what else goes with them."""
+    whole = list(range(len(ring)))
     if len(ring) == 3:
-        return [ring] if len(set(ring)) == 3 else []
+        return [whole] if len(set(ring)) == 3 else []
     if len(ring) > 4:
-        return split(ring)
+        return split(ring, whole)
     a, b, c, d = ring
     if a == c or b == d or (a == b and c == d) or (b == c and d == a):
         return []
     if a == b or b == c:
-        return [[a, c, d]]
-    return [[a, b, c]] if c == d or d == a else [ring]
+        return [[0, 2, 3]]
+    return [[0, 1, 2]] if c == d or d == a else [whole]
 
 
 @dataclass
@@ -46,10 +48,12 @@ class Edge:
 
 @dataclass
 class Cover:
-    """A cover after cleaning. Position p of the sheet is position old[p] of the drawing; faces and edges have the sheet's numbers."""
+    """A cover after cleaning. Position p of the sheet is position old[p] of the drawing; faces and edges have the sheet's numbers. The marks are
+    those of each face's corners."""
 
     old: list
     faces: list
+    marks: list
     edges: dict
     verdict: str
     hem_edges: list
@@ -59,6 +63,15 @@ class Cover:
     def faults(self):
         """The edges that keep the verdict from being Oriented or Closed: used three times or more, or twice in one direction."""
         return sorted(key for key, edge in self.edges.items() if len(edge.uses) > 2 or edge.twice_one_way())
+
+    def marked(self):
+        """The corners that have each mark, as (face, place in its ring), by mark."""
+        out = {}
+        for f, marks in enumerate(self.marks):
+            for k, mark in enumerate(marks):
+                if mark:
+                    out.setdefault(mark, []).append((f, k))
+        return dict(sorted(out.items()))
 
 
 def edges_of(faces):
@@ -114,12 +127,16 @@ def panels_of(faces, edges):
 
 
 def cleaned(faces):
-    """The cover that the faces of a drawing leave; a face is (source, ring)."""
-    pieces = [(source, piece) for source, ring in grouped(faces) for piece in unfolded(list(ring))]
+    """The cover that the faces of a drawing leave; a face is (source, ring, marks), or (source, ring) without marks."""
+    pieces = []
+    for source, ring, *marks in grouped(faces):
+        marks = marks[0] if marks else [0] * len(ring)
+        pieces += [(source, [ring[k] for k in piece], [marks[k] for k in piece]) for piece in unfolded(ring)]
     new = {}
-    kept = [(source, [new.setdefault(p, len(new)) for p in ring]) for source, ring in grouped(pieces)]
+    kept = [(source, [new.setdefault(p, len(new)) for p in ring]) for source, ring, _ in grouped(pieces)]
+    marks = [marks for _, _, marks in grouped(pieces)]
     edges = edges_of(kept)
     once = [(a, b) if edge.uses[0][1] else (b, a) for (a, b), edge in edges.items() if len(edge.uses) == 1]
     verdict = verdict_of(edges)
     hems = house_wires(kept, once) if verdict in ("Oriented", "Closed") else []
-    return Cover(list(new), kept, edges, verdict, once, hems, panels_of(kept, edges))
+    return Cover(list(new), kept, marks, edges, verdict, once, hems, panels_of(kept, edges))

@@ -52,6 +52,7 @@ class Unreadable(Exception):
 # A limit: its name behind BH_ and in the wrapper; each place of the source that has it, which must all say the same.
 LIMIT_PLACES = {
     "MISSING": ((LIMITS, r"^largest = (\d+)$"), (CONSTS, r"const LARGEST: u32 = (\d+);")),
+    "CORNER_WIDTH": ((LIMITS, r"^width = (\d+)$"), (CONSTS, r"const WIDTH: usize = (\d+);")),
     "MAX_ENTRIES": ((LIMITS, r"^entryLimit = (\d+)$"), (CONSTS, r"const ENTRIES: usize = (\d+);")),
     "MAX_CORNERS": ((LIMITS, r"^cornerLimit = (\d+)$"), (CONSTS, r"const CORNERS: usize = (\d+);")),
     "MAX_FACES": ((LIMITS, r"^faceLimit = (\d+)$"), (CONSTS, r"const FACES: usize = (\d+);")),
@@ -99,12 +100,28 @@ OTHER_ROWS = (
     ("OVER_LIMIT", SCAN, r"when \(ltb entryLimit \(length \(firstUses ps\)\)\) (\d+)"),
     ("ROOM", SCAN, r"when \(short rooms\) (\d+)"),
 )
-# The most corners of a face of kind 4, which no limit of the interface is.
-SMALL_FACE = {
-    LENGTHS: r"^byteFaceLimit = (\d+)$",
-    RECORD_CONSTS: r"const BYTE_FACE: usize = (\d+);",
-    "rust/barleyhinge/src/lib.rs": r"fn wide_faces\(self\) -> usize \{\n        self\.sizes\.iter\(\)\.filter\(\|size\| \*\*size > (\d+)\)\.count\(\)\n    \}",
+# The record of a face, which no limit of the interface has: the bytes of its header, of its count and of a corner, in each kind, and the most corners of
+# kind 4; by the rules, by the code, and by the wrapper, which has room for it.
+FACE_RECORD = ("headerLength", "wideCount", "markedLength", "byteFaceLimit", "headerLength", "wideCount", "cornerLength", "headerLength", "byteCount", "cornerLength")
+FACE_CODE = {
+    "headerLength": "HEADER_LENGTH",
+    "byteCount": "BYTE_COUNT",
+    "wideCount": "WIDE_COUNT",
+    "cornerLength": "CORNER_LENGTH",
+    "markedLength": "MARKED_LENGTH",
+    "byteFaceLimit": "BYTE_FACE",
 }
+FACE_OF_WRAPPER = (
+    r"fn face_length\(n: usize, is_marked: bool\) -> usize \{\n    match is_marked \{\n        true => (\d+) \+ (\d+) \+ (\d+) \* n,\n"
+    r"        false if n > (\d+) => (\d+) \+ (\d+) \+ (\d+) \* n,\n        false => (\d+) \+ (\d+) \+ (\d+) \* n,\n    \}\n\}"
+)
+# What the rules say of that length, in words.
+FACE_RULES = (
+    (r"^faceBytes f = (.*)$", "headerLength + bodyLength (withMarks f) (length f)"),
+    (r"^withMarks f = (.*)$", "anyMark f"),
+    (r"^bodyLength marked n = (.*)$", "countLength (wide marked n) + cornerSize marked * n"),
+    (r"^wide marked n = (.*)$", "marked || ltb byteFaceLimit n"),
+)
 # Where it is said how many numbers there are, 0 among them.
 COUNTS = {path: r"^(?:pub )?const NUMBERS: \w+ = (\d+);$" for path in (REPLAY, DAMAGED, ORACLE)}
 VERDICTS = ("Irregular", "Regular", "Oriented", "Closed")
@@ -184,14 +201,14 @@ def verdicts_of(texts):
     return {name: only_one(texts, ANSWERS, rf"^verdictNumber Verdict\.{name} = (\d+)$") for name in VERDICTS}
 
 
-# ---- rooms: an expression of the rules and one of the wrapper are the same where they are so on these meshes; 'wide' is how many faces have more corners
-# than a record of kind 4 holds
+# ---- rooms: an expression of the rules and one of the wrapper are the same where they are so on these meshes; 'facebytes' is how many bytes the faces have
+# in a file
 
 SAMPLES = (
-    {"positions": 6144, "textures": 4096, "normals": 6144, "corners": 12288, "sizes": 1365, "wide": 0},
-    {"positions": 33, "textures": 14, "normals": 9, "corners": 210, "sizes": 17, "wide": 1},
-    {"positions": 3, "textures": 0, "normals": 0, "corners": 15, "sizes": 1, "wide": 0},
-    {"positions": 900, "textures": 0, "normals": 0, "corners": 11700, "sizes": 13, "wide": 13},
+    {"positions": 6144, "textures": 4096, "normals": 6144, "corners": 16384, "sizes": 1365, "facebytes": 55977},
+    {"positions": 33, "textures": 14, "normals": 9, "corners": 280, "sizes": 17, "facebytes": 926},
+    {"positions": 3, "textures": 0, "normals": 0, "corners": 20, "sizes": 1, "facebytes": 86},
+    {"positions": 900, "textures": 0, "normals": 0, "corners": 15600, "sizes": 13, "facebytes": 46878},
 )
 
 
@@ -243,9 +260,9 @@ def counted(words):
 
 def file_length(texts):
     """How long the whole file of a mesh is, by the rules, in this tool's words."""
-    words = counted(words_at(texts, PIECES, r"^fileLength m =\s+(.*)$")).replace("count wide (m .sizes)", "wide")
-    if words_at(texts, PIECES, r"^wide n = (.*)$") != "ltb byteFaceLimit n":
-        raise Unreadable("which faces are wide")
+    words = counted(words_at(texts, PIECES, r"^fileLength m =\s+(.*)$")).replace("sum (map faceBytes (faces m))", "facebytes")
+    if any(words_at(texts, PIECES, pattern) != said for pattern, said in FACE_RULES):
+        raise Unreadable("how long the record of a face is")
     return re.sub(r"\blength \(m \.(\w+)\)", r"\1", words)
 
 
@@ -322,16 +339,19 @@ def lent_rooms(text):
             rooms[call[0]] = readers
         else:
             rooms[call[0]] = dict(re.findall(r"(\w+)(?:: | = )vec!\[\s*0(?:\.0)?;\s+([^\]]*)\]", body))
-    if "fn corner_count(self) -> usize {\n        self.corners.len() / 3\n    }" not in text:
+    if "fn corner_count(self) -> usize {\n        self.corners.len() / CORNER_WIDTH\n    }" not in text:
         raise Unreadable("corner_count")
     return rooms
 
 
-def small_face(texts):
-    """The most corners of a face of kind 4, by the rules, by the code, and by the wrapper, which counts the faces that have more."""
-    return tuple(only_one(texts, path, pattern) for path, pattern in SMALL_FACE.items())
+def face_records(texts):
+    """The numbers of a face's record, by the rules, by the code, and by the wrapper, in one order."""
+    rules = {name: only_one(texts, LENGTHS, rf"^{name} = (\d+)$") for name in FACE_CODE}
+    code = {name: only_one(texts, RECORD_CONSTS, rf"const {word}: usize = (\d+);") for name, word in FACE_CODE.items()}
+    wrapper = tuple(map(int, words_at(texts, "rust/barleyhinge/src/lib.rs", FACE_OF_WRAPPER)))
+    return tuple(rules[name] for name in FACE_RECORD), tuple(code[name] for name in FACE_RECORD), wrapper
 
 
 def room_of_wrapper(words):
-    words = words.replace("self.corner_count()", "(corners / 3)").replace("self.wide_faces()", "wide")
+    words = words.replace("self.corner_count()", "(corners / width)").replace("self.face_bytes()", "facebytes")
     return re.sub(r"\b(?:self\.)?(\w+)\.len\(\)", r"\1", words)

@@ -140,7 +140,7 @@ class Writes(Reads):
             self.assertEqual((status, out), (1, ""))
             self.assertRegex(told, rf"^{self.NAME}: the file is refused \({number}\): [a-z][^\n]{{20,}}\n$")
         self.assertIn("is this a panel file?", self.run_it(text="refused 12\n")[2])
-        self.assertIn("more than 211,629 bytes", self.run_it(text="refused 1\n")[2])
+        self.assertIn("more than 229,378 bytes", self.run_it(text="refused 1\n")[2])
 
     def test_a_file_that_is_cut_is_not_handed_out(self):
         self.built("#!/bin/sh\nprintf half\necho unwritten >&2\n")

@@ -30,13 +30,14 @@ def records(data):
 
 
 def faces(data):
-    """The faces of a panel file, as lists of corners."""
+    """The faces of a panel file, as lists of corners: of three numbers, and of four where the face has marks."""
     out = []
     for kind, body in records(data):
-        if kind in (4, 5):
-            count = struct.unpack_from("<B" if kind == 4 else "<H", body)[0]
-            flat = struct.unpack(f"<{3 * count}I", body[kind - 3 :])
-            out.append([flat[i : i + 3] for i in range(0, len(flat), 3)])
+        if kind in (4, 5, 6):
+            front, width = (1, 3) if kind == 4 else (2, kind - 2)
+            count = int.from_bytes(body[:front], "little")
+            flat = struct.unpack(f"<{width * count}I", body[front:])
+            out.append([flat[i : i + width] for i in range(0, len(flat), width)])
     return out
 
 

@@ -1,4 +1,6 @@
-"""The panel file of document 01, with the second kind of face of document 02, for the tools: its limits, its records, a writer, and a reader that refuses by the same numbers.
+"""The panel file of document 01, with the further kinds of face of document 02, for the tools: its limits, its records, a writer, and a reader that refuses by the same numbers.
+
+A corner is (position, texture point, normal, mark): None where an index is missing, and 0 where there is no mark.
 
 Outside the proofs. The numbers of a refusal have their words in refusals.txt, which ./meshsheet and ./meshclean read too; LONGEST in
 them is how many bytes a file may have, for these tools as many as have a sheet.
@@ -14,9 +16,13 @@ CORNERS_OF_A_FACE = 300
 BYTES = 65536
 MISSING = 0xFFFFFFFF
 
-END, FACE, LARGE_FACE = 0, 4, 5
-# The kinds of face: how many bytes the count has, the fewest corners and the most that a length may say, and the most that are taken.
-FACES = {FACE: (1, 0, 255, 32), LARGE_FACE: (2, 33, 5461, CORNERS_OF_A_FACE)}
+END, FACE, LARGE_FACE, MARKED_FACE = 0, 4, 5, 6
+# The kinds of face: how many bytes the count has, the fewest corners and the most that a length may say, the most that are taken, and the
+# numbers of a corner: a mark is the fourth.
+FACES = {FACE: (1, 0, 255, 32, 3), LARGE_FACE: (2, 33, 5461, CORNERS_OF_A_FACE, 3), MARKED_FACE: (2, 3, 4095, CORNERS_OF_A_FACE, 4)}
+# Marks that have a name. A mark is any number of four bytes; no rule asks which.
+MARKS = {"dart": 1, "notch": 2}
+LARGEST_MARK = 0xFFFFFFFF
 # Positions, texture points and normals: the number of the record, and how many coordinates it holds.
 WIDTHS = {1: 3, 2: 2, 3: 3}
 HEADER = 4
@@ -49,16 +55,25 @@ def entry_record(kind, numbers):
     return record(kind, struct.pack(f"<{WIDTHS[kind]}d", *numbers))
 
 
+def name_of_mark(mark):
+    """A mark in words: its number, and its name where it has one."""
+    return next((f"{mark}, {name}" for name, number in MARKS.items() if number == mark), str(mark))
+
+
 def kind_of_face(corners):
-    """The kind that a face of so many corners is written with."""
-    return FACE if corners <= FACES[FACE][3] else LARGE_FACE
+    """The kind that a face of these corners is written with: by its marks, and then by its size."""
+    if any(corner[3] for corner in corners):
+        return MARKED_FACE
+    return FACE if len(corners) <= FACES[FACE][3] else LARGE_FACE
 
 
 def face_record(corners):
-    """A face of corners (position, texture point, normal), None where one is missing."""
-    flat = [MISSING if i is None else i for corner in corners for i in corner]
-    kind = kind_of_face(len(corners))
-    return record(kind, len(corners).to_bytes(FACES[kind][0], "little") + struct.pack(f"<{len(flat)}I", *flat))
+    """A face of corners; one that is given without its mark has none."""
+    corners = [(*corner, 0)[:4] for corner in corners]
+    kind = kind_of_face(corners)
+    count, width = FACES[kind][0], FACES[kind][4]
+    flat = [MISSING if i is None else i for corner in corners for i in corner[:width]]
+    return record(kind, len(corners).to_bytes(count, "little") + struct.pack(f"<{len(flat)}I", *flat))
 
 
 def size_of_entry(kind):
@@ -66,7 +81,8 @@ def size_of_entry(kind):
 
 
 def size_of_face(corners):
-    return HEADER + FACES[kind_of_face(corners)][0] + 12 * corners
+    kind = kind_of_face(corners)
+    return HEADER + FACES[kind][0] + 4 * FACES[kind][4] * len(corners)
 
 
 def words_of(number):
@@ -82,8 +98,8 @@ def refuse(number):
 
 def wrong_length(kind, length):
     if kind in FACES:
-        count, fewest, most, _ = FACES[kind]
-        return (length - count) % 12 != 0 or not fewest <= (length - count) // 12 <= most
+        count, fewest, most, _, width = FACES[kind]
+        return (length - count) % (4 * width) != 0 or not fewest <= (length - count) // (4 * width) <= most
     return length != (0 if kind == END else 8 * WIDTHS[kind])
 
 
@@ -108,15 +124,19 @@ def records_of(data):
 
 
 def face_of(kind, body):
-    """The corners of a face of this kind, None where an index is missing."""
-    count, _, _, most = FACES[kind]
+    """The corners of a face of this kind; a kind that has no marks gives marks of 0."""
+    count, _, _, most, width = FACES[kind]
     corners = int.from_bytes(body[:count], "little")
-    if len(body) != count + 12 * corners:
+    if len(body) != count + 4 * width * corners:
+        refuse(12)
+    flat = struct.unpack(f"<{width * corners}I", body[count:])
+    marks = flat[3::width] if kind == MARKED_FACE else [0] * corners
+    if kind == MARKED_FACE and not any(marks):
         refuse(12)
     if corners > most:
         refuse(3)
-    flat = [None if i == MISSING else i for i in struct.unpack(f"<{3 * corners}I", body[count:])]
-    return [tuple(flat[i : i + 3]) for i in range(0, len(flat), 3)]
+    indices = [None if i == MISSING else i for i in flat]
+    return [(*indices[width * k : width * k + 3], mark) for k, mark in enumerate(marks)]
 
 
 def read(data):

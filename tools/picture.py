@@ -1,4 +1,4 @@
-"""The picture of a cover as SVG: cloth tinted by panel, marked edges in colour and numbered, and a key below.
+"""The picture of a cover as SVG: cloth tinted by panel, marked edges in colour and numbered, a sign in each corner that has a seam mark, and a key below.
 
 Outside the proofs; for draw_hems.
 """
@@ -7,7 +7,7 @@ from dataclasses import dataclass
 from xml.sax.saxutils import escape
 
 from panel_format import plain
-from views import SIZE, area_of, best_views, scaled
+from views import SIZE, area_of, best_views, between, scaled
 
 MARK = "made by draw_hems"
 HEMS = ("#c1121f", "#1d4ed8", "#15803d", "#b45309", "#7e22ce", "#0e7490", "#be185d", "#4d7c0f", "#334155", "#9a3412")
@@ -26,6 +26,19 @@ class Mark:
     edges: list
     text: str
     square: bool = False
+
+
+@dataclass
+class Sign:
+    """A seam mark: its number, the corners that have it, each a face and a place in its ring, and the line of the key."""
+
+    mark: int
+    corners: list
+    text: str
+
+
+INK = "#111827"
+UNEVEN = 0.02  # how far the corners of a face may lie before or behind its middle
 
 
 def shade(tint, by):
@@ -165,6 +178,47 @@ class Pane:
                     yield small(place[0], place[1] + 3.6, p, 10.5, "#222")
 
 
+    def signs(self, signs, rings):
+        """A wedge in each marked corner, its point at the position and its back inside the face that has the mark, with the number of the mark; hollow
+        where cloth hides it."""
+        many = sum(len(sign.corners) for sign in signs) > MOST_BADGES
+        for sign in signs:
+            for f, k in sign.corners:
+                ring = rings[f]
+                flat = [self.view.flat[p] for p in ring]
+                inside = tuple(sum(p[a] for p in flat) / len(flat) for a in range(3))
+                u, v, depth = between(flat[k], inside, 0.15)
+                hidden = self.view.hidden((u, v, depth + UNEVEN))
+                (x, y), (X, Y) = self.at(flat[k]), self.at(inside)
+                toward = math.atan2(Y - y, X - x)
+                long = max(4.0, min(13.0, 0.45 * math.hypot(X - x, Y - y)))
+                yield wedge(x, y, toward, long, hidden)
+                x, y = x + long * math.cos(toward), y + long * math.sin(toward)
+                if not many:
+                    yield tag(*self.labels.place(x, y, wide(sign.mark), 6, toward, (7, 11, 15, 20), must=True), sign.mark, hidden)
+
+
+def wide(mark):
+    return 3 + 2.8 * len(str(mark))
+
+
+def tag(x, y, mark, hollow):
+    """The number of a mark, light on dark, so that it is no position's."""
+    fill, ink = ("#fff", INK) if hollow else (INK, "#fff")
+    return (
+        f'<rect class="tag" x="{x - wide(mark):.1f}" y="{y - 6:.1f}" width="{2 * wide(mark):.1f}" height="12" fill="{fill}" stroke="{INK}" stroke-width="0.8"/>'
+        f'<text x="{x:.1f}" y="{y + 3.3:.1f}" font-size="9.5" font-weight="bold" fill="{ink}" text-anchor="middle">{mark}</text>'
+    )
+
+
+def wedge(x, y, toward, long, hollow):
+    """A narrow triangle with its point at (x, y)."""
+    points = [(x, y)] + [(x + long * math.cos(toward + t), y + long * math.sin(toward + t)) for t in (0.35, -0.35)]
+    path = " ".join(f"{a:.1f},{b:.1f}" for a, b in points)
+    style = 'fill="#fff" stroke-dasharray="2 1.5"' if hollow else f'fill="{INK}"'
+    return f'<polygon class="sign" points="{path}" stroke="{INK}" stroke-width="1" {style}/>'
+
+
 def small(x, y, text, size, colour):
     """A number on a white ground that follows its shape."""
     return (
@@ -187,8 +241,8 @@ def words(x, y, text, size=12.5, weight="normal"):
     return f'<text x="{x:.1f}" y="{y:.1f}" font-size="{size}" font-weight="{weight}" fill="#222">{escape(plain(text))}</text>'
 
 
-def key(marks, panels, top):
-    """The lines below the views: each mark, each panel, and how to read the picture."""
+def key(marks, signs, panels, top):
+    """The lines below the views: each mark, each sign, each panel, and how to read the picture."""
     out, y = [], top
     for mark in marks[:MOST_ROWS]:
         out.append(badge(mark, 36, y - 4) if mark.label else f'<line x1="26" y1="{y - 4}" x2="46" y2="{y - 4}" stroke="{mark.colour}" stroke-width="2"/>')
@@ -196,6 +250,13 @@ def key(marks, panels, top):
         y += ROW
     if len(marks) > MOST_ROWS:
         out.append(words(60, y, f"and {len(marks) - MOST_ROWS:,} more: draw_hems lists them all"))
+        y += ROW
+    for sign in signs[:MOST_ROWS]:
+        out += [wedge(25, y - 4, 0.0, 12, hollow=False), tag(40 + wide(sign.mark), y - 4, sign.mark, hollow=False)]
+        out.append(words(max(60, 46 + 2 * wide(sign.mark)), y, sign.text))
+        y += ROW
+    if len(signs) > MOST_ROWS:
+        out.append(words(60, y, f"and {len(signs) - MOST_ROWS:,} marks more: draw_hems lists them all"))
         y += ROW
     x = 27
     for panel in range(min(max(panels, default=-1) + 1, 10)):
@@ -211,11 +272,14 @@ def key(marks, panels, top):
 
 READ = "A line is dashed where cloth hides it, and its label hollow where all of it is hidden. Small numbers are positions as on the sheet; darker cloth is seen from inside."
 
+READ_SIGNS = "A wedge is a seam mark: its point is at the corner, and it lies in the face that has the mark, whose number stands beside it; hollow where cloth hides it."
 
-def svg(title, subtitle, cover, points, marks):
+
+def svg(title, subtitle, cover, points, marks, signs):
     """The whole picture. Points are those of the cover's positions, by the sheet's numbers."""
     rings = [ring for _, ring in cover.faces]
     loops = [mark.edges for mark in marks if mark.label] or [mark.edges for mark in marks]
+    loops += [[(rings[f][k - 1], rings[f][k])] for sign in signs for f, k in sign.corners]
     views = best_views(scaled(points), rings, loops) if points else []
     steps = max(2, min(24, 4000 // (sum(map(len, loops)) + 1)))
     body = []
@@ -226,13 +290,17 @@ def svg(title, subtitle, cover, points, marks):
         body += pane.cloth(rings, cover.panels)
         body += lines
         body += pane.badges(marks, sights)
+        body += pane.signs(signs, rings)
         body += pane.numbers(marks)
         if len(views) > 1:
             body.append(words(left + 6, HEAD + 14, side_of(view), 11.5))
     top = HEAD + (PANE if views else 0) + 30
-    below, bottom = key(marks, cover.panels, top)
+    below, bottom = key(marks, signs, cover.panels, top)
     width = 2 * PANE + 3 * GAP
     body += below + [words(27, bottom + 4, READ, 11)]
+    if signs:
+        bottom += ROW
+        body.append(words(27, bottom + 4, READ_SIGNS, 11))
     head = [words(24, 30, title, 18, "bold"), words(24, 52, subtitle, 13)]
     size = f'width="{width}" height="{bottom + 20}" viewBox="0 0 {width} {bottom + 20}"'
     return "\n".join(

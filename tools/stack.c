@@ -21,13 +21,13 @@ enum { STACK = 4 << 20, LONGEST_FILE = 1 << 20, KB = 1024, PAGE = 4096 };
 
 struct mesh {
     double positions[3 * BH_MAX_ENTRIES], textures[2 * BH_MAX_ENTRIES], normals[3 * BH_MAX_ENTRIES];
-    uint32_t corners[3 * BH_MAX_CORNERS], sizes[BH_MAX_FACES];
+    uint32_t corners[BH_CORNER_WIDTH * BH_MAX_CORNERS], sizes[BH_MAX_FACES];
     size_t counts[5];
 };
 
 #define LISTS \
     mesh.positions, 3 * mesh.counts[0], mesh.textures, 2 * mesh.counts[1], mesh.normals, 3 * mesh.counts[2], mesh.corners, \
-        3 * mesh.counts[3], mesh.sizes, mesh.counts[4]
+        BH_CORNER_WIDTH * mesh.counts[3], mesh.sizes, mesh.counts[4]
 #define ROOM(list) list, sizeof list / sizeof *list
 
 static struct mesh mesh, made;
@@ -46,7 +46,7 @@ static void scanning(void) {
 }
 static void number(void) { bh_mesh_number(LISTS); }
 static void face(void) { bh_face(LISTS, mesh.counts[4] - 1, &a, &b); }
-static void push(void) { bh_push(mesh.corners, 3 * mesh.counts[3], mesh.sizes, mesh.counts[4], ROOM(made.corners), ROOM(made.sizes), &a, &b); }
+static void push(void) { bh_push(mesh.corners, BH_CORNER_WIDTH * mesh.counts[3], mesh.sizes, mesh.counts[4], ROOM(made.corners), ROOM(made.sizes), &a, &b); }
 static void compaction(void) {
     bh_remove_unused_attrs(LISTS, ROOM(made.corners), ROOM(made.positions), ROOM(made.textures), ROOM(made.normals), &a, &b, &c);
 }

@@ -5,7 +5,7 @@ Outside the proofs. What is taken and what is refused stands in obj2panel's help
 import math
 import re
 
-from panel_format import BYTES, CORNERS, CORNERS_OF_A_FACE, ENTRIES, HEADER, Refused, quoted, size_of_entry, size_of_face
+from panel_format import BYTES, CORNERS, CORNERS_OF_A_FACE, ENTRIES, HEADER, LARGEST_MARK, MARKS, Refused, quoted, size_of_entry, size_of_face
 
 NUMBER = re.compile(r"[+-]?([0-9]+(\.[0-9]*)?|\.[0-9]+)([eE][+-]?[0-9]+)?")
 # How programs write what is not finite; the last form, 1.#QNAN or 1.#INF, is that of older ones, and its '#' begins no comment.
@@ -16,6 +16,9 @@ INDEX = "[+-]?[0-9]{1,18}"
 CORNER = re.compile(rf"{INDEX}(/({INDEX})?){{0,2}}")
 BLANKS = re.compile("[ \t\v\f]+")
 KEYWORDS = ("v", "vt", "vn", "f")
+# A comment behind a face that marks a corner of it: '# mark 2 dart'. Its words stand for a line with this keyword.
+MARK = "# mark"
+WHOLE = re.compile("[0-9]{1,18}")
 # First words of other formats in which a drawing comes.
 OTHERS = {"solid": "STL", "off": "OFF", "coff": "OFF", "noff": "OFF", "stoff": "OFF", "ply": "PLY"}
 
@@ -36,6 +39,25 @@ def number(line, word):
     if math.isinf(value):
         raise Slip(line, f"{quoted(word)} is too large")
     return value
+
+
+def corner_number(line, word):
+    if not WHOLE.fullmatch(word):
+        raise Slip(line, f"{quoted(word)} is no corner of a face: '{MARK}' takes a corner, counted from 1, and a mark, as in '{MARK} 2 dart'")
+    return int(word)
+
+
+def mark_number(line, word):
+    if word in MARKS:
+        return MARKS[word]
+    if not WHOLE.fullmatch(word):
+        names = " or ".join(f"'{name}'" for name in MARKS)
+        raise Slip(line, f"{quoted(word)} is no mark: {names}, or a number from 1 to {LARGEST_MARK:,} without commas")
+    if int(word) == 0:
+        raise Slip(line, "mark 0 means that there is none: leave the line out")
+    if int(word) > LARGEST_MARK:
+        raise Slip(line, f"mark {word} is too large: {LARGEST_MARK:,} is the largest")
+    return int(word)
 
 
 class Kind:
@@ -79,12 +101,17 @@ class Drawing:
         ]
         self.taken = self.kinds[:1] if positions_only else self.kinds
         self.faces = []
+        self.above = None
         self.numbers = []
         self.notes = {}
 
     def take(self, line, words):
         """One line of the drawing, its keyword first."""
         keyword, rest = words[0], words[1:]
+        if keyword == MARK:
+            self.mark(line, rest)
+            return
+        self.above = None
         kind = next((kind for kind in self.taken if kind.keyword == keyword), None)
         if kind is not None:
             kind.add(line, rest)
@@ -100,16 +127,33 @@ class Drawing:
     def face(self, line, words):
         if len(words) < 3:
             self.note(line, "a face of fewer than three corners is dropped")
+            self.above = [None] * len(words)
             return
         if len(words) > CORNERS_OF_A_FACE:
             raise Slip(line, f"a face of {len(words)} corners: {CORNERS_OF_A_FACE} are the most")
-        self.faces.append((line, [self.corner(line, word) for word in words]))
+        self.above = [self.corner(line, word) for word in words]
+        self.faces.append((line, self.above))
+
+    def mark(self, line, words):
+        """A mark for a corner of the face above; that of a face that is dropped goes with it."""
+        if self.above is None:
+            raise Slip(line, f"'{MARK}' stands directly behind the face that it marks, and no face is there")
+        if len(words) != 2:
+            raise Slip(line, f"'{MARK}' takes a corner of the face above and a mark, as in '{MARK} 2 dart', and {len(words)} words stand there")
+        corners, k, mark = self.above, corner_number(line, words[0]), mark_number(line, words[1])
+        if not 1 <= k <= len(corners):
+            raise Slip(line, f"a mark for corner {k} of a face of {len(corners)} corners; they count from 1")
+        if corners[k - 1] is None:
+            return
+        if corners[k - 1][3]:
+            raise Slip(line, f"corner {k} of this face has a mark already, and a corner has one")
+        corners[k - 1] = (*corners[k - 1][:3], mark)
 
     def corner(self, line, word):
         if not CORNER.fullmatch(word):
             raise Slip(line, f"{quoted(word)} is none of v, v/vt, v//vn and v/vt/vn")
         given = [kind.index(line, part) for kind, part in zip(self.taken, word.split("/"))]
-        return tuple(given + [None] * (3 - len(given)))
+        return (*given, *[None] * (3 - len(given)), 0)
 
     def note(self, line, text):
         first, count = self.notes.get(text, (line, 0))
@@ -165,23 +209,38 @@ def words_of(line):
     return [word for word in BLANKS.split(line) if word]
 
 
+def marks_in(line, count):
+    """The mark that a comment of this line has, as words behind their keyword; any comment that begins with 'mark' must be one."""
+    comment = COMMENT.search(line)
+    words = words_of(comment[0].lstrip("#")) if comment else []
+    if words and words[0].lower() == "mark":
+        if words[0] == "mark":
+            return [(count, [MARK, *words[1:]])]
+        if WHOLE.fullmatch("".join(words[1:2])):
+            raise Slip(count, f"{quoted(words[0])} in a comment that marks a corner: '{MARK}' is written small")
+    return []
+
+
 def lines(text):
-    """The lines that say something, as words, each with the number of its first line.
+    """The lines that say something, as words, each with the number of its first line, and behind each the mark of a comment.
 
     A '\\' at the end joins the next line, but only to one that is read: the name that follows a `mtllib` may end in one.
     """
-    joined, first = "", 1
+    joined, first, marks = "", 1, []
     for count, line in enumerate(text.replace("\r\n", "\n").replace("\r", "\n").split("\n"), 1):
         joined += COMMENT.sub("", line).rstrip(" \t\v\f")
+        marks += marks_in(line, count)
         words = words_of(joined.removesuffix("\\"))
         if joined.endswith("\\") and words[:1] in ([], *([k] for k in KEYWORDS)):
             joined = joined[:-1] + " "
             continue
         if words:
             yield first, words
-        joined, first = "", count + 1
+        yield from marks
+        joined, first, marks = "", count + 1, []
     if words_of(joined):
         yield first, words_of(joined)
+    yield from marks
 
 
 def read(data, positions_only=False):
@@ -199,7 +258,7 @@ def counts(drawing, kinds):
     """Name, count and limit of all that has one, were these kinds written."""
     corners = sum(len(face) for _, face in drawing.faces)
     size = HEADER + sum(size_of_entry(kind.record) * len(kind.entries) for kind in kinds)
-    size += sum(size_of_face(len(face)) for _, face in drawing.faces)
+    size += sum(size_of_face(face) for _, face in drawing.faces)
     return [(kind.name, len(kind.entries), ENTRIES) for kind in kinds] + [("corners", corners, CORNERS), ("bytes", size, BYTES)]
 
 

@@ -27,9 +27,16 @@ def face(corners):
     return record(5, struct.pack("<H", len(corners)) + body)
 
 
+def marked_face(corners):
+    """The same with a mark on each corner."""
+    return record(6, struct.pack("<H", len(corners)) + b"".join(struct.pack("<4I", p, MISSING, MISSING, 1) for p in corners))
+
+
 def cover(ring):
-    """A triangle, and FACES faces with the ring's corners."""
-    return b"".join(position(i) for i in range(max(ring) + 3)) + face([max(ring), max(ring) + 1, max(ring) + 2]) + face(ring) * FACES + record(0, b"")
+    """A triangle without marks and one with them, and FACES faces with the ring's corners: a face of each kind."""
+    last = max(ring)
+    faces = face([last, last + 1, last + 2]) + marked_face([last + 2, last + 1, last]) + face(ring) * FACES
+    return b"".join(position(i) for i in range(last + 3)) + faces + record(0, b"")
 
 
 def nested(turns):

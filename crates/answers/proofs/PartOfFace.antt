@@ -43,7 +43,7 @@ there m k p e h =
 pub few : (m : Mesh) (k : ℕ) → There m k → length (m .sizes) ≤ faceLimit
 few m k t = sound m (shaped m (t .clear)) .few
 
--- a face's part is three numbers for each of its corners
+-- a face's part is the numbers of each of its corners
 part-length : (m : Mesh) (k : ℕ) (p : List ℕ) → p ≡ facePart m k → There m k → length p ≡ width * getD (m .sizes) k 0
 part-length m k p e t =
     ap length (e ∙ sym (a-face m k (t .is-face) (t .clear)))

@@ -19,7 +19,7 @@ use Rattle.edges.specs.declared.HemEdges.{HemEdges}
 use Rattle.tracing.specs.declared.Wires.{Wires}
 use Rattle.panels.specs.declared.Answer.{Answer as Panels}
 
--- where the part of face k starts in the list of corners: behind three numbers for each corner of the faces before it; 0 where
+-- where the part of face k starts in the list of corners: behind the numbers of each corner of the faces before it; 0 where
 -- the part is empty
 unfoldable pub startOf : Mesh → ℕ → ℕ
 startOf m k = cond (ltb k (length (m .sizes)) && eqb (shapeNumber m) 0) (width * offsetOf (m .sizes) k) 0

@@ -5,10 +5,11 @@ use mathlib.Core.Bool.{Bool, true, false}
 use mathlib.Core.List.{List, [], _∷_}
 use Rattle.lists.specs.Lists.{some}
 use Rattle.lists.proofs.Bools.{true-false}
-use Prim.Native.Nat.{ℕ}
+use Prim.Native.Nat.{ℕ, _*_}
 use native.Mathlib.Omega.{arith}
 use lib.ListN.{length, getD}
 use Rattle.lists.specs.FirstUses.{firstUses, place}
+use Rattle.mesh.specs.Limits.{width}
 use Rattle.mesh.specs.Mesh.{Mesh, Ring, position, faces}
 use Rattle.mesh.specs.Table.{overLimits, uneven, misfit, ungrouped, astray, shapeNumber, meshNumber}
 use Rattle.grouping.specs.Push.{pushed}
@@ -79,7 +80,7 @@ order-matters = record {
   only-compacting = unlike _ _ (λ e. let z : _≡_ {A = ℕ} 6 0 = e in omega arith);
   only-removing = unlike _ _ (λ e. let z : _≡_ {A = ℕ} 6 0 = e in omega arith);
   not-sensible = never-clean;
-  removing-once = λ e. let z : _≡_ {A = ℕ} 0 9 = ap (λ (m : Mesh). length (m .corners)) e in omega arith;
+  removing-once = λ e. let z : _≡_ {A = ℕ} 0 (3 * width) = ap (λ (m : Mesh). length (m .corners)) e in omega arith;
 }
 
 -- ---- of the fold and the face (2,1,0) is left, the second face; compacted before it is (0,1,2); a second removal says that it is the first face

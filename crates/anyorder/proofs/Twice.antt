@@ -10,7 +10,7 @@ use Rattle.lists.specs.Lists.{every, has, joined}
 use Rattle.lists.proofs.Mapping.{map-same, every-map, every-all}
 use Rattle.lists.proofs.Others.{every-has}
 use Rattle.mesh.specs.Limits.{pointWidth, texelWidth}
-use Rattle.mesh.specs.Mesh.{Mesh, meshOf, Corner, Ring, cornersIn}
+use Rattle.mesh.specs.Mesh.{Mesh, meshOf, Corner, Ring, mark, cornersIn}
 use Rattle.mesh.specs.Table.{meshNumber}
 use Rattle.unused.specs.Compaction.{usesOf, renumber, entries, usedPositions, usedTextures, usedNormals, renumbered, compacted}
 use Rattle.unused.specs.Working.{column, Pointed}
@@ -98,7 +98,7 @@ module _ (m : Mesh) (u v : Mesh) (r : Recompacted m u v) where
         let p = number-once (pointed-positions m z) (λ c. refl) k h in
         let t = number-once (pointed-textures m z) (λ c. refl) k h in
         let n = number-once (pointed-normals m z) (λ c. refl) k h in
-        λ i. p i ∷ t i ∷ n i ∷ []
+        λ i. p i ∷ t i ∷ n i ∷ mark (getD (cornersIn (u .corners)) k []) ∷ []
 
     corners-once : map (renumbered v) (cornersIn (v .corners)) ≡ map (renumbered u) (cornersIn (u .corners))
     corners-once =

@@ -16,9 +16,9 @@ use Rattle.unused.specs.Compaction.{compacted}
 use Rattle.cleaning.specs.Cleaning.{cleaned}
 use Rattle.anyorder.specs.Orders.{Step, Remove, Compact, cleanedBy, sensible}
 
--- a corner by its position: texture and normal are missing
+-- a corner by its position: texture and normal are missing, and it has no mark
 abbrev bare : ℕ → Corner
-bare p = p ∷ missing ∷ missing ∷ []
+bare p = p ∷ missing ∷ missing ∷ 0 ∷ []
 
 -- two positions, both the origin, and the one face (0,0,1), which is folded
 abbrev pub oneFold : Mesh

@@ -20,7 +20,7 @@ use Rattle.sheet.specs.Sheet as sheet
 use Rattle.exports.specs.Sheets.{SheetCall}
 use Rattle.exports.proofs.Sheets.{call-done, as-long, sheet-written}
 use Rattle.cleanagain.specs.Calls.{CleanCall, cleanBytes, CallsCleanAgain, CallsPrintTheSame, FilesCanBeHad}
-use Rattle.cleanagain.proofs.Files.{clean-length, cleaning-again, read-taken, sheet-of-cleaned}
+use Rattle.cleanagain.proofs.Files.{clean-length, clean-fits, cleaning-again, read-taken, sheet-of-cleaned}
 
 -- ---- `cleanfile::clean`
 
@@ -47,13 +47,13 @@ module _ {file : List ℕ} (r : CleanCall file) (z : r .answer .number ≡ 0) wh
   clean-written : cleanBytes r ≡ cleanFile file
   clean-written =
       ap₂ take clean-long (r .contract .bytes ∙ after-done (r .answer .number) (sets (r .out) 0 (cleanFile file)) (r .out) z)
-      ∙ take-written (r .out) (cleanFile file) (length (cleanFile file)) refl (omega (arith, cleaning-again file reads .fits, r .room))
+      ∙ take-written (r .out) (cleanFile file) (length (cleanFile file)) refl (omega (arith, clean-fits file reads, r .room))
 
 pub calls-clean-again : CallsCleanAgain
-calls-clean-again file r z q =
+calls-clean-again file p r z q =
     let h = reads r z in
     let w : cleanBytes r ≡ cleanFile file = clean-written r z in
-    let c = cleaning-again file h in
+    let c = cleaning-again file p h in
     let y : q .answer .number ≡ 0 =
     q .contract .number
     ∙ clean-done (length (q .out)) (cleanBytes r) (q .room) (omega (arith, ap length w, c .fits)) (ap (readingNumber []) w ∙ c .reads) in
@@ -71,11 +71,11 @@ answer-same : (a b : Answer) → a .number ≡ b .number → a .length ≡ b .le
 answer-same a b n l = λ i. record { number = n i; length = l i }
 
 pub calls-print-the-same : CallsPrintTheSame
-calls-print-the-same file r z short-file short-clean s t =
+calls-print-the-same file p r z short-file short-clean s t =
     let h = reads r z in
     let w : cleanBytes r ≡ cleanFile file = clean-written r z in
     let e : sheet.sheetOf (cleanBytes r) ≡ sheet.sheetOf file =
-    ap sheet.sheetOf w ∙ sheet-of-cleaned file (read-taken file h short-file) (omega (arith, clean-long r z, short-clean)) in
+    ap sheet.sheetOf w ∙ sheet-of-cleaned file p (read-taken file h short-file) (omega (arith, clean-long r z, short-clean)) in
     record {
       same-answer =
           answer-same (t .answer) (s .answer) (call-done t ∙ sym (call-done s)) (as-long t ∙ ap length e ∙ sym (as-long s));

@@ -10,6 +10,7 @@ use Rattle.mesh.specs.Mesh.{Mesh}
 use Rattle.mesh.specs.Table.{when, short, meshNumber}
 use Rattle.mesh.proofs.Numbers.{first-head, first-tail}
 use Rattle.cleaning.specs.Cleaning.{cleaned}
+use Rattle.little.specs.Little.{Bytes}
 use Rattle.reading.specs.Reading.{readingNumber, panelMesh, finish, readAll}
 use Rattle.reading.proofs.Ending.{read-accepted}
 use Rattle.written.specs.Pieces.{fileOf, fileLength, fileLimit}
@@ -33,31 +34,35 @@ module _ (file : List ℕ) (h : readingNumber [] file ≡ 0) where
   unfolding readingNumber short
   mesh-accepted = read-accepted file (first-head (finish file (readAll file)) [] h)
 
-  again-read : readingNumber [] (cleanFile file) ≡ 0
-  unfolding cleanFile short
-  again-read = cleaned-reopens file h .number [] refl
-
-  pub again-mesh : panelMesh (cleanFile file) ≡ meshLeft file
-  unfolding cleanFile
-  again-mesh = cleaned-reopens file h .mesh
-
-  again-left : meshLeft (cleanFile file) ≡ meshLeft file
-  again-left = ap cleaned again-mesh ∙ clean-again (panelMesh file) mesh-accepted
-
   pub clean-length : length (cleanFile file) ≡ fileLength (meshLeft file)
   unfolding cleanFile
   clean-length = file-is-long (meshLeft file) (left-accepted file h)
 
-  again-bytes : cleanFile (cleanFile file) ≡ cleanFile file
-  unfolding cleanFile
-  again-bytes = ap fileOf again-left
+  pub clean-fits : length (cleanFile file) ≤ fileLimit
+  clean-fits = omega (arith, clean-length, file-fits (meshLeft file) (left-accepted file h))
+
+  module _ (b : Bytes file) where
+    again-read : readingNumber [] (cleanFile file) ≡ 0
+    unfolding cleanFile short
+    again-read = cleaned-reopens file b h .number [] refl
+
+    pub again-mesh : panelMesh (cleanFile file) ≡ meshLeft file
+    unfolding cleanFile
+    again-mesh = cleaned-reopens file b h .mesh
+
+    again-left : meshLeft (cleanFile file) ≡ meshLeft file
+    again-left = ap cleaned again-mesh ∙ clean-again (panelMesh file) mesh-accepted
+
+    again-bytes : cleanFile (cleanFile file) ≡ cleanFile file
+    unfolding cleanFile
+    again-bytes = ap fileOf again-left
 
 pub cleaning-again : CleaningAgain
-cleaning-again file h = record {
-  reads = again-read file h;
-  fits = omega (arith, clean-length file h, file-fits (meshLeft file) (left-accepted file h));
-  same-mesh = again-left file h;
-  same-bytes = again-bytes file h;
+cleaning-again file b h = record {
+  reads = again-read file h b;
+  fits = clean-fits file h;
+  same-mesh = again-left file h b;
+  same-bytes = again-bytes file h b;
 }
 
 -- ---- the sheets
@@ -77,10 +82,10 @@ module _ (file : List ℕ) where
   sheet-is e = rw e
 
 pub sheet-of-cleaned : SheetOfCleaned
-sheet-of-cleaned file e l =
+sheet-of-cleaned file b e l =
     let h = taken-read file e in
-    sheet-is (cleanFile file) (read-taken (cleanFile file) (again-read file h) l)
-    ∙ ap (λ (m : Mesh). sheetText (foundIn m)) (again-left file h)
+    sheet-is (cleanFile file) (read-taken (cleanFile file) (again-read file h b) l)
+    ∙ ap (λ (m : Mesh). sheetText (foundIn m)) (again-left file h b)
     ∙ sym (sheet-is file e)
 
 pub sheet-of-long-cleaned : SheetOfLongCleaned

@@ -2,10 +2,17 @@
 -- Assumes nothing.
 use mathlib.Core.Path.{_≡_, refl, ap, _∙_}
 use mathlib.Core.List.{[], _∷_}
-use lib.ListN.{length}
+use Prim.Native.Nat.{ℕ, _+_, _*_, _≤_}
+use native.Mathlib.Omega.{arith}
+use lib.ListN.{length, getD, List·getD-eq-default}
+use lib.Dec.{leb, ltb}
+use borrow.Author.Tests.{leb-true, ltb-true, ltb-false}
 use lib.Ieee.{fits}
 use Rattle.lists.specs.Numbers.{seek}
 use Rattle.lists.specs.FirstUses.{firstUses, place}
+use Rattle.lists.proofs.Bools.{by-cases}
+use Rattle.lists.proofs.Parts.{every-at}
+use Rattle.mesh.specs.Limits.{width, largest}
 use Rattle.mesh.specs.Mesh.{Mesh, meshOf, faces}
 use Rattle.mesh.specs.Table.{overLimits, uneven, misfit, ungrouped, astray, shapeNumber, meshNumber, short}
 use Rattle.floating.specs.Limits.{finite, allFinite}
@@ -16,7 +23,8 @@ use Rattle.removal.specs.Folded.{removed, unfoldedMesh}
 use Rattle.unused.specs.Compaction.{renumber, entries, usedPositions, usedTextures, usedNormals, renumbered, compacted}
 use Rattle.cleaning.specs.Cleaning.{cleaned}
 use Rattle.cleaning.proofs.Cleaned.{cleaned-accepted}
-use Rattle.written.specs.Pieces.{fileOf, fileLength}
+use Rattle.records.specs.Records.{anyMark}
+use Rattle.written.specs.Pieces.{fileOf, faceBytes, fileLength}
 use Rattle.written.specs.Promises.{DoubleMesh, Reopens}
 use Rattle.written.proofs.Parting.{file-is-long}
 use Rattle.written.proofs.Reading.{doubles-are}
@@ -28,12 +36,21 @@ ok : meshNumber example8 ≡ 0
 unfolding meshNumber shapeNumber overLimits uneven misfit ungrouped astray
 ok = refl
 
+-- every number of its corners is one of 32 bits
+number-small : (k : ℕ) → getD (example8 .corners) k 0 ≤ largest
+number-small k =
+    let cs = example8 .corners in
+    by-cases (ltb k (length cs))
+    (λ e. leb-true (getD cs k 0) largest (every-at (λ x. leb x largest) 0 cs k refl (ltb-true k (length cs) e)))
+    (λ e. rw (List·getD-eq-default cs 0 (ltb-false k (length cs) e)) (omega arith))
+
 doubles : DoubleMesh example8
 unfolding fits
 doubles = record {
   positions = doubles-are (example8 .positions) refl;
   textures = doubles-are [] refl;
   normals = doubles-are [] refl;
+  marks = λ k. number-small (width * k + 3);
 }
 
 back : Reopens example8
@@ -41,7 +58,7 @@ unfolding allFinite finite
 back = reopens example8 ok doubles refl
 
 long : fileLength example8 ≡ 221
-unfolding fileLength
+unfolding fileLength faceBytes anyMark faces
 long = refl
 
 -- the face is cut in two
@@ -53,7 +70,7 @@ unfolding unfoldedMesh removed pushed pieces foldedBy seek mateOf firstMated spl
 cut-in-two = refl
 
 two-long : fileLength (compacted twoTriangles) ≡ 226
-unfolding fileLength compacted renumbered usedPositions usedTextures usedNormals entries renumber place firstUses
+unfolding fileLength faceBytes anyMark faces compacted renumbered usedPositions usedTextures usedNormals entries renumber place firstUses
 two-long = refl
 
 longer : fileLength (cleaned example8) ≡ 226

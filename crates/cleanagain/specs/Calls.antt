@@ -4,6 +4,7 @@ use Prim.Native.Nat.{ℕ, _≤_}
 use mathlib.Core.Path.{_≡_}
 use mathlib.Core.List.{List, []}
 use lib.ListN.{length, take}
+use Rattle.little.specs.Little.{Bytes}
 use Rattle.reading.specs.Reading.{readingNumber}
 use Rattle.written.specs.Pieces.{fileLimit}
 use Rattle.cleanfile.specs.declared.Cleaned.{Cleaned}
@@ -32,9 +33,9 @@ pub record SameBytes {file : List ℕ} (r : CleanCall file) (q : CleanCall (clea
   pub long : q .answer .length ≡ r .answer .length
   pub bytes : cleanBytes q ≡ cleanBytes r
 
--- whatever file was cleaned: nothing is asked of it but that the first call answered 0
+-- whatever file was cleaned: nothing is asked of it but that it is bytes, as every lent file is, and that the first call answered 0
 abbrev pub CallsCleanAgain : Type 0
-CallsCleanAgain = (file : List ℕ) (r : CleanCall file) → r .answer .number ≡ 0 → (q : CleanCall (cleanBytes r)) → SameBytes r q
+CallsCleanAgain = (file : List ℕ) → Bytes file → (r : CleanCall file) → r .answer .number ≡ 0 → (q : CleanCall (cleanBytes r)) → SameBytes r q
 
 -- ---- its sheet is printed
 
@@ -45,7 +46,7 @@ pub record SameSheet {a b : List ℕ} (r : SheetCall a) (q : SheetCall b) : Type
 -- where the file and its cleaned file are within the sheet's limit
 abbrev pub CallsPrintTheSame : Type 0
 CallsPrintTheSame =
-    (file : List ℕ) (r : CleanCall file) → r .answer .number ≡ 0 → length file ≤ sheet.fileLimit → r .answer .length ≤ sheet.fileLimit
+    (file : List ℕ) → Bytes file → (r : CleanCall file) → r .answer .number ≡ 0 → length file ≤ sheet.fileLimit → r .answer .length ≤ sheet.fileLimit
     → (s : SheetCall file) (t : SheetCall (cleanBytes r)) → SameSheet s t
 
 -- ---- what is asked of the calls can be had

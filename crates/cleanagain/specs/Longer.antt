@@ -16,7 +16,7 @@ use Rattle.cleanfile.specs.Cleaning.{cleanFile}
 
 -- a corner by its position: texture and normal are missing
 abbrev bare : ℕ → Corner
-bare p = p ∷ missing ∷ missing ∷ []
+bare p = p ∷ missing ∷ missing ∷ 0 ∷ []
 
 -- example 8 of document 01: five positions and the face (0,1,2,0,3,4), which is cut into (0,1,2) and (0,3,4)
 abbrev pub example8 : Mesh

@@ -5,6 +5,7 @@ use mathlib.Core.Path.{_≡_}
 use mathlib.Core.List.{List, []}
 use lib.ListN.{length}
 use mathlib.Core.Bool.{true}
+use Rattle.little.specs.Little.{Bytes}
 use Rattle.reading.specs.Reading.{readingNumber, panelMesh}
 use Rattle.anyorder.specs.Orders.{Step, cleanedBy, sensible}
 use Rattle.written.specs.Pieces.{fileOf, fileLimit}
@@ -12,8 +13,8 @@ use Rattle.cleanfile.specs.Cleaning.{meshLeft, cleanFile}
 use Rattle.lines.specs.Lines.{refusal}
 use Rattle.sheet.specs.Sheet as sheet
 
--- a file that is read: its cleaned file is read too and is within the cleaner's limit; what is left of it is what was left of the file; so
--- cleaning it gives the same bytes
+-- a file of bytes, as every file is, that is read: its cleaned file is read too and is within the cleaner's limit; what is left of it is what
+-- was left of the file; so cleaning it gives the same bytes
 pub record CleanedAgain (file : List ℕ) : Type 0 where
   pub reads : readingNumber [] (cleanFile file) ≡ 0
   pub fits : length (cleanFile file) ≤ fileLimit
@@ -21,12 +22,13 @@ pub record CleanedAgain (file : List ℕ) : Type 0 where
   pub same-bytes : cleanFile (cleanFile file) ≡ cleanFile file
 
 abbrev pub CleaningAgain : Type 0
-CleaningAgain = (file : List ℕ) → readingNumber [] file ≡ 0 → CleanedAgain file
+CleaningAgain = (file : List ℕ) → Bytes file → readingNumber [] file ≡ 0 → CleanedAgain file
 
 -- a file that the sheet takes, whose cleaned file is within the sheet's limit too: the sheet of the cleaned file is the sheet of the file
 abbrev pub SheetOfCleaned : Type 0
 SheetOfCleaned =
-    (file : List ℕ) → sheet.fileNumber file ≡ 0 → length (cleanFile file) ≤ sheet.fileLimit → sheet.sheetOf (cleanFile file) ≡ sheet.sheetOf file
+    (file : List ℕ) → Bytes file → sheet.fileNumber file ≡ 0 → length (cleanFile file) ≤ sheet.fileLimit
+    → sheet.sheetOf (cleanFile file) ≡ sheet.sheetOf file
 
 -- where it is not, its sheet is the one line `refused 1`
 abbrev pub SheetOfLongCleaned : Type 0

@@ -1,4 +1,4 @@
--- What is left of a file is an accepted mesh with finite f64 coordinates: so its file fits the buffer, and is read again. Assumes nothing.
+-- What is left of a file is an accepted mesh with finite f64 coordinates and marks of 32 bits: so its file fits the buffer, and is read again. Assumes nothing.
 use mathlib.Core.Path.{_≡_, refl, sym, _∙_}
 use mathlib.Core.Bool.{false, _||_}
 use mathlib.Core.List.{List, [], _∷_}
@@ -8,8 +8,10 @@ use lib.ListN.{length}
 use lib.Dec.{ltb}
 use borrow.Author.Tests.{ltb-false}
 use Rattle.lists.proofs.Bools.{or-false-left}
+use Rattle.mesh.specs.Limits.{largest}
 use Rattle.mesh.specs.Table.{when, short}
 use Rattle.mesh.proofs.Numbers.{first-head, first-tail, when-not}
+use Rattle.little.specs.Little.{Bytes}
 use Rattle.reading.specs.Reading.{readingNumber, panelMesh}
 use Rattle.written.specs.Pieces.{fileLength, fileLimit}
 use Rattle.written.proofs.Parting.{file-fits}
@@ -18,8 +20,9 @@ use Rattle.written.specs.Said.{isDouble}
 use Rattle.written.proofs.Saying.{doubles}
 use Rattle.written.proofs.Reading.{doubles-are, read-doubles}
 use Rattle.written.proofs.Reopened.{reopens}
-use Rattle.opening.proofs.Reading.{opened-accepted}
+use Rattle.opening.proofs.Reading.{panel-accepted, opened-accepted}
 use Rattle.opening.proofs.Kept.{Passes, cleaned-passes}
+use Rattle.opening.proofs.Marks.{cleaned-marks}
 use Rattle.cleanfile.specs.Cleaning.{meshLeft, cleaningNumber}
 use Rattle.cleanfile.proofs.Answering.{left-finite}
 use Rattle.cleanfile.specs.Promises.{LeftIsAccepted, CleanedFits, CleanedReopens}
@@ -51,12 +54,12 @@ cleaned-fits file before afterwards answer c = go (answer .number) refl
         omega (arith, r .0, l, file-fits (meshLeft file) (left-accepted file (r .1)))
     go (suc n) e = let l : answer .length ≡ 0 = rw e at (c .byte-count) in omega arith
 
--- ---- finite f64 coordinates
+-- ---- finite f64 coordinates, and marks of 32 bits
 
-left-double : (file : List ℕ) → DoubleMesh (meshLeft file)
-left-double file =
+left-double : (file : List ℕ) → Bytes file → readingNumber [] file ≡ 0 → DoubleMesh (meshLeft file)
+left-double file b h =
     let m = panelMesh file in
-    let d = read-doubles file in
+    let d = read-doubles file b in
     let k : Passes isDouble (meshLeft file) =
     cleaned-passes isDouble m
     (record {
@@ -68,7 +71,8 @@ left-double file =
       positions = doubles-are (meshLeft file .positions) (k .positions);
       textures = doubles-are (meshLeft file .textures) (k .textures);
       normals = doubles-are (meshLeft file .normals) (k .normals);
+      marks = cleaned-marks largest m (panel-accepted file h) (d .marks);
     }
 
 pub cleaned-reopens : CleanedReopens
-cleaned-reopens file h = reopens (meshLeft file) (left-accepted file h) (left-double file) (left-finite file)
+cleaned-reopens file b h = reopens (meshLeft file) (left-accepted file h) (left-double file b h) (left-finite file)

@@ -4,6 +4,7 @@ use mathlib.Core.Path.{_≡_}
 use mathlib.Core.List.{List, []}
 use lib.ListN.{length}
 use Rattle.mesh.specs.Table.{meshNumber}
+use Rattle.little.specs.Little.{Bytes}
 use Rattle.reading.specs.Reading.{readingNumber}
 use Rattle.written.specs.Promises.{Reopens}
 use Rattle.cleanfile.specs.declared.Cleaned.{Cleaned}
@@ -19,4 +20,4 @@ CleanedFits = (file before afterwards : List ℕ) (answer : Cleaned) → PanelCl
 
 -- it is read again, into the mesh that was left, and written again byte for byte
 abbrev pub CleanedReopens : Type 0
-CleanedReopens = (file : List ℕ) → readingNumber [] file ≡ 0 → Reopens (meshLeft file)
+CleanedReopens = (file : List ℕ) → Bytes file → readingNumber [] file ≡ 0 → Reopens (meshLeft file)

@@ -5,7 +5,7 @@ use mathlib.Core.Bool.{false}
 use mathlib.Core.List.{List, [], map, List·Memᴰ}
 use lib.ListN.{length, getD, take}
 use Rattle.mesh.specs.Limits.{width}
-use Rattle.mesh.specs.Mesh.{Mesh, meshOf, Ring, rings, faces}
+use Rattle.mesh.specs.Mesh.{Mesh, meshOf, Ring, mark, rings, faces}
 use Rattle.mesh.specs.Table.{meshNumber}
 use Rattle.folding.specs.Folding.{pieces}
 use Rattle.removal.specs.declared.Removed.{Removed}
@@ -18,6 +18,11 @@ use Rattle.cleaning.specs.Cleaning.{cleaned}
 -- of an accepted mesh it is accepted too
 abbrev pub CleanedIsAccepted : Type 0
 CleanedIsAccepted = (m : Mesh) → meshNumber m ≡ 0 → meshNumber (cleaned m) ≡ 0
+
+-- the mark moves with its corner: face by face the marks are those of the faces that the removal left, which are whole corners of the faces
+-- that were given (folding `PiecesAtPlaces`, removal `WhatAFaceLeaves`)
+abbrev pub MarksStay : Type 0
+MarksStay = (m : Mesh) → meshNumber m ≡ 0 → map (map mark) (faces (cleaned m)) ≡ map (map mark) (removal.removed (faces m))
 
 -- ---- the two calls in a row
 

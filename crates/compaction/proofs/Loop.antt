@@ -2,24 +2,24 @@
 -- nothing.
 use mathlib.Core.Path.{_≡_, refl, sym, ap, _∙_}
 use mathlib.Core.List.{List, [], _∷_, _++_, map, map-append}
-use Prim.Native.Nat.{ℕ, zero, suc, _+_, _*_, _/_, _≤_, _<_}
+use Prim.Native.Nat.{ℕ, zero, suc, _+_, _*_, _/_, _%_, _≤_, _<_}
 use native.Mathlib.Nat.{add-zero}
 use native.Mathlib.Numerals.{add-one}
 use native.Mathlib.Omega.{arith}
-use lib.ListN.{length, getD, take, set, replicate, length-set}
-use lib.Seq.{sets, length-sets, set-comm, take-suc, take-all, length-take-le}
+use lib.ListN.{length, getD, take, drop, set, replicate, length-set, List·getD-append}
+use lib.Seq.{sets, length-sets, set-comm, set-getD, getD-set-other, getD-append-add, getD-drop, drop-at, take-suc, take-all, length-take-le}
 use lib.Ieee.{Float}
 use Rattle.lists.specs.Lists.{joined}
 use Rattle.lists.specs.FirstUses.{firstUses}
 use Rattle.lists.proofs.Parts.{joined-append}
 use Rattle.lists.proofs.Stores.{three-stores}
-use Rattle.lists.proofs.Writing.{sets-append}
+use Rattle.lists.proofs.Writing.{sets-append, sets-snoc, sets-front}
 use Rattle.mesh.specs.Limits.{pointWidth, texelWidth, width, entryLimit}
 use Rattle.mesh.specs.Mesh.{Corner, Ring, missing, cornersIn, cornerAt}
 use Rattle.mesh.proofs.Corners.{length-cornersIn, getD-cornersIn}
 use Rattle.unused.specs.declared.Compacted.{Compacted}
 use Rattle.unused.specs.Compaction.{usesOf, renumber, entries, Result}
-use Rattle.unused.specs.Working.{column, newCorner, Pointed, Done}
+use Rattle.unused.specs.Working.{column, newCorner, Pointed, Ready, Done}
 use Rattle.oneindex.specs.Working.{indexAt, usesTo, Tables, Before, Taken}
 use Rattle.oneindex.proofs.Turn.{tables-begin, length-column, uses-within}
 use Rattle.compaction.specs.Columns.{columnPut, ColumnReady, ColumnDone}
@@ -76,8 +76,35 @@ module _
 
 -- ---- the new corners
 
-from-first : (l : List ℕ) (a x y z : ℕ) → set (set (set l (a + 0) x) (a + 1) y) (a + 2) z ≡ sets l a (x ∷ y ∷ z ∷ [])
-from-first l a x y z = rw (add-zero a) (three-stores l a x y z)
+-- three stores before a mark that stands there already
+from-first :
+    (l : List ℕ) (a x y z m : ℕ) → getD l (a + 3) 0 ≡ m → set (set (set l (a + 0) x) (a + 1) y) (a + 2) z ≡ sets l a (x ∷ y ∷ z ∷ m ∷ [])
+from-first l a x y z m e =
+    let stored = set (set (set l (a + 0) x) (a + 1) y) (a + 2) z in
+    let stands : getD stored (a + 3) 0 ≡ m =
+    getD-set-other (set (set l (a + 0) x) (a + 1) y) (a + 2) (a + 3) z 0 (λ i. omega (arith, i))
+    ∙ getD-set-other (set l (a + 0) x) (a + 1) (a + 3) y 0 (λ i. omega (arith, i))
+    ∙ getD-set-other l (a + 0) (a + 3) x 0 (λ i. omega (arith, i)) ∙ e in
+    let three : stored ≡ sets l a (x ∷ y ∷ z ∷ []) = rw (add-zero a) (three-stores l a x y z) in
+    sym (set-getD stored (a + 3) 0) ∙ ap (set stored (a + 3)) stands
+    ∙ ap (λ (r : List ℕ). set r (a + 3) m) three
+    ∙ sym (sets-snoc l a (x ∷ y ∷ z ∷ []) m)
+
+-- what stands behind the part that is written is as it was
+behind : (l done : List ℕ) (n : ℕ) → length done ≤ length l → getD (sets l 0 done) (length done + n) 0 ≡ getD l (length done + n) 0
+behind l done n h =
+    ap (λ (r : List ℕ). getD r (length done + n) 0) (sets-front l done h)
+    ∙ getD-append-add done (drop (length done) l) n 0
+    ∙ getD-drop (length done) l n 0
+
+-- a part that is written over another of its length
+written-over :
+    (l old new : List ℕ) → length new ≡ length old → length old ≤ length l → sets (sets l 0 old) 0 new ≡ sets l 0 new
+written-over l old new e h =
+    sets-front (sets l 0 old) new (omega (arith, e, h, length-sets l 0 old))
+    ∙ ap (λ (r : List ℕ). new ++ drop (length new) r) (sets-front l old h)
+    ∙ ap (λ (r : List ℕ). new ++ r) (drop-at old (drop (length old) l) (length new) (sym e) ∙ ap (λ (n : ℕ). drop n l) (sym e))
+    ∙ sym (sets-front l new (omega (arith, e, h)))
 
 module _ (cs : List ℕ) where
   length-new : (l : Ring) → length (joined (map (newCorner cs) l)) ≡ width * length l
@@ -101,24 +128,28 @@ module _ (cs : List ℕ) where
       ∙ joined-append (map (newCorner cs) done) (newCorner cs (getD (cornersIn cs) k []) ∷ [])
       ∙ ap (λ (c : Corner). joined (map (newCorner cs) done) ++ c) (corner-is k h)
 
-  -- three stores behind the corners that are written
+  -- three stores behind the corners that are written; the mark stands there
   corners-turn :
-      (o : List ℕ) (k : ℕ) → k < length cs / width → (c0 c1 c2 c3 : List ℕ)
+      (o : List ℕ) (k : ℕ) → k < length cs / width → length cs ≤ length o
+      → getD o (width * k + 3) 0 ≡ getD cs (width * k + 3) 0 → (c0 c1 c2 c3 : List ℕ)
       → c0 ≡ sets o 0 (joined (map (newCorner cs) (take k (cornersIn cs))))
       → c1 ≡ set c0 (width * k + 0) (renumber (usesOf (column 0 cs)) (getD cs (width * k + 0) 0))
       → c2 ≡ set c1 (width * k + 1) (renumber (usesOf (column 1 cs)) (getD cs (width * k + 1) 0))
       → c3 ≡ set c2 (width * k + 2) (renumber (usesOf (column 2 cs)) (getD cs (width * k + 2) 0))
       → c3 ≡ sets o 0 (joined (map (newCorner cs) (take (k + 1) (cornersIn cs))))
-  corners-turn o k h c0 c1 c2 c3 e0 e1 e2 e3 =
+  corners-turn o k h fits m c0 c1 c2 c3 e0 e1 e2 e3 =
       let done = joined (map (newCorner cs) (take k (cornersIn cs))) in
       let long : 0 + length done ≡ width * k =
       let a : length done ≡ width * length (take k (cornersIn cs)) = length-new (take k (cornersIn cs)) in
       let b : length (take k (cornersIn cs)) ≡ k = length-take-le k (cornersIn cs) (rw (length-cornersIn cs) (omega arith)) in
       omega arith in
-      e3 ∙ rw (e2, e1) (from-first c0 (width * k) _ _ _)
+      let stands : getD c0 (width * k + 3) 0 ≡ getD cs (width * k + 3) 0 =
+      let n : length done ≡ width * k = omega (arith, long) in
+      rw (e0, sym n) (behind o done 3 (omega (arith, n, fits))) ∙ ap (λ (i : ℕ). getD o (i + 3) 0) n ∙ m in
+      e3 ∙ rw (e2, e1) (from-first c0 (width * k) _ _ _ _ stands)
       ∙ ap (λ (i : ℕ). sets c0 (width * k)
       (renumber (usesOf (column 0 cs)) (getD cs i 0) ∷ renumber (usesOf (column 1 cs)) (getD cs (width * k + 1) 0) ∷ renumber
-      (usesOf (column 2 cs)) (getD cs (width * k + 2) 0) ∷ [])) (add-zero (width * k))
+      (usesOf (column 2 cs)) (getD cs (width * k + 2) 0) ∷ getD cs (width * k + 3) 0 ∷ [])) (add-zero (width * k))
       ∙ ap (λ (l : List ℕ). sets l (width * k) (newCorner cs (cornerAt cs k))) e0
       ∙ ap (λ (n : ℕ). sets (sets o 0 done) n (newCorner cs (cornerAt cs k))) (sym long)
       ∙ sym (sets-append o 0 done (newCorner cs (cornerAt cs k)))
@@ -191,7 +222,16 @@ put-past q cs h (suc k) o i x l =
     ap (λ (r : List ℕ). set r (width * k + q) v) (put-past q cs h k o i x (omega (arith, l)))
     ∙ set-comm (columnPut q cs k o) i (width * k + q) x v (λ e. omega (arith, e, h, l))
 
-module _ (cs o : List ℕ) where
+module _ (cs lent : List ℕ) (room : length cs ≤ length lent) where
+  -- the corners as they were, with their marks, are written first
+  abbrev o : List ℕ
+  o = sets lent 0 cs
+
+  mark-there : (k : ℕ) → k < length cs / width → getD o (width * k + 3) 0 ≡ getD cs (width * k + 3) 0
+  mark-there k h =
+      ap (λ (l : List ℕ). getD l (width * k + 3) 0) (sets-front lent cs room)
+      ∙ List·getD-append cs (drop (length cs) lent) 0 (width * k + 3) (omega arith)
+
   abbrev three : ℕ → List ℕ
   three k = columnPut 2 cs k (columnPut 1 cs k (columnPut 0 cs k o))
 
@@ -219,29 +259,34 @@ module _ (cs o : List ℕ) where
   unfolding columnPut
   three-are zero h = refl
   three-are (suc k) h =
-      corners-turn cs o k (omega arith) (three k) _ _ (three (suc k)) (three-are k (omega arith)) refl refl (three-more k)
+      corners-turn cs o k (omega arith) (omega (arith, room, length-sets lent 0 cs)) (mark-there k (omega arith))
+      (three k) _ _ (three (suc k)) (three-are k (omega arith)) refl refl (three-more k)
       ∙ ap (λ (n : ℕ). sets o 0 (joined (map (newCorner cs) (take n (cornersIn cs))))) (add-one k)
 
   -- the three columns, one after the other, are the new corners
-  pub columns-are : three (length cs / width) ≡ sets o 0 (joined (map (newCorner cs) (cornersIn cs)))
-  columns-are =
+  pub columns-are : length cs % width ≡ 0 → three (length cs / width) ≡ sets lent 0 (joined (map (newCorner cs) (cornersIn cs)))
+  columns-are whole =
       three-are (length cs / width) (omega arith)
       ∙ ap (λ (l : Ring). sets o 0 (joined (map (newCorner cs) l))) (take-all (length cs / width) (cornersIn cs) (rw (length-cornersIn cs) (omega arith)))
+      ∙ written-over lent cs (joined (map (newCorner cs) (cornersIn cs))) (omega (arith, whole, length-new cs (cornersIn cs), length-cornersIn cs)) room
 
 pub columns-done :
-    {p t n : List Float} {cs c1 c2 : List ℕ} {before afterwards : Result} {i j k : ℕ}
-    → ColumnDone p pointWidth cs 0 (before .positions) (afterwards .positions) (before .corners) c1 i
+    {p t n : List Float} {cs c0 c1 c2 : List ℕ} {before afterwards : Result} {i j k : ℕ}
+    → Ready p t n cs before
+    → c0 ≡ sets (before .corners) 0 cs
+    → ColumnDone p pointWidth cs 0 (before .positions) (afterwards .positions) c0 c1 i
     → ColumnDone t texelWidth cs 1 (before .textures) (afterwards .textures) c1 c2 j
     → ColumnDone n pointWidth cs 2 (before .normals) (afterwards .normals) c2 (afterwards .corners) k
     → Done p t n cs before afterwards (record { number = 0; positions = i; textures = j; normals = k })
-columns-done {cs = cs} {before = before} a b c = record {
+columns-done {cs = cs} {before = before} r e a b c = record {
   number = refl;
   position-count = a .count;
   texture-count = b .count;
   normal-count = c .count;
   corners =
       c .corners ∙ ap (columnPut 2 cs (length cs / width)) (b .corners ∙ ap (columnPut 1 cs (length cs / width)) (a .corners))
-      ∙ columns-are cs (before .corners);
+      ∙ ap (λ (l : List ℕ). columnPut 2 cs (length cs / width) (columnPut 1 cs (length cs / width) (columnPut 0 cs (length cs / width) l))) e
+      ∙ columns-are cs (before .corners) (r .corner-room) (r .whole);
   positions = a .entries;
   textures = b .entries;
   normals = c .entries;

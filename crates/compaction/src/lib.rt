@@ -72,7 +72,8 @@ fn refused(number: u32) -> Compacted
     }
 }
 
-// Column by column; `cs`, `ps`, `ts` and `ns` are lent for the new corners, positions, texture points and normals.
+// The corners are written as they are, each with its mark; then, column by column, their indices get the new numbers. `cs`, `ps`, `ts` and
+// `ns` are lent for the new corners, positions, texture points and normals.
 pub fn compact(
     positions: &[f64],
     textures: &[f64],
@@ -88,6 +89,7 @@ pub fn compact(
         (want.resultOf (now (cs .entry)) (now (ps .entry)) (now (ts .entry)) (now (ns .entry)))
         (want.resultOf (now (cs .exit)) (now (ps .exit)) (now (ts .exit)) (now (ns .exit))) r ⌝ }
 {
+    lists::put(corners, cs, 0);
     let p = compact_column(positions, POINT_WIDTH, corners, 0, ps, cs);
     let t = compact_column(textures, TEXEL_WIDTH, corners, 1, ts, cs);
     let n = compact_column(normals, POINT_WIDTH, corners, 2, ns, cs);

@@ -23,7 +23,7 @@ use Rattle.merging.specs.Merging.{mergeNumber, texturePairs, mergedCorners}
 
 -- faces by positions only
 abbrev pub face : List ℕ → Ring
-face ps = map (λ p. p ∷ missing ∷ missing ∷ []) ps
+face ps = map (λ p. p ∷ missing ∷ missing ∷ 0 ∷ []) ps
 
 abbrev pub facesBy : List (List ℕ) → List Ring
 facesBy fs = map face fs
@@ -121,7 +121,7 @@ sixPositions =
     (map (ofBits binary64) (span 0 18))
     []
     []
-    (5 ∷ missing ∷ missing ∷ 2 ∷ missing ∷ missing ∷ 4 ∷ missing ∷ missing ∷ [])
+    (5 ∷ missing ∷ missing ∷ 0 ∷ 2 ∷ missing ∷ missing ∷ 0 ∷ 4 ∷ missing ∷ missing ∷ 0 ∷ [])
     (3 ∷ [])
 
 -- a mesh is accepted, the positions of its corners become these, and the new list has coordinates with these bits
@@ -157,7 +157,7 @@ threeTextures =
     (nought ∷ nought ∷ nought ∷ [])
     (nought ∷ nought ∷ half ∷ nought ∷ one ∷ nought ∷ [])
     []
-    (0 ∷ 0 ∷ missing ∷ 0 ∷ 1 ∷ missing ∷ 0 ∷ 2 ∷ missing ∷ [])
+    (0 ∷ 0 ∷ missing ∷ 0 ∷ 0 ∷ 1 ∷ missing ∷ 0 ∷ 0 ∷ 2 ∷ missing ∷ 0 ∷ [])
     (3 ∷ [])
 
 -- a mesh is accepted at a tolerance, so many pairs of texture points are compared, and the texture indices of its corners become

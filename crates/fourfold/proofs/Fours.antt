@@ -30,11 +30,11 @@ behind a b o o1 o2 at m e f g = rw (g, f, sets-append o at a b, e)
 -- three corners
 pub corners-put :
     (a b c o o1 o2 o3 : List ℕ) (at : ℕ) → length a ≡ width → length b ≡ width
-    → o1 ≡ sets o at a → o2 ≡ sets o1 (at + width) b → o3 ≡ sets o2 (at + 6) c
+    → o1 ≡ sets o at a → o2 ≡ sets o1 (at + width) b → o3 ≡ sets o2 (at + 2 * width) c
     → o3 ≡ sets o at (joined (a ∷ b ∷ c ∷ []))
 corners-put a b c o o1 o2 o3 at la lb f g h =
     behind a (b ++ (c ++ [])) o o1 o3 at (at + width) (omega arith) f
-    (behind b (c ++ []) o1 o2 o3 (at + width) (at + 6) (omega arith) g (rw append-nil h))
+    (behind b (c ++ []) o1 o2 o3 (at + width) (at + 2 * width) (omega arith) g (rw append-nil h))
 
 three-long : (a b c : List ℕ) → length a ≡ width → length b ≡ width → length c ≡ width → length (joined (a ∷ b ∷ c ∷ [])) ≡ triangleNumbers
 three-long a b c f g h =
@@ -45,21 +45,21 @@ pub quarters-put :
     (v0 v1 v2 e0 e1 e2 o o1 o2 o3 o4 : List ℕ) (at : ℕ)
     → length v0 ≡ width → length v1 ≡ width → length v2 ≡ width → length e0 ≡ width → length e1 ≡ width → length e2 ≡ width
     → o1 ≡ sets o at (joined (v0 ∷ e2 ∷ e1 ∷ []))
-    → o2 ≡ sets o1 (at + 9) (joined (e0 ∷ v2 ∷ e1 ∷ []))
-    → o3 ≡ sets o2 (at + 18) (joined (e0 ∷ e2 ∷ v1 ∷ []))
-    → o4 ≡ sets o3 (at + 27) (joined (e0 ∷ e1 ∷ e2 ∷ []))
+    → o2 ≡ sets o1 (at + triangleNumbers) (joined (e0 ∷ v2 ∷ e1 ∷ []))
+    → o3 ≡ sets o2 (at + 2 * triangleNumbers) (joined (e0 ∷ e2 ∷ v1 ∷ []))
+    → o4 ≡ sets o3 (at + 3 * triangleNumbers) (joined (e0 ∷ e1 ∷ e2 ∷ []))
     → o4 ≡ sets o at (each joined (quartered v0 v1 v2 e0 e1 e2))
 quarters-put v0 v1 v2 e0 e1 e2 o o1 o2 o3 o4 at lv0 lv1 lv2 le0 le1 le2 f g h i =
     let a : List ℕ = joined (v0 ∷ e2 ∷ e1 ∷ []) in
     let b : List ℕ = joined (e0 ∷ v2 ∷ e1 ∷ []) in
     let c : List ℕ = joined (e0 ∷ e2 ∷ v1 ∷ []) in
     let d : List ℕ = joined (e0 ∷ e1 ∷ e2 ∷ []) in
-    let la : length a ≡ 9 = three-long v0 e2 e1 lv0 le2 le1 in
-    let lb : length b ≡ 9 = three-long e0 v2 e1 le0 lv2 le1 in
-    let lc : length c ≡ 9 = three-long e0 e2 v1 le0 le2 lv1 in
-    behind a (b ++ (c ++ (d ++ []))) o o1 o4 at (at + 9) (ap (λ (n : ℕ). at + n) la) f
-    (behind b (c ++ (d ++ [])) o1 o2 o4 (at + 9) (at + 18) (omega (arith, lb)) g
-    (behind c (d ++ []) o2 o3 o4 (at + 18) (at + 27) (omega (arith, lc)) h (i ∙ ap (sets o3 (at + 27)) (sym (append-nil d)))))
+    let la : length a ≡ triangleNumbers = three-long v0 e2 e1 lv0 le2 le1 in
+    let lb : length b ≡ triangleNumbers = three-long e0 v2 e1 le0 lv2 le1 in
+    let lc : length c ≡ triangleNumbers = three-long e0 e2 v1 le0 le2 lv1 in
+    behind a (b ++ (c ++ (d ++ []))) o o1 o4 at (at + triangleNumbers) (ap (λ (n : ℕ). at + n) la) f
+    (behind b (c ++ (d ++ [])) o1 o2 o4 (at + triangleNumbers) (at + 2 * triangleNumbers) (omega (arith, lb)) g
+    (behind c (d ++ []) o2 o3 o4 (at + 2 * triangleNumbers) (at + 3 * triangleNumbers) (omega (arith, lc)) h (i ∙ ap (sets o3 (at + 3 * triangleNumbers)) (sym (append-nil d)))))
 
 -- ---- the four triangles of the face at place k
 
@@ -141,7 +141,7 @@ module _ (cs es : List ℕ) (n : ℕ) (out : List ℕ) (g : Given cs es n out) w
   folding-turns out′ out″ k h f e =
       let here : each joined (fourAt cs es n k) ≡ flat cs n (getD (triangles cs) k []) =
       ap (λ (t : List ℕ). each joined (fourAt cs t n k)) (g .numbers) ∙ ap (each joined) (four-here cs n k h) in
-      let so-long : length (each joined (fourAt cs es n k)) ≡ 36 = refl in
+      let so-long : length (each joined (fourAt cs es n k)) ≡ fold * triangleNumbers = refl in
       listing-turns [] (flat cs n) (triangles cs) out 0 out′ out″ (fold * triangleNumbers * k) (fold * triangleNumbers * (k + 1)) k
       (omega (arith, length-triangles cs))
       f

@@ -1,5 +1,5 @@
 // Four triangles for one, as the Rust's `loop_subdivision` writes them: the three at the corners, then the one in the middle. Old corners
-// keep their texture and normal; the corners on the edges carry none. The rule is `four` in smoothed's specs/Smoothed.antt.
+// keep their texture, normal and mark; the corners on the edges carry none. The rule is `four` in smoothed's specs/Smoothed.antt.
 ghost use mathlib.Core.Path.{_≡_};
 ghost use mathlib.Core.List.{[], _∷_};
 ghost use Prim.Native.Nat.{_+_, _*_, _≤_};
@@ -79,12 +79,12 @@ fn put_quarters(
     put_triangle(e0, e1, e2, out, at + 3 * TRIANGLE);
 }
 
-// The corner on an edge: behind the old positions, by the edge's number, with no texture and no normal.
+// The corner on an edge: behind the old positions, by the edge's number, with no texture, no normal and no mark.
 fn inner_corner(positions: usize, number: u32) -> [u32; WIDTH]
     requires { ⌜ (positions ≤ entryLimit) × (number ≤ cornerLimit) ⌝ }
     ensures { λ r. ⌜ r ≡ bare (positions + number) ⌝ }
 {
-    [positions as u32 + number, MISSING, MISSING]
+    [positions as u32 + number, MISSING, MISSING, 0]
 }
 
 // Three corners, one behind the other.

@@ -8,8 +8,9 @@ use lib.ListN.{length, getD, take}
 use lib.Seq.{sets, length-sets, take-suc, take-length, length-take-le}
 use Rattle.lists.specs.Lists.{each}
 use Rattle.lists.proofs.Parts.{each-append}
+use Rattle.mesh.specs.Limits.{width}
 use Rattle.scanned.specs.Scan.{bare}
-use Rattle.scanned.proofs.Threes.{length-bare}
+use Rattle.scanned.proofs.Pieces.{length-bare}
 use Rattle.handing.proofs.Growth.{piece-behind}
 
 pub record Cornering (numbers before now : List ℕ) (x : ℕ) : Type 0 where
@@ -21,11 +22,11 @@ pub corner-begins : (numbers c : List ℕ) → Cornering numbers c c 0
 corner-begins numbers c = record { within = omega arith; put = refl; long = refl }
 
 pub corner-turns :
-    (numbers c₀ c c′ : List ℕ) (x i : ℕ) → x < length numbers → i ≡ 3 * x → c′ ≡ sets c i (bare (getD numbers x 0)) → Cornering numbers c₀ c x
+    (numbers c₀ c c′ : List ℕ) (x i : ℕ) → x < length numbers → i ≡ width * x → c′ ≡ sets c i (bare (getD numbers x 0)) → Cornering numbers c₀ c x
     → Cornering numbers c₀ c′ (x + 1)
 corner-turns numbers c₀ c c′ x i h e w s =
     let n : length (take x numbers) ≡ x = length-take-le x numbers (omega arith) in
-    let o : i ≡ length (each bare (take x numbers)) = e ∙ ap (λ (j : ℕ). 3 * j) (sym n) ∙ sym (length-bare (take x numbers)) in
+    let o : i ≡ length (each bare (take x numbers)) = e ∙ ap (λ (j : ℕ). width * j) (sym n) ∙ sym (length-bare (take x numbers)) in
     record {
       within = omega arith;
       put =

@@ -1,9 +1,10 @@
--- What is written from the front on, and a piece more behind it. Assumes nothing.
+-- What is written from the front on, and a piece more behind it; four stores to places in a row are one piece. Assumes nothing.
 use mathlib.Core.Path.{_≡_, sym, ap, _∙_}
-use mathlib.Core.List.{List, _++_}
-use Prim.Native.Nat.{ℕ}
+use mathlib.Core.List.{List, [], _∷_, _++_}
+use Prim.Native.Nat.{ℕ, _+_}
 use native.Mathlib.Nat.{zero-add}
-use lib.ListN.{length}
+use native.Mathlib.Numerals.{towards-suc}
+use lib.ListN.{length, set}
 use lib.Seq.{sets}
 use Rattle.lists.proofs.Writing.{sets-append}
 
@@ -14,3 +15,7 @@ piece-behind l₀ l l′ a b i e n f =
     ∙ ap (λ (t : List _). sets t i b) e
     ∙ ap (λ (j : ℕ). sets (sets l₀ 0 a) j b) (n ∙ sym (zero-add (length a)))
     ∙ sym (sets-append l₀ 0 a b)
+
+pub four-stores :
+    (l : List ℕ) (b x y z u : ℕ) → set (set (set (set l b x) (b + 1) y) (b + 2) z) (b + 3) u ≡ sets l b (x ∷ y ∷ z ∷ u ∷ [])
+four-stores l b x y z u = simp towards-suc

@@ -20,7 +20,7 @@ use Rattle.scanned.specs.Seen.{upto, seen}
 use Rattle.scanned.proofs.Prefixes.{upto-long, has-seen, seen-old, seen-new, number-old, number-new}
 use Rattle.handing.specs.Handing.{PositionRoom}
 use Rattle.handing.specs.Steps.{NewRoom, NewPut}
-use Rattle.scanned.proofs.Threes.{length-positions}
+use Rattle.scanned.proofs.Pieces.{length-positions}
 use Rattle.handing.proofs.Growth.{piece-behind}
 
 pub record Putting (key : ℕ → ℕ) (u : ℕ) (before now : List Float) (x found : ℕ) : Type 0 where

@@ -40,7 +40,7 @@ fn put_new(file: &[u8], x: usize, number: usize, found: usize, positions: &mut [
     found + 1
 }
 
-// A corner for each point: its position's number, no texture and no normal.
+// A corner for each point: its position's number, no texture, no normal and no mark.
 pub fn put_corners(numbers: &[u32], corners: &mut [u32])
     requires { ⌜ CornerRoom (now numbers) (now corners) ⌝ }
     ensures { λ _. ⌜ now (corners .exit) ≡ sets (now (corners .entry)) 0 (each bare (now (numbers .entry))) ⌝ }
@@ -59,4 +59,5 @@ fn put_bare(number: u32, corners: &mut [u32], at: usize)
     corners[at] = number;
     corners[at + 1] = mesh::MISSING;
     corners[at + 2] = mesh::MISSING;
+    corners[at + 3] = 0;
 }

@@ -246,7 +246,7 @@ fn merge_positions(positions: &[f64], t: f64, map: &mut [u32], by_cell: bool) ->
 
 // ---- corners
 
-// Indices in corners become the representative's.
+// Indices in corners become the representative's; each mark stays with its corner.
 fn send_corners(corners: &[u32], pmap: &[u32], tmap: &[u32], nmap: &[u32], out: &mut [u32])
     requires { ⌜ Indexed (now corners) (now pmap) (now tmap) (now nmap) (now out) ⌝ }
     ensures { λ _. ⌜ now (out .exit) ≡ sets (now (out .entry)) 0 (joined (map (sentCorner (now (pmap .entry)) (now (tmap .entry)) (now (nmap .entry))) (cornersIn (now (corners .entry))))) ⌝ }
@@ -258,6 +258,7 @@ fn send_corners(corners: &[u32], pmap: &[u32], tmap: &[u32], nmap: &[u32], out: 
         out[at] = pmap[corners[at] as usize];
         out[at + 1] = sent(tmap, corners[at + 1]);
         out[at + 2] = sent(nmap, corners[at + 2]);
+        out[at + 3] = corners[at + 3];
         k += 1;
     }
 }

@@ -17,12 +17,14 @@ use Rattle.mesh.specs.Limits.{width}
 use Rattle.mesh.specs.Mesh.{Corner, Ring, firstCorners, cornersIn, cornerAt}
 
 -- the numbers of one corner
-corner-of : (cs : List ℕ) (i : ℕ) → i + width ≤ length cs → take width (drop i cs) ≡ getD cs i 0 ∷ getD cs (i + 1) 0 ∷ getD cs (i + 2) 0 ∷ []
+corner-of : (cs : List ℕ) (i : ℕ) → i + width ≤ length cs → take width (drop i cs) ≡ getD cs i 0 ∷ getD cs (i + 1) 0 ∷ getD cs (i + 2) 0 ∷ getD cs (i + 3) 0 ∷ []
 corner-of cs i h =
     let a : i < length cs = omega arith in
     let b : suc i < length cs = omega arith in
     let c : suc (suc i) < length cs = omega arith in
-    simp towards-suc (rw (drop-cons cs i 0 a, drop-cons cs (suc i) 0 b, drop-cons cs (suc (suc i)) 0 c))
+    let d : suc (suc (suc i)) < length cs = omega arith in
+    simp towards-suc
+    (rw (drop-cons cs i 0 a, drop-cons cs (suc i) 0 b, drop-cons cs (suc (suc i)) 0 c, drop-cons cs (suc (suc (suc i))) 0 d))
 
 -- one more corner of what is left
 pub cornersIn-step : (cs : List ℕ) (k : ℕ) → width * (k + 1) ≤ length cs → cornersIn (drop (width * k) cs) ≡ cornerAt cs k ∷ cornersIn (drop (width * (k + 1)) cs)

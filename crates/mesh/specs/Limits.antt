@@ -9,7 +9,7 @@ abbrev pub texelWidth : ℕ
 texelWidth = 2
 
 abbrev pub width : ℕ
-width = 3
+width = 4
 
 -- the largest number that a list of corners or of sizes can hold, 32 bits each
 abbrev pub largest : ℕ

@@ -20,7 +20,7 @@ meshOf p t n c s = record { positions = p; textures = t; normals = n; corners = 
 abbrev pub missing : ℕ
 missing = largest
 
--- a corner is its numbers: position, texture, normal
+-- a corner is its numbers: position, texture, normal, mark
 abbrev pub Corner : Type 0
 Corner = List ℕ
 
@@ -33,13 +33,17 @@ texture c = getD c 1 0
 abbrev pub normal : Corner → ℕ
 normal c = getD c 2 0
 
+-- the seam mark of a corner, 0 for none (document 02, CR 11): no rule tests it, and it moves with its corner
+abbrev pub mark : Corner → ℕ
+mark c = getD c 3 0
+
 -- a ring is the corners of one face, in their order
 abbrev pub Ring : Type 0
 Ring = List Corner
 
 -- corner k of a flat list
 abbrev pub cornerAt : List ℕ → ℕ → Corner
-cornerAt cs k = getD cs (width * k) 0 ∷ getD cs (width * k + 1) 0 ∷ getD cs (width * k + 2) 0 ∷ []
+cornerAt cs k = getD cs (width * k) 0 ∷ getD cs (width * k + 1) 0 ∷ getD cs (width * k + 2) 0 ∷ getD cs (width * k + 3) 0 ∷ []
 
 -- the first n corners of a flat list, and all that are whole
 abbrev pub firstCorners : ℕ → List ℕ → Ring

@@ -1,7 +1,7 @@
 // The mesh: five lent lists, the number that they earn, and the corners of a face.
 //
-// A mesh comes as five lists: positions and normals, three coordinates each; texture points, two each; corners, three numbers
-// each (position, texture, normal; `MISSING` for a missing texture or normal); and the sizes of the faces. `number` says
+// A mesh comes as five lists: positions and normals, three coordinates each; texture points, two each; corners, four numbers
+// each (position, texture, normal, with `MISSING` for a missing texture or normal, and the mark, 0 for none); and the sizes of the faces. `number` says
 // which row of the table of numbers returned they earn first, 0 where none; every call on a mesh begins with it. `face` and
 // `face_at` hand back the corners of one face as a part of the list of corners.
 ghost use mathlib.Core.Path.{_≡_};
@@ -20,12 +20,12 @@ pub const LARGEST: u32 = 4294967295;
 
 pub const MISSING: u32 = LARGEST;
 
-// How many numbers a position or normal has, a texture point, and a corner (position, texture, normal).
+// How many numbers a position or normal has, a texture point, and a corner (position, texture, normal, mark).
 pub const POINT_WIDTH: usize = 3;
 
 pub const TEXEL_WIDTH: usize = 2;
 
-pub const WIDTH: usize = 3;
+pub const WIDTH: usize = 4;
 
 // The fewest and the most corners that a face may have.
 pub const LEAST_RING: usize = 3;
@@ -104,7 +104,12 @@ pub fn corner_at(corners: &[u32], k: usize) -> [u32; WIDTH]
     ensures { λ r. ⌜ r ≡ cornerAt (now (corners .entry)) k ⌝ }
 {
     let at = WIDTH * k;
-    [corners[at], corners[at + 1], corners[at + 2]]
+    [
+        corners[at],
+        corners[at + 1],
+        corners[at + 2],
+        corners[at + 3],
+    ]
 }
 
 // How many corners stand before face k.

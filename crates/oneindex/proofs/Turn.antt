@@ -38,7 +38,8 @@ at-corner : (q : ℕ) (cs : List ℕ) (k : ℕ) → q < width → getD (cornerAt
 at-corner zero cs k h = ap (λ (i : ℕ). getD cs i 0) (omega arith)
 at-corner (suc zero) cs k h = refl
 at-corner (suc (suc zero)) cs k h = refl
-at-corner (suc (suc (suc q))) cs k h = absurd (omega arith)
+at-corner (suc (suc (suc zero))) cs k h = refl
+at-corner (suc (suc (suc (suc q)))) cs k h = absurd (omega arith)
 
 pub getD-column : (q : ℕ) (cs : List ℕ) (k : ℕ) → q < width → k < length cs / width → getD (column q cs) k 0 ≡ indexAt cs k q
 getD-column q cs k h l =

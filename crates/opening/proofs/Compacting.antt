@@ -1,13 +1,15 @@
 -- Compaction in lists at the full limits: on an accepted mesh each of its columns can be compacted within its list, and what that gives
 -- stands at the front of the lists. Assumes nothing.
-use mathlib.Core.Path.{_≡_, _∙_, refl}
-use mathlib.Core.List.{List}
+use mathlib.Core.Path.{_≡_, _∙_, refl, sym, ap}
+use mathlib.Core.List.{List, _++_}
 use Prim.Native.Nat.{ℕ, _*_, _/_, _≤_}
 use native.Mathlib.Omega.{arith}
-use lib.ListN.{length, take}
+use lib.ListN.{length, drop, take-append-drop}
+use lib.Seq.{sets}
 use lib.Ieee.{Float}
 use Rattle.lists.specs.Putting.{Front}
 use Rattle.lists.proofs.Fronts.{front}
+use Rattle.lists.proofs.Writing.{sets-front}
 use Rattle.mesh.specs.Limits.{pointWidth, texelWidth, width}
 use Rattle.mesh.specs.Mesh.{Mesh, meshOf}
 use Rattle.mesh.specs.Table.{meshNumber}
@@ -83,6 +85,13 @@ module _ {l : Mesh} {d : MeshRead} {us : List ℕ} {f : List Float} (room : Entr
         };
       }
 
+  -- the corners stand there with their marks
+  marked : l .corners ≡ sets (l .corners) 0 us
+  marked =
+      sym (sets-front (l .corners) us (all-ready .corner-room)
+      ∙ ap (λ (cs : List ℕ). cs ++ drop (length us) (l .corners)) (sym (room .ready .corner-front))
+      ∙ take-append-drop (length us) (l .corners))
+
   -- and when all three are, what is left stands at the front
   module _ {p t n : List Float} {c1 c2 c3 : List ℕ} {i j k : ℕ}
       (a : ColumnDone (given .positions) pointWidth us 0 (l .positions) p (l .corners) c1 i)
@@ -92,7 +101,7 @@ module _ {l : Mesh} {d : MeshRead} {us : List ℕ} {f : List Float} (room : Entr
     smaller = compacted given
 
     entries : Compaction given (resultOf (l .corners) (l .positions) (l .textures) (l .normals)) (resultOf c3 p t n) (record { number = 0; positions = i; textures = j; normals = k })
-    entries = done given _ _ _ (room .ready .accepted) all-ready (columns-done a b c)
+    entries = done given _ _ _ (room .ready .accepted) all-ready (columns-done all-ready marked a b c)
 
     smaller-accepted : meshNumber smaller ≡ 0
     smaller-accepted = accepted-compacted given (room .ready .accepted)

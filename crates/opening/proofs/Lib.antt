@@ -3,3 +3,4 @@ pub mod Reading
 pub mod Compacting
 pub mod Unfolding
 pub mod Kept
+pub mod Marks

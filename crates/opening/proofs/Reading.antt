@@ -23,7 +23,7 @@ use Rattle.opening.specs.Opening.{FullRoom, frontOf, Fronts, Standing, K
 use Rattle.opening.proofs.Fronts.{front-length, fronts-are, fronts-own}
 
 -- the mesh of a file that the reader takes is accepted, and so is what is left of it
-panel-accepted : (file : List ℕ) → readingNumber [] file ≡ 0 → meshNumber (panelMesh file) ≡ 0
+pub panel-accepted : (file : List ℕ) → readingNumber [] file ≡ 0 → meshNumber (panelMesh file) ≡ 0
 unfolding readingNumber short
 panel-accepted file h = read-accepted file (first-head (finish file (readAll file)) [] h)
 

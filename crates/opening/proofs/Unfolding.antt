@@ -114,6 +114,7 @@ module _ {l : Mesh} {d : MeshRead} {us ss os c′ s′ : List ℕ} {k f : ℕ} (
       textures = room .standing .room .textures;
       normals = room .standing .room .normals;
       corners = still ∙ room .standing .room .corners;
+      corner-front = ap (λ (n : ℕ). take n c′) (sym (moved-corners .long)) ∙ unfolded-corners .is ∙ sym (moved-corners .is);
     }
 
     -- what it leaves, with the sizes that stand there

@@ -28,7 +28,8 @@ unfoldedFront l d corners =
     corners
     (l .sizes)
 
--- it is accepted, and the other lists are at the full limits; with one list for the entries that its faces use
+-- it is accepted, and the other lists are at the full limits; its corners stand at the front of the list to which compaction writes, so that
+-- each has its mark there; with one list for the entries that its faces use
 pub record Unfolded (l : Mesh) (d : MeshRead) (unfolded : List ℕ) : Type 0 where
   pub accepted : meshNumber (unfoldedFront l d unfolded) ≡ 0
   pub position-front : Front (l .positions) (take (pointWidth * d .positions) (l .positions)) (pointWidth * d .positions)
@@ -38,6 +39,7 @@ pub record Unfolded (l : Mesh) (d : MeshRead) (unfolded : List ℕ) : Type 0 whe
   pub textures : length (l .textures) ≡ texelNumbers
   pub normals : length (l .normals) ≡ pointNumbers
   pub corners : length (l .corners) ≡ cornerNumbers
+  pub corner-front : take (length unfolded) (l .corners) ≡ unfolded
 
 pub record EntryRoom (l : Mesh) (d : MeshRead) (unfolded : List ℕ) (fresh : List Float) : Type 0 where
   pub ready : Unfolded l d unfolded

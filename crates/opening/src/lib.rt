@@ -68,7 +68,7 @@ pub fn clean(
 }
 
 // Folded faces are removed; which face each came from is not needed further. Compaction reads the corners in one list and writes them to
-// another, so they go there first.
+// another, so they go there first; they stand in both then, and each has its mark where it is.
 fn remove_in(
     drawn: MeshRead,
     unfolded: &mut [u32],

@@ -10,13 +10,13 @@ use Rattle.lists.specs.Lists.{each}
 use Rattle.mesh.specs.Limits.{pointWidth}
 use Rattle.mesh.specs.Mesh.{Mesh, Corner, meshOf, missing}
 
--- a corner by its position: texture and normal are missing
+-- a corner by its position: texture and normal are missing, and it has no mark
 abbrev pub bare : ℕ → Corner
-bare p = p ∷ missing ∷ missing ∷ []
+bare p = p ∷ missing ∷ missing ∷ 0 ∷ []
 
 -- and one by its position and its normal
 abbrev pub facing : ℕ → ℕ → Corner
-facing k p = p ∷ missing ∷ k ∷ []
+facing k p = p ∷ missing ∷ k ∷ 0 ∷ []
 
 -- n points, which all are the origin
 abbrev pub origins : ℕ → List Float

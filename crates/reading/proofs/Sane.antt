@@ -19,7 +19,7 @@ use Rattle.grouping.proofs.Accepting.{sized, Orderly}
 use Rattle.floating.specs.Points.{coordinates}
 use Rattle.records.specs.declared.Record.{Record}
 use Rattle.records.specs.declared.Record.the-variants.{Position, Texture, Normal, Face, End, Refused}
-use Rattle.records.specs.Lengths.{cornerLength, pointRecord, texelRecord}
+use Rattle.records.specs.Lengths.{cornerSize, pointRecord, texelRecord}
 use Rattle.records.specs.Records.{recordFrom, ringFrom}
 use Rattle.reading.specs.Reading.{Drawn, Reader, reader, nothing, limited, takeRecord, going, readFrom, readAll, withPosition, withTexture, withNormal, withFace}
 use Rattle.records.proofs.Ringing.{ring-length, ring-corners}
@@ -37,8 +37,8 @@ limited-sane : (size : ℕ) (b : Bool) (z new : Reader) → Sane size z → (b �
 limited-sane size true z new h f = record { place = h .place; drawn = h .drawn }
 limited-sane size false z new h f = f refl
 
-face-sized : (s : List ℕ) (n a : ℕ) → 3 ≤ n → n ≤ ringLimit → sized (ringFrom s n a) ≡ true
-face-sized s n a h l = rw (ring-length s n a) (and-both (leb 3 n) (leb n ringLimit) (le-leb 3 n h) (le-leb n ringLimit l))
+face-sized : (m : Bool) (s : List ℕ) (n a : ℕ) → 3 ≤ n → n ≤ ringLimit → sized (ringFrom m s n a) ≡ true
+face-sized m s n a h l = rw (ring-length m s n a) (and-both (leb 3 n) (leb n ringLimit) (le-leb 3 n h) (le-leb n ringLimit l))
 
 every-more : (p : Ring → Bool) (fs : List Ring) (f : Ring) → every p fs ≡ true → p f ≡ true → every p (fs ++ f ∷ []) ≡ true
 every-more p fs f e h = every-append p fs (f ∷ []) ∙ rw (e, h)
@@ -96,14 +96,14 @@ take-sane s z (Normal p) f h =
         are-sized = h .drawn .are-sized;
       };
     })
-take-sane s z (Face a n) f h =
+take-sane s z (Face a n m) f h =
     by-cases (ltb n 3)
     (λ e. rw e (record { place = f .fits; drawn = h .drawn }))
     (λ e.
     let d = z .drawn in
-    let ring = ringFrom s n a in
+    let ring = ringFrom m s n a in
     rw e
-    (limited-sane (length s) (ltb cornerLimit (cornerCount (d .faces) + n)) z (reader (a + cornerLength * n) 0 false (withFace ring d)) h
+    (limited-sane (length s) (ltb cornerLimit (cornerCount (d .faces) + n)) z (reader (a + cornerSize m * n) 0 false (withFace ring d)) h
     (λ g. record {
       place = f .fits;
       drawn = record {
@@ -113,9 +113,9 @@ take-sane s z (Face a n) f h =
         whole-positions = h .drawn .whole-positions;
         whole-textures = h .drawn .whole-textures;
         whole-normals = h .drawn .whole-normals;
-        few-corners = omega (arith, ltb-false cornerLimit (cornerCount (d .faces) + n) g, count-append (d .faces) (ring ∷ []), ring-length s n a);
-        are-rings = every-more isRing (d .faces) ring (h .drawn .are-rings) (ring-corners s n a);
-        are-sized = every-more sized (d .faces) ring (h .drawn .are-sized) (face-sized s n a (ltb-false n 3 e) (f .placed .1));
+        few-corners = omega (arith, ltb-false cornerLimit (cornerCount (d .faces) + n) g, count-append (d .faces) (ring ∷ []), ring-length m s n a);
+        are-rings = every-more isRing (d .faces) ring (h .drawn .are-rings) (ring-corners m s n a);
+        are-sized = every-more sized (d .faces) ring (h .drawn .are-sized) (face-sized m s n a (ltb-false n 3 e) (f .placed .1));
       };
     })))
 take-sane s z End f h = record { place = f .fits; drawn = h .drawn }

@@ -37,10 +37,10 @@ module _ (p : Float → Bool) where
   more : (a b : List Float) → every p a ≡ true → every p b ≡ true → every p (a ++ b) ≡ true
   more a b h g = every-append p a b ∙ and-both (every p a) (every p b) h g
 
-  face-passes : (b : Bool) (s : List ℕ) (a n : ℕ) (z : Reader) → Passes (z .drawn) → Passes (takeFace b s a n z .drawn)
-  face-passes true s a n z h = h
-  face-passes false s a n z h =
-      limited-passes (ltb cornerLimit (cornerCount (z .drawn .faces) + n)) z (reader (endOf (z .at) (Face a n)) 0 false (withFace (ringFrom s n a) (z .drawn))) h
+  face-passes : (b : Bool) (s : List ℕ) (a n : ℕ) (m : Bool) (z : Reader) → Passes (z .drawn) → Passes (takeFace b s a n m z .drawn)
+  face-passes true s a n m z h = h
+  face-passes false s a n m z h =
+      limited-passes (ltb cornerLimit (cornerCount (z .drawn .faces) + n)) z (reader (endOf (z .at) (Face a n m)) 0 false (withFace (ringFrom m s n a) (z .drawn))) h
       (record { positions = h .positions; textures = h .textures; normals = h .normals })
 
   take-passes : (s : List ℕ) (z : Reader) (r : Record) → every p (valuesOf r) ≡ true → Passes (z .drawn) → Passes (takeRecord s z r .drawn)
@@ -60,7 +60,7 @@ module _ (p : Float → Bool) where
       let new = valuesOf (Normal q) in
       limited-passes (ltb pointNumbers (length (d .normals) + 3)) z (reader (endOf (z .at) (Normal q)) 0 false (withNormal new d)) h
       (record { positions = h .positions; textures = h .textures; normals = more (d .normals) new (h .normals) v })
-  take-passes s z (Face a n) v h = face-passes (ltb n 3) s a n z h
+  take-passes s z (Face a n m) v h = face-passes (ltb n 3) s a n m z h
   take-passes s z End v h = h
   take-passes s z (Refused n) v h = h
 

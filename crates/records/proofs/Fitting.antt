@@ -1,6 +1,6 @@
 -- A record stands within the file: where it ends, and what a refusal and a face are. Assumes nothing.
 use mathlib.Core.Path.{_≡_, refl}
-use mathlib.Core.Bool.{true, false, not}
+use mathlib.Core.Bool.{Bool, true, false, not}
 use mathlib.Core.List.{List, [], _∷_}
 use Prim.Native.Nat.{ℕ, zero, suc, _+_, _*_, _-_, _≤_}
 use native.Mathlib.Omega.{arith}
@@ -15,8 +15,9 @@ use Rattle.mesh.proofs.Numbers.{first-head, first-tail, when-not}
 use Rattle.records.specs.declared.Record.{Record}
 use Rattle.records.specs.declared.Record.the-variants.{Position, Texture, Normal, Face, Refused}
 use Rattle.little.specs.Little.{half}
-use Rattle.records.specs.Lengths.{headerLength, cornerLength, pointLength, texelLength, byteCount, wideCount, byteFaceLimit, lastKind}
-use Rattle.records.specs.Records.{valuesOf, endOf, Placed, lengthFits, unless, pointFrom, texelFrom, attribute, counted, faceFrom, wideFaceFrom, bodyFrom, recordFrom}
+use Rattle.records.specs.Lengths.{headerLength, cornerSize, pointLength, texelLength, byteCount, wideCount, byteFaceLimit, lastKind}
+use Rattle.records.specs.Records.{valuesOf, endOf, Placed, lengthFits, unless, pointFrom, texelFrom, attribute, ringFrom}
+use Rattle.records.specs.Records.{lacksMarks, counted, faceFrom, wideFaceFrom, markedFaceFrom, bodyFrom, recordFrom}
 
 -- an answer at a place of a file of that size
 pub record Fitted (size at : ℕ) (r : Record) : Type 0 where
@@ -37,24 +38,26 @@ attribute-fits size at r h l p = unless-fits size at (when (not (every finite (v
 
 -- a face whose corners begin behind its count: they end where the body ends
 counted-fits :
-    (size at w limit c n : ℕ) → 1 ≤ w → limit ≤ ringLimit → at ≤ size → at + headerLength + n ≤ size
-    → Fitted size at (counted w limit c (at + headerLength + w) n)
+    (m : Bool) (s : List ℕ) (size at w limit c n : ℕ) → 1 ≤ w → limit ≤ ringLimit → at ≤ size → at + headerLength + n ≤ size
+    → Fitted size at (counted m s w limit c (at + headerLength + w) n)
 unfolding counted
-counted-fits size at w limit c n some few h l =
+counted-fits m s size at w limit c n some few h l =
     let a = at + headerLength + w in
-    let long = w + cornerLength * c in
-    let unlike = not (eqb long n) in
-    let other = when (ltb limit c) 3 ∷ [] in
-    unless-fits size at (firstOf (when unlike 12 ∷ other)) (Face a c) h
+    let long = w + cornerSize m * c in
+    let unlike = when (not (eqb long n)) 12 in
+    let bare = when (lacksMarks m (ringFrom m s c a)) 12 in
+    let many = when (ltb limit c) 3 in
+    unless-fits size at (firstOf (unlike ∷ bare ∷ many ∷ [])) (Face a c m) h
     (λ e.
-    let i : long ≡ n = eqb-true long n (not-false (eqb long n) (when-not unlike 11 (first-head (when unlike 12) other e))) in
-    let j : c ≤ limit = ltb-false limit c (when-not (ltb limit c) 2 (first-head (when (ltb limit c) 3) [] (first-tail (when unlike 12) other e))) in
+    let i : long ≡ n = eqb-true long n (not-false (eqb long n) (when-not (not (eqb long n)) 11 (first-head unlike (bare ∷ many ∷ []) e))) in
+    let last = first-tail bare (many ∷ []) (first-tail unlike (bare ∷ many ∷ []) e) in
+    let j : c ≤ limit = ltb-false limit c (when-not (ltb limit c) 2 (first-head many [] last)) in
     record { fits = omega arith; placed = (omega arith, omega (arith, j, few)) })
 
 body-fits :
     (s : List ℕ) (at n k : ℕ) → at ≤ length s → at + headerLength + n ≤ length s → lengthFits k n ≡ true
     → Fitted (length s) at (bodyFrom s (at + headerLength) n k)
-unfolding bodyFrom lengthFits faceFrom wideFaceFrom
+unfolding bodyFrom lengthFits faceFrom wideFaceFrom markedFaceFrom
 body-fits s at n zero h l e = record { fits = omega arith; placed = tt }
 body-fits s at n (suc zero) h l e =
     attribute-fits (length s) at (Position (pointFrom s (at + headerLength))) h (let i : n ≡ pointLength = eqb-true n pointLength e in omega arith) tt
@@ -63,9 +66,11 @@ body-fits s at n (suc (suc zero)) h l e =
 body-fits s at n (suc (suc (suc zero))) h l e =
     attribute-fits (length s) at (Normal (pointFrom s (at + headerLength))) h (let i : n ≡ pointLength = eqb-true n pointLength e in omega arith) tt
 body-fits s at n (suc (suc (suc (suc zero)))) h l e =
-    counted-fits (length s) at byteCount byteFaceLimit _ n (omega arith) (omega arith) h l
-body-fits s at n (suc (suc (suc (suc (suc k))))) h l e =
-    counted-fits (length s) at wideCount ringLimit _ n (omega arith) (omega arith) h l
+    counted-fits false s (length s) at byteCount byteFaceLimit _ n (omega arith) (omega arith) h l
+body-fits s at n (suc (suc (suc (suc (suc zero))))) h l e =
+    counted-fits false s (length s) at wideCount ringLimit _ n (omega arith) (omega arith) h l
+body-fits s at n (suc (suc (suc (suc (suc (suc k)))))) h l e =
+    counted-fits true s (length s) at wideCount ringLimit _ n (omega arith) (omega arith) h l
 
 pub record-fits : (s : List ℕ) (at : ℕ) → at ≤ length s → Fitted (length s) at (recordFrom s at)
 unfolding recordFrom

@@ -2,3 +2,4 @@ pub mod Recorded
 pub mod Fitting
 pub mod Values
 pub mod Ringing
+pub mod Numbered

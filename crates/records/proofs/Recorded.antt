@@ -16,21 +16,27 @@ use Rattle.floating.specs.Limits.{finite}
 use Rattle.records.specs.declared.Record.{Record}
 use Rattle.records.specs.declared.Record.the-variants.{Position, Texture, Normal, Face, End, Refused}
 use Rattle.little.specs.Little.{half}
-use Rattle.records.specs.Lengths.{headerLength, cornerLength, pointLength, byteCount, wideCount, faceLength, wideFaceLength, countMost, wideLeast, byteKind, wideKind, lastKind}
-use Rattle.records.specs.Records.{numberOf, valuesOf, lengthFits, attribute, counted, faceFrom, wideFaceFrom, bodyFrom, recordFrom}
+use Rattle.records.specs.Lengths.{headerLength, cornerLength, markedLength, cornerSize, pointLength, byteCount, wideCount}
+use Rattle.records.specs.Lengths.{faceLength, wideFaceLength, markedFaceLength, countMost, wideLeast, markedLeast}
+use Rattle.records.specs.Lengths.{byteKind, wideKind, markedKind, lastKind}
+use Rattle.records.specs.Records.{numberOf, valuesOf, lengthFits, attribute, ringFrom, lacksMarks, counted, faceFrom, wideFaceFrom, markedFaceFrom, bodyFrom, recordFrom}
 use Rattle.records.proofs.Record.{the-type}
 
 -- ---- the length of a body
 
-pub fits-point : (k n : ℕ) → k ≤ lastKind → (k ≡ 0 → ⊥) → (k ≡ 2 → ⊥) → (k ≡ byteKind → ⊥) → (k ≡ wideKind → ⊥) → lengthFits k n ≡ eqb n pointLength
+pub fits-point :
+    (k n : ℕ) → k ≤ lastKind → (k ≡ 0 → ⊥) → (k ≡ 2 → ⊥) → (k ≡ byteKind → ⊥) → (k ≡ wideKind → ⊥) → (k ≡ markedKind → ⊥)
+    → lengthFits k n ≡ eqb n pointLength
 unfolding lengthFits
-fits-point zero n h a b c d = absurd (a refl)
-fits-point (suc zero) n h a b c d = refl
-fits-point (suc (suc zero)) n h a b c d = absurd (b refl)
-fits-point (suc (suc (suc zero))) n h a b c d = refl
-fits-point (suc (suc (suc (suc zero)))) n h a b c d = absurd (c refl)
-fits-point (suc (suc (suc (suc (suc zero))))) n h a b c d = absurd (d refl)
-fits-point (suc (suc (suc (suc (suc (suc k)))))) n h a b c d = absurd (let z : suc (suc (suc (suc (suc (suc k))))) ≤ lastKind = h in omega arith)
+fits-point zero n h a b c d e = absurd (a refl)
+fits-point (suc zero) n h a b c d e = refl
+fits-point (suc (suc zero)) n h a b c d e = absurd (b refl)
+fits-point (suc (suc (suc zero))) n h a b c d e = refl
+fits-point (suc (suc (suc (suc zero)))) n h a b c d e = absurd (c refl)
+fits-point (suc (suc (suc (suc (suc zero))))) n h a b c d e = absurd (d refl)
+fits-point (suc (suc (suc (suc (suc (suc zero)))))) n h a b c d e = absurd (e refl)
+fits-point (suc (suc (suc (suc (suc (suc (suc k))))))) n h a b c d e =
+    absurd (let z : suc (suc (suc (suc (suc (suc (suc k)))))) ≤ lastKind = h in omega arith)
 
 -- a face's body has at least its count
 pub face-some : (n : ℕ) → lengthFits byteKind n ≡ true → byteCount ≤ n
@@ -44,19 +50,28 @@ pub wide-some : (n : ℕ) → lengthFits wideKind n ≡ true → wideCount ≤ n
 unfolding lengthFits
 wide-some n h = let l : wideFaceLength wideLeast ≤ n = leb-true (wideFaceLength wideLeast) n (and-left (leb (wideFaceLength wideLeast) n) (eqb (n % cornerLength) wideCount) h) in omega arith
 
+pub marked-some : (n : ℕ) → lengthFits markedKind n ≡ true → wideCount ≤ n
+unfolding lengthFits
+marked-some n h =
+    let least = markedFaceLength markedLeast in
+    let l : least ≤ n = leb-true least n (and-left (leb least n) (eqb (n % markedLength) wideCount) h) in
+    omega arith
+
 -- the length of a body of a kind that is known
 pub body-is : (k k' n m : ℕ) → k ≡ k' → lengthFits k' n ≡ eqb n m → lengthFits k n ≡ true → n ≡ m
 body-is k k' n m e f h = eqb-true n m (sym f ∙ (rw e at h))
 
 -- ---- the last kind
 
-last : (k : ℕ) → k ≤ lastKind → (k ≡ 0 → ⊥) → (k ≡ 1 → ⊥) → (k ≡ 2 → ⊥) → (k ≡ 3 → ⊥) → (k ≡ byteKind → ⊥) → k ≡ wideKind
-last zero h a b c d e = absurd (a refl)
-last (suc zero) h a b c d e = absurd (b refl)
-last (suc (suc zero)) h a b c d e = absurd (c refl)
-last (suc (suc (suc zero))) h a b c d e = absurd (d refl)
-last (suc (suc (suc (suc zero)))) h a b c d e = absurd (e refl)
-last (suc (suc (suc (suc (suc k))))) h a b c d e = omega arith
+last :
+    (k : ℕ) → k ≤ lastKind → (k ≡ 0 → ⊥) → (k ≡ 1 → ⊥) → (k ≡ 2 → ⊥) → (k ≡ 3 → ⊥) → (k ≡ byteKind → ⊥) → (k ≡ wideKind → ⊥) → k ≡ markedKind
+last zero h a b c d e f = absurd (a refl)
+last (suc zero) h a b c d e f = absurd (b refl)
+last (suc (suc zero)) h a b c d e f = absurd (c refl)
+last (suc (suc (suc zero))) h a b c d e f = absurd (d refl)
+last (suc (suc (suc (suc zero)))) h a b c d e f = absurd (e refl)
+last (suc (suc (suc (suc (suc zero))))) h a b c d e f = absurd (f refl)
+last (suc (suc (suc (suc (suc (suc k)))))) h a b c d e f = omega arith
 
 module _ (k n : ℕ) where
   pub a-face : k ≡ byteKind → lengthFits k n ≡ true → byteCount ≤ n
@@ -66,13 +81,20 @@ module _ (k n : ℕ) where
   unfolding bodyFrom
   body-face s b e = rw e
 
-  module _ (h : k ≤ lastKind) (x : k ≡ 0 → ⊥) (y : k ≡ 1 → ⊥) (z : k ≡ 2 → ⊥) (v : k ≡ 3 → ⊥) (w : k ≡ byteKind → ⊥) where
-    pub a-wide-face : lengthFits k n ≡ true → wideCount ≤ n
-    a-wide-face e = wide-some n (rw (last k h x y z v w) at e)
+  pub a-wide-face : k ≡ wideKind → lengthFits k n ≡ true → wideCount ≤ n
+  a-wide-face e h = wide-some n (rw e at h)
 
-    pub body-wide-face : (s : List ℕ) (b : ℕ) → wideFaceFrom s b n ≡ bodyFrom s b n k
+  pub body-wide-face : (s : List ℕ) (b : ℕ) → k ≡ wideKind → wideFaceFrom s b n ≡ bodyFrom s b n k
+  unfolding bodyFrom
+  body-wide-face s b e = rw e
+
+  module _ (h : k ≤ lastKind) (x : k ≡ 0 → ⊥) (y : k ≡ 1 → ⊥) (z : k ≡ 2 → ⊥) (v : k ≡ 3 → ⊥) (w : k ≡ byteKind → ⊥) (u : k ≡ wideKind → ⊥) where
+    pub a-marked-face : lengthFits k n ≡ true → wideCount ≤ n
+    a-marked-face e = marked-some n (rw (last k h x y z v w u) at e)
+
+    pub body-marked-face : (s : List ℕ) (b : ℕ) → markedFaceFrom s b n ≡ bodyFrom s b n k
     unfolding bodyFrom
-    body-wide-face s b = rw (last k h x y z v w)
+    body-marked-face s b = rw (last k h x y z v w u)
 
 -- ---- coordinates one after the other, with b whether the first is finite
 
@@ -99,18 +121,24 @@ module _ (r : Record) (b : Bool) (e : b ≡ every finite (valuesOf r)) where
 
 -- ---- a face, with c its count of w bytes
 
-module _ (w limit c a n : ℕ) where
-  pub face-unlike : (w + cornerLength * c ≡ n → ⊥) → Refused 12 ≡ counted w limit c a n
+module _ (m : Bool) (s : List ℕ) (w limit c a n : ℕ) where
+  pub face-unlike : (w + cornerSize m * c ≡ n → ⊥) → Refused 12 ≡ counted m s w limit c a n
   unfolding counted
-  face-unlike h = rw (ne-eqb (w + cornerLength * c) n h)
+  face-unlike h = rw (ne-eqb (w + cornerSize m * c) n h)
 
-  pub face-many : w + cornerLength * c ≡ n → limit < c → Refused 3 ≡ counted w limit c a n
-  unfolding counted
-  face-many h l = rw (eq-eqb (w + cornerLength * c) n h, lt-ltb limit c l)
+  module _ (h : w + cornerSize m * c ≡ n) where
+    pub face-bare : lacksMarks m (ringFrom m s c a) ≡ true → Refused 12 ≡ counted m s w limit c a n
+    unfolding counted
+    face-bare b = rw (eq-eqb (w + cornerSize m * c) n h, b)
 
-  pub face-good : w + cornerLength * c ≡ n → c ≤ limit → Face a c ≡ counted w limit c a n
-  unfolding counted
-  face-good h l = rw (eq-eqb (w + cornerLength * c) n h, le-ltb limit c l)
+    module _ (b : lacksMarks m (ringFrom m s c a) ≡ false) where
+      pub face-many : limit < c → Refused 3 ≡ counted m s w limit c a n
+      unfolding counted
+      face-many l = rw (eq-eqb (w + cornerSize m * c) n h, b, lt-ltb limit c l)
+
+      pub face-good : c ≤ limit → Face a c m ≡ counted m s w limit c a n
+      unfolding counted
+      face-good l = rw (eq-eqb (w + cornerSize m * c) n h, b, le-ltb limit c l)
 
 -- ---- a record, with n and k its length and its kind
 
@@ -141,6 +169,6 @@ pub not-refused : (r : Record) → OneOf (0 ∷ 1 ∷ 2 ∷ 3 ∷ 4 ∷ []) (tag
 not-refused (Position p) k = refl
 not-refused (Texture t) k = refl
 not-refused (Normal p) k = refl
-not-refused (Face a n) k = refl
+not-refused (Face a n m) k = refl
 not-refused End k = refl
 not-refused (Refused n) k = absurd (miss (0 ∷ 1 ∷ 2 ∷ 3 ∷ 4 ∷ []) 5 tt k)

@@ -1,18 +1,28 @@
 -- How many bytes the parts of a panel file have, each named once, as document 01, 'The panel file and the sheet', has them. Assumes nothing.
 use Prim.Native.Nat.{ℕ, _+_, _*_}
+use mathlib.Core.Bool.{Bool, true, false}
+use Rattle.mesh.specs.Limits.{leastRing}
 
 -- a header: two-byte length, two-byte kind
 abbrev pub headerLength : ℕ
 headerLength = 4
 
--- a coordinate, an f64; a corner, three four-byte numbers
+-- a coordinate, an f64; a corner, three four-byte numbers, and one more, its mark, in a face that carries marks
 abbrev pub coordinateLength : ℕ
 coordinateLength = 8
 
 abbrev pub cornerLength : ℕ
 cornerLength = 12
 
--- how many corners a face has: one byte in kind 4, two in kind 5
+abbrev pub markedLength : ℕ
+markedLength = 16
+
+-- a corner of a face by whether the face carries marks
+abbrev pub cornerSize : Bool → ℕ
+cornerSize false = cornerLength
+cornerSize true = markedLength
+
+-- how many corners a face has: one byte in kind 4, two in kinds 5 and 6
 abbrev pub byteCount : ℕ
 byteCount = 1
 
@@ -32,6 +42,9 @@ faceLength n = byteCount + cornerLength * n
 abbrev pub wideFaceLength : ℕ → ℕ
 wideFaceLength n = wideCount + cornerLength * n
 
+abbrev pub markedFaceLength : ℕ → ℕ
+markedFaceLength n = wideCount + markedLength * n
+
 -- the records of these bodies, with their header
 abbrev pub pointRecord : ℕ
 pointRecord = headerLength + pointLength
@@ -46,16 +59,22 @@ countMost = 255
 abbrev pub byteFaceLimit : ℕ
 byteFaceLimit = 32
 
--- the fewest that a face of kind 5 has: one more than kind 4 holds
+-- the fewest that a face of kind 5 has, one more than kind 4 holds, and the fewest of kind 6
 abbrev pub wideLeast : ℕ
 wideLeast = 1 + byteFaceLimit
 
--- the kinds of a face: its count is a byte, or two; no kind comes behind them
+abbrev pub markedLeast : ℕ
+markedLeast = leastRing
+
+-- the kinds of a face: its count is a byte, or two, or two and its corners carry marks; no kind comes behind them
 abbrev pub byteKind : ℕ
 byteKind = 4
 
 abbrev pub wideKind : ℕ
 wideKind = 5
 
+abbrev pub markedKind : ℕ
+markedKind = 6
+
 abbrev pub lastKind : ℕ
-lastKind = wideKind
+lastKind = markedKind

@@ -17,9 +17,9 @@ leaves f fs = sameRings (removed (f ∷ [])) fs
 abbrev pub LeavesIs : Type 0
 LeavesIs = (f : Ring) (fs : List Ring) → Tells (leaves f fs) (removed (f ∷ []) ≡ fs)
 
--- corner k of a face, with its position: the texture index says which corner it is
+-- corner k of a face, with its position: the texture index says which corner it is, and so does the mark
 abbrev pub corner : ℕ → ℕ → Corner
-corner p k = p ∷ k ∷ missing ∷ []
+corner p k = p ∷ k ∷ missing ∷ k ∷ []
 
 -- an example of our own: (0,0,1,1,2) falls to a ring of four corners, which keeps the ring's rule and gives the corners 3, 4, 1,
 -- where the quadrangle's rule would give 1, 3, 4

@@ -6,7 +6,7 @@ use mathlib.Core.List.{List, [], _∷_, map}
 use Prim.Native.Nat.{ℕ}
 use Rattle.lists.specs.Lists.{has, every}
 use Rattle.lists.proofs.Mapping.{every-map}
-use Rattle.mesh.specs.Mesh.{Corner, Ring, position, texture, normal}
+use Rattle.mesh.specs.Mesh.{Corner, Ring, position, texture, normal, mark}
 use Rattle.panels.specs.Panels.{panels}
 use Rattle.order.specs.Demand.{byPosition}
 use Rattle.order.specs.Pairs.{bare}
@@ -17,7 +17,7 @@ use Rattle.renumbered.proofs.Normals.{panels-changed}
 module _ (g : ℕ → ℕ) where
   -- a corner with its position renumbered
   abbrev pub repositioned : Corner → Corner
-  repositioned c = g (position c) ∷ texture c ∷ normal c ∷ []
+  repositioned c = g (position c) ∷ texture c ∷ normal c ∷ mark c ∷ []
 
   ring-repositioned : (r : List ℕ) → map bare (map (λ n. g n) r) ≡ map repositioned (map bare r)
   ring-repositioned [] = refl

@@ -1,4 +1,5 @@
 pub mod Smooth
 pub mod Answering
 pub mod Doubles
+pub mod Marks
 pub mod Promised

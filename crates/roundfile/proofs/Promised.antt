@@ -11,13 +11,14 @@ use lib.Ieee.{Float}
 use borrow.Author.Tests.{ltb-false, le-ltb, eqb-true, not-false}
 use Rattle.lists.specs.Lists.{every, sum}
 use Rattle.lists.proofs.Bools.{or-false-left, and-left, and-right}
-use Rattle.mesh.specs.Limits.{pointWidth, width, leastRing}
+use Rattle.mesh.specs.Limits.{pointWidth, width, largest, leastRing}
 use Rattle.mesh.specs.Mesh.{Mesh, faces, positionCount}
 use Rattle.mesh.specs.Table.{when, short}
 use Rattle.mesh.proofs.Accepted.{accepted}
 use Rattle.mesh.proofs.After.{after-length}
 use Rattle.mesh.proofs.Faces.{length-rings}
 use Rattle.mesh.proofs.Numbers.{first-head, first-tail, when-not}
+use Rattle.little.specs.Little.{Bytes}
 use Rattle.reading.specs.Reading.{readingNumber, panelMesh}
 use Rattle.written.specs.Pieces.{finiteMesh, fileLength, fileLimit}
 use Rattle.written.proofs.Parting.{file-fits}
@@ -27,7 +28,9 @@ use Rattle.written.specs.Said.{isDouble}
 use Rattle.written.proofs.Saying.{doubles}
 use Rattle.written.proofs.Reading.{doubles-are, read-doubles}
 use Rattle.written.proofs.Reopened.{reopens}
+use Rattle.opening.proofs.Reading.{panel-accepted, opened-accepted}
 use Rattle.opening.proofs.Kept.{Passes, cleaned-passes}
+use Rattle.opening.proofs.Marks.{MarksUpTo, cleaned-marks}
 use Rattle.smoothed.specs.Smoothed.{fold}
 use Rattle.smoothed.specs.Promise.{smoothedMesh, Given}
 use Rattle.smoothed.specs.Refusals.{positionsOf, resultOf, smoothingNumber, tooShort}
@@ -38,6 +41,7 @@ use Rattle.roundfile.specs.declared.Rounded.{Rounded}
 use Rattle.roundfile.specs.Rounding.{meshRounded, roundFile, fullLists, smoothedNumber, openedNumber, roundingNumber, PanelRounded}
 use Rattle.roundfile.specs.Promises.{LeftIsRounded, RoundedFits, RoundedReopens, FullListsAreRoom}
 use Rattle.roundfile.proofs.Doubles.{positions-double}
+use Rattle.roundfile.proofs.Marks.{smoothed-marks}
 use Rattle.roundfile.proofs.Smooth.{positions-full, corners-full, sizes-full}
 
 -- ---- smoothing was done
@@ -98,11 +102,22 @@ left-finite file ones twos h =
     let t = first-tail (smoothingNumber m ones twos fullLists) (when (not f) 14 ∷ []) (first-head (smoothedNumber m ones twos) [] s) in
     not-false f (when-not (not f) 13 (first-head (when (not f) 14) [] t))
 
-left-double : (file : List ℕ) (ones twos : List Float) → DoubleMesh (meshRounded file ones twos)
-unfolding smoothedMesh
-left-double file ones twos =
+left-read : (file : List ℕ) (ones twos : List Float) → openedNumber file ones twos ≡ 0 → readingNumber [] file ≡ 0
+unfolding openedNumber
+left-read file ones twos h = first-head (readingNumber [] file) (smoothedNumber (cleaned (panelMesh file)) ones twos ∷ []) h
+
+left-marks : (file : List ℕ) (ones twos : List Float) → Bytes file → openedNumber file ones twos ≡ 0 → MarksUpTo largest (meshRounded file ones twos .corners)
+left-marks file ones twos b h =
     let m = panelMesh file in
-    let d = read-doubles file in
+    let z = left-read file ones twos h in
+    smoothed-marks largest (cleaned m) (positionsOf (cleaned m) ones twos) (opened-accepted file z) (left-rounded file ones twos h)
+    (cleaned-marks largest m (panel-accepted file z) (read-doubles file b .marks))
+
+left-double : (file : List ℕ) (ones twos : List Float) → Bytes file → openedNumber file ones twos ≡ 0 → DoubleMesh (meshRounded file ones twos)
+unfolding smoothedMesh
+left-double file ones twos b h =
+    let m = panelMesh file in
+    let d = read-doubles file b in
     let k : Passes isDouble (cleaned m) =
     cleaned-passes isDouble m
     (record {
@@ -115,11 +130,12 @@ left-double file ones twos =
       positions = doubles-are (positionsOf l ones twos) (positions-double (faces l) (l .positions) ones twos (k .positions) (positionCount l));
       textures = doubles-are (l .textures) (k .textures);
       normals = doubles-are (l .normals) (k .normals);
+      marks = left-marks file ones twos b h;
     }
 
 pub rounded-reopens : RoundedReopens
-rounded-reopens file ones twos h =
-    reopens (meshRounded file ones twos) (left-rounded file ones twos h .accepted) (left-double file ones twos) (left-finite file ones twos h)
+rounded-reopens file ones twos b h =
+    reopens (meshRounded file ones twos) (left-rounded file ones twos h .accepted) (left-double file ones twos b h) (left-finite file ones twos h)
 
 -- ---- lists at the full limits are room enough
 

@@ -6,6 +6,7 @@ use mathlib.Core.List.{List}
 use lib.ListN.{length}
 use lib.Ieee.{Float}
 use Rattle.mesh.specs.Mesh.{Mesh}
+use Rattle.little.specs.Little.{Bytes}
 use Rattle.cleaning.specs.Cleaning.{cleaned}
 use Rattle.reading.specs.Reading.{panelMesh}
 use Rattle.written.specs.Promises.{Reopens}
@@ -28,7 +29,7 @@ RoundedFits =
 
 -- it is read again, into the mesh that was rounded, and written again byte for byte; so it can be rounded again
 abbrev pub RoundedReopens : Type 0
-RoundedReopens = (file : List ℕ) (ones twos : List Float) → openedNumber file ones twos ≡ 0 → Reopens (meshRounded file ones twos)
+RoundedReopens = (file : List ℕ) (ones twos : List Float) → Bytes file → openedNumber file ones twos ≡ 0 → Reopens (meshRounded file ones twos)
 
 -- lists at the full limits are room enough for every mesh that is not refused for its faces or for the limit: smoothing never answers 9 here
 abbrev pub FullListsAreRoom : Type 0

@@ -1,72 +1,82 @@
 -- Faces: the record of one, and the loop over all. Assumes nothing.
-use mathlib.Core.Path.{_≡_, refl, sym, ap, _∙_}
-use mathlib.Core.List.{List, [], _∷_, _++_}
-use Prim.Native.Nat.{ℕ, _+_, _*_, _%_, _≤_, _<_}
+use mathlib.Core.Path.{_≡_, refl, sym, ap, ap₂, _∙_}
+use mathlib.Core.Bool.{Bool}
+use mathlib.Core.List.{List, [], _++_}
+use Prim.Native.Nat.{ℕ, _+_, _*_, _≤_, _<_}
 use native.Mathlib.Omega.{arith}
 use lib.ListN.{length, getD}
 use Rattle.lists.specs.Lists.{each}
-use Rattle.little.specs.Little.{wordBytes}
 use Rattle.mesh.specs.Limits.{width}
 use Rattle.mesh.specs.Mesh.{cornersIn, rings}
 use Rattle.mesh.specs.Face.{offsetOf, faceOf}
 use Rattle.mesh.proofs.Faces.{length-rings, getD-rings, face-length, offset-step}
 use Rattle.written.specs.Parts.{faceRecord}
-use Rattle.written.specs.Pieces.{wide, faceKind, countLength, headerOf}
-use Rattle.written.proofs.Lengths.{length-header, length-words, length-count, corners, header, counted, face-bytes, length-face-record}
-use Rattle.saving.specs.Working.{Stored, Fits, ACount, AFace, Faces}
+use Rattle.records.proofs.Ringing.{size-most}
+use Rattle.written.specs.Pieces.{wide, faceKind, countBytes, cornerBytes, headerOf, bodyLength}
+use Rattle.written.proofs.Lengths.{length-header, count-few, length-count, corners, marked, header, counted, numbers, face-bytes, length-part, length-numbers}
+use Rattle.saving.specs.Working.{Stored, ACount, Corners, AFace, Faces}
 use Rattle.saving.proofs.Storing.{stored-both, stored-as, still-long}
-use Rattle.saving.proofs.Wide.{count-most}
 use Rattle.saving.proofs.Listing.{Putting, putting-begins, putting-turns, putting-room, putting-ends}
 
 -- ---- one
 
--- a face whose header says the length k + 4 for each number, and the kind t
+-- a face whose header says the length k and the kind t; m is whether it has a mark
 module _ (part o : List ℕ) (at : ℕ) (f : AFace part o at) where
   abbrev n : ℕ
   n = corners part
 
   pub header-fits : at + 4 ≤ length o
-  header-fits = omega (arith, f .fits, length-face-record part (f .whole))
+  header-fits = omega (arith, f .fits, length-part part)
 
-  pub small-body : countLength (wide n) + 4 * length part < 65536
-  small-body = omega (arith, f .small, count-most (wide n))
+  module _ (m : Bool) (em : m ≡ marked part) where
+    pub small-body : (k : ℕ) → k ≡ bodyLength m n → k < 65536
+    small-body k e = omega (arith, e, f .small, count-few (wide m n), size-most m n)
 
-  module _ (k t : ℕ) (ek : k ≡ countLength (wide n)) (et : t ≡ faceKind (wide n)) (o1 : List ℕ) (a : ℕ) (h : Stored (headerOf (k + 4 * length part) t) o o1 at a) where
-    header-stored : Stored (header part) o o1 at a
-    header-stored = rw (ek, et) at h
+    module _ (k t : ℕ) (ek : k ≡ bodyLength m n) (et : t ≡ faceKind m (wide m n)) (o1 : List ℕ) (a : ℕ) (h : Stored (headerOf k t) o o1 at a) where
+      header-stored : Stored (header part) o o1 at a
+      header-stored =
+          stored-as (headerOf k t) (header part) o o1 at a
+          (ap₂ headerOf ek et ∙ ap (λ (b : Bool). headerOf (bodyLength b n) (faceKind b (wide b n))) em) h
 
-    behind-header : (a ≡ at + 4) × (length o1 ≡ length o)
-    behind-header =
-        (omega (arith, header-stored .place, length-header (countLength (wide n) + 4 * length part) (faceKind (wide n))), still-long (header part) o o1 at a header-stored)
+      behind-header : (a ≡ at + 4) × (length o1 ≡ length o)
+      behind-header = (
+        omega (arith, header-stored .place, length-header (bodyLength (marked part) n) (faceKind (marked part) (wide (marked part) n))),
+        still-long (header part) o o1 at a header-stored,
+      )
 
-    pub count-fits : ACount n o1 a
-    count-fits = record {
-      small = omega (arith, f .small);
-      fits = omega (arith, f .fits, length-face-record part (f .whole), behind-header .0, behind-header .1, length-count (wide n) n);
-    }
+      pub count-fits : ACount m n o1 a
+      count-fits = rw em (record {
+        small = omega (arith, f .small);
+        fits = omega (arith, f .fits, length-part part, behind-header .0, behind-header .1, length-count (wide (marked part) n) n);
+      })
 
-    module _ (o2 : List ℕ) (b : ℕ) (e : Stored (counted part) o1 o2 a b) where
-      pub words-fit : Fits (each wordBytes part) o2 b
-      words-fit =
-          omega (
-            arith,
-            f .fits,
-            length-face-record part (f .whole),
-            behind-header .0,
-            behind-header .1,
-            e .place,
-            length-count (wide n) n,
-            still-long (counted part) o1 o2 a b e,
-            length-words part,
-          )
+      module _ (o2 : List ℕ) (b : ℕ) (e : Stored (countBytes (wide m n) n) o1 o2 a b) where
+        count-stored : Stored (counted part) o1 o2 a b
+        count-stored = stored-as (countBytes (wide m n) n) (counted part) o1 o2 a b (ap (λ (b : Bool). countBytes (wide b n) n) em) e
 
-      pub face-stored : (o3 : List ℕ) (r : ℕ) → Stored (each wordBytes part) o2 o3 b r → Stored (faceRecord (cornersIn part)) o o3 at r
-      face-stored o3 r g =
-          let h = header part in
-          let m = counted part in
-          let ws = each wordBytes part in
-          stored-as (h ++ (m ++ ws)) (faceRecord (cornersIn part)) o o3 at r (sym (face-bytes part (f .whole)))
-          (stored-both h (m ++ ws) o o1 o3 at a r header-stored (stored-both m ws o1 o2 o3 a b r e g))
+        pub corners-fit : Corners m part o2 b
+        corners-fit =
+            rw em
+            (omega (
+              arith,
+              f .fits,
+              length-part part,
+              behind-header .0,
+              behind-header .1,
+              count-stored .place,
+              length-count (wide (marked part) n) n,
+              still-long (counted part) o1 o2 a b count-stored,
+              length-numbers part,
+            ))
+
+        pub face-stored : (o3 : List ℕ) (r : ℕ) → Stored (each (cornerBytes m) (cornersIn part)) o2 o3 b r → Stored (faceRecord (cornersIn part)) o o3 at r
+        face-stored o3 r g =
+            let h = header part in
+            let c = counted part in
+            let ws = numbers part in
+            let g' : Stored ws o2 o3 b r = stored-as _ ws o2 o3 b r (ap (λ (b : Bool). each (cornerBytes b) (cornersIn part)) em) g in
+            stored-as (h ++ (c ++ ws)) (faceRecord (cornersIn part)) o o3 at r (sym (face-bytes part))
+            (stored-both h (c ++ ws) o o1 o3 at a r header-stored (stored-both c ws o1 o2 o3 a b r count-stored g'))
 
 -- ---- all
 

@@ -4,3 +4,4 @@ pub mod Entries
 pub mod Wide
 pub mod Faces
 pub mod Saving
+pub mod Cornering

@@ -1,7 +1,7 @@
 -- What the writer's inner functions store, for their contracts. Assumes nothing.
 use Prim.Native.Nat.{ℕ, _+_, _*_, _%_, _≤_, _<_}
 use mathlib.Core.Path.{_≡_}
-use mathlib.Core.Bool.{true}
+use mathlib.Core.Bool.{Bool, true, false}
 use mathlib.Core.List.{List}
 use lib.ListN.{length, getD}
 use lib.Seq.{sets}
@@ -11,7 +11,7 @@ use Rattle.mesh.specs.Limits.{width, ringLimit}
 use Rattle.mesh.specs.Mesh.{cornersIn, rings}
 use Rattle.mesh.specs.Face.{Sound}
 use Rattle.floating.specs.Limits.{finite}
-use Rattle.written.specs.Pieces.{wide, countBytes, coordinateBytes}
+use Rattle.written.specs.Pieces.{wide, countBytes, coordinateBytes, indexWidth, cornerBytes}
 use Rattle.written.specs.Parts.{entryRecord, firstRows, faceRecord}
 
 -- the bytes are stored from a place on, and r is the place behind them
@@ -43,10 +43,18 @@ pub record Entries (w n kind : ℕ) (s : List Float) (o : List ℕ) (at : ℕ) :
 
 -- ---- faces
 
--- a count, a face, and faces, of no more corners than a face may have, with room for their bytes
-pub record ACount (n : ℕ) (o : List ℕ) (at : ℕ) : Type 0 where
+-- how many numbers of each corner are said
+abbrev pub saidWidth : Bool → ℕ
+saidWidth true = width
+saidWidth false = indexWidth
+
+-- a count, corners, a face, and faces, of no more corners than a face may have, with room for their bytes
+pub record ACount (marked : Bool) (n : ℕ) (o : List ℕ) (at : ℕ) : Type 0 where
   pub small : n ≤ ringLimit
-  pub fits : Fits (countBytes (wide n) n) o at
+  pub fits : Fits (countBytes (wide marked n) n) o at
+
+abbrev pub Corners : Bool → List ℕ → List ℕ → ℕ → Type 0
+Corners marked part o at = Fits (each (cornerBytes marked) (cornersIn part)) o at
 
 pub record AFace (part o : List ℕ) (at : ℕ) : Type 0 where
   pub whole : length part % width ≡ 0

@@ -1,17 +1,20 @@
 // One record after the other. Each function stores bytes from a place on and answers the place behind them.
 ghost use mathlib.Core.Path.{_≡_};
 ghost use mathlib.Core.Bool.{true};
-ghost use mathlib.Core.List.{[], _∷_};
-ghost use Prim.Native.Nat.{_+_, _≤_};
+ghost use mathlib.Core.List.{[], _∷_, map};
+ghost use Prim.Native.Nat.{_+_, _*_, _≤_};
 ghost use lib.ListN.{length};
 ghost use lib.Ieee.{binary64, toBits};
-ghost use Rattle.lists.specs.Lists.{each};
+ghost use Rattle.lists.specs.Lists.{each, sum};
 ghost use Rattle.floating.specs.Limits.{finite};
 ghost use Rattle.little.specs.Little.{wordBytes};
+ghost use Rattle.mesh.specs.Limits.{cornerNumbers, cornerLimit};
 ghost use Rattle.mesh.specs.Mesh.{cornersIn, rings};
-ghost use Rattle.written.specs.Pieces.{wide, faceKind, countBytes, countLength, coordinateBytes, headerOf};
+ghost use Rattle.mesh.specs.Face.{Sound};
+ghost use Rattle.records.specs.Records.{anyMark};
+ghost use Rattle.written.specs.Pieces.{wide, faceKind, countBytes, countLength, coordinateBytes, cornerBytes, headerOf, bodyLength, faceBytes};
 ghost use Rattle.written.specs.Parts.{entryRecord, firstRows, faceRecord};
-ghost use Rattle.saving.specs.Working.{Stored, Fits, Coordinates, AnEntry, Entries, ACount, AFace, Faces};
+ghost use Rattle.saving.specs.Working.{Stored, Fits, Coordinates, AnEntry, Entries, saidWidth, ACount, Corners, AFace, Faces};
 
 // ---- parts of a record
 
@@ -101,43 +104,129 @@ pub fn put_entries(s: &[f64], w: usize, n: usize, kind: u32, out: &mut [u8], at:
 
 // ---- faces
 
-// Whether a face of n corners is wide: kind 4 does not hold it.
-fn is_wide(n: usize) -> bool
-    ensures { λ r. ⌜ r ≡ wide n ⌝ }
+// How many numbers of a corner stand before its mark.
+const INDEX_WIDTH: usize = 3;
+
+// Whether any corner of a face has a mark.
+fn any_mark(part: &[u32]) -> bool
+    ensures { λ r. ⌜ r ≡ anyMark (cornersIn (now (part .entry))) ⌝ }
 {
+    let n = part.len() / mesh::WIDTH;
+    let mut k: usize = 0;
+    while k < n {
+        if part[mesh::WIDTH * k + INDEX_WIDTH] != 0 {
+            return true;
+        }
+        k += 1;
+    }
+    false
+}
+
+// Whether a face of n corners is wide: kind 4 does not hold it.
+fn is_wide(marked: bool, n: usize) -> bool
+    ensures { λ r. ⌜ r ≡ wide marked n ⌝ }
+{
+    if marked {
+        return true;
+    }
     records::BYTE_FACE < n
 }
 
 // The kind of a face of n corners.
-fn face_kind(n: usize) -> u32
-    ensures { λ r. ⌜ r ≡ faceKind (wide n) ⌝ }
+fn face_kind(marked: bool, n: usize) -> u32
+    ensures { λ r. ⌜ r ≡ faceKind marked (wide marked n) ⌝ }
 {
-    if is_wide(n) {
+    if marked {
+        return records::MARKED_KIND;
+    }
+    if is_wide(marked, n) {
         return records::WIDE_KIND;
     }
     records::BYTE_KIND
 }
 
 // How many bytes its count has.
-pub fn count_length(n: usize) -> usize
-    ensures { λ r. ⌜ r ≡ countLength (wide n) ⌝ }
+fn count_length(marked: bool, n: usize) -> usize
+    ensures { λ r. ⌜ r ≡ countLength (wide marked n) ⌝ }
 {
-    if is_wide(n) {
+    if is_wide(marked, n) {
         return records::WIDE_COUNT;
     }
     records::BYTE_COUNT
 }
 
-// Its count.
-fn put_count(n: usize, out: &mut [u8], at: usize) -> usize
-    requires { ⌜ ACount n (now out) at ⌝ }
-    ensures { λ r. ⌜ Stored (countBytes (wide n) n) (now (out .entry)) (now (out .exit)) at r ⌝ }
+// How many bytes its body has.
+fn body_length(marked: bool, n: usize) -> usize
+    requires { ⌜ n ≤ cornerLimit ⌝ }
+    ensures { λ r. ⌜ r ≡ bodyLength marked n ⌝ }
 {
-    if is_wide(n) {
+    records::corner_place(marked, count_length(marked, n), n)
+}
+
+// How many bytes the record of a face has.
+fn face_length(part: &[u32]) -> usize
+    requires { ⌜ length (now part) ≤ cornerNumbers ⌝ }
+    ensures { λ r. ⌜ r ≡ faceBytes (cornersIn (now (part .entry))) ⌝ }
+{
+    let n = part.len() / mesh::WIDTH;
+    records::HEADER_LENGTH + body_length(any_mark(part), n)
+}
+
+// How many the records of all faces have.
+pub fn face_lengths(corners: &[u32], sizes: &[u32]) -> usize
+    requires { ⌜ Sound (now corners) (now sizes) ⌝ }
+    ensures { λ r. ⌜ r ≡ sum (map faceBytes (rings (now (sizes .entry)) (now (corners .entry)))) ⌝ }
+{
+    let mut total: usize = 0;
+    let mut from: usize = 0;
+    let mut k: usize = 0;
+    while k < sizes.len() {
+        let face = mesh::face_at(corners, sizes, k, from);
+        total += face_length(face);
+        from += sizes[k] as usize;
+        k += 1;
+    }
+    total
+}
+
+// Its count.
+fn put_count(marked: bool, n: usize, out: &mut [u8], at: usize) -> usize
+    requires { ⌜ ACount marked n (now out) at ⌝ }
+    ensures { λ r. ⌜ Stored (countBytes (wide marked n) n) (now (out .entry)) (now (out .exit)) at r ⌝ }
+{
+    if is_wide(marked, n) {
         little::put_half(out, at, n as u32);
         return at + records::WIDE_COUNT;
     }
     put_byte(n as u8, out, at)
+}
+
+// How many numbers of each corner are said.
+fn said_width(marked: bool) -> usize
+    ensures { λ r. ⌜ r ≡ saidWidth marked ⌝ }
+{
+    if marked {
+        return mesh::WIDTH;
+    }
+    INDEX_WIDTH
+}
+
+// Its corners.
+fn put_corners(marked: bool, part: &[u32], out: &mut [u8], at: usize) -> usize
+    requires { ⌜ Corners marked (now part) (now out) at ⌝ }
+    ensures { λ r. ⌜ Stored (each (cornerBytes marked) (cornersIn (now (part .entry)))) (now (out .entry)) (now (out .exit)) at r ⌝ }
+{
+    let n = part.len() / mesh::WIDTH;
+    let numbers = said_width(marked);
+    let mut to = at;
+    let mut k: usize = 0;
+    while k < n {
+        let from = mesh::WIDTH * k;
+        let end = from + numbers;
+        to = put_words(&part[from..end], out, to);
+        k += 1;
+    }
+    to
 }
 
 // The record of a face: a count n, then n corners.
@@ -146,10 +235,11 @@ fn put_face(part: &[u32], out: &mut [u8], at: usize) -> usize
     ensures { λ r. ⌜ Stored (faceRecord (cornersIn (now (part .entry)))) (now (out .entry)) (now (out .exit)) at r ⌝ }
 {
     let n = part.len() / mesh::WIDTH;
-    let length = count_length(n) + 4 * part.len();
-    let a = put_header(length as u32, face_kind(n), out, at);
-    let b = put_count(n, out, a);
-    put_words(part, out, b)
+    let marked = any_mark(part);
+    let length = body_length(marked, n);
+    let a = put_header(length as u32, face_kind(marked, n), out, at);
+    let b = put_count(marked, n, out, a);
+    put_corners(marked, part, out, b)
 }
 
 // A record for each face, in their order.

@@ -8,14 +8,13 @@ ghost use mathlib.Core.Path.{_≡_};
 ghost use Rattle.mesh.specs.Mesh.{meshOf};
 ghost use Rattle.mesh.specs.Table.{meshNumber};
 ghost use Rattle.floating.specs.Limits.{allFinite};
-ghost use Rattle.lists.specs.Lists.{count};
-ghost use Rattle.written.specs.Pieces.{wide, fileOf, fileLength};
+ghost use Rattle.written.specs.Pieces.{fileOf, fileLength};
 ghost use Rattle.written.specs.Answer.{savingNumber, PanelWritten, Ready};
 ghost use Rattle.saving.specs.Working.{Stored};
 pub use written::Saved;
 
 // How long the largest file is that a mesh can make.
-pub const FILE: usize = 76 * mesh::ENTRIES + 5 * mesh::FACES + 4 * mesh::CORNER_NUMBERS + 4;
+pub const FILE: usize = 76 * mesh::ENTRIES + 6 * mesh::FACES + 4 * mesh::CORNER_NUMBERS + 4;
 
 // Writes a mesh as a panel file into a lent buffer.
 //
@@ -95,23 +94,8 @@ fn file_length(
     let p = 28 * (positions.len() / 3);
     let t = 20 * (textures.len() / 2);
     let n = 28 * (normals.len() / 3);
-    let f = 5 * sizes.len();
-    let w = wide_faces(sizes);
-    let c = 4 * corners.len();
-    p + t + n + f + w + c + 4
-}
-
-// How many faces are wide: the count of each has one byte more.
-fn wide_faces(sizes: &[u32]) -> usize
-    ensures { λ r. ⌜ r ≡ count wide (now (sizes .entry)) ⌝ }
-{
-    let mut n: usize = 0;
-    let mut k: usize = 0;
-    while k < sizes.len() {
-        n += bytes::count_length(sizes[k] as usize) - records::BYTE_COUNT;
-        k += 1;
-    }
-    n
+    let f = bytes::face_lengths(corners, sizes);
+    p + t + n + f + 4
 }
 
 // The file of an accepted mesh with finite coordinates, where there is room for it. Answers how long it is.

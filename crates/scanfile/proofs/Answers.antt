@@ -24,7 +24,7 @@ use Rattle.scanned.specs.Scan.{scanCount, pointAt, pointsIn, coordinatesOf, not
 use Rattle.scanned.specs.Answer.{ScanRead}
 use Rattle.scanned.specs.Seen.{upto, seen}
 use Rattle.scanned.proofs.Numbers.{number-0}
-use Rattle.scanned.proofs.Threes.{length-threes, length-positions}
+use Rattle.scanned.proofs.Pieces.{length-pieces, length-positions}
 use Rattle.appearing.specs.Appearing.{Numbered}
 use Rattle.scanfile.specs.Steps.{PointsRead}
 
@@ -65,8 +65,8 @@ module _ (key : ℕ → ℕ) (u : ℕ) (numbers : List ℕ) (found : ℕ) (n : N
   points-read e l p′ c′ s′ ep ec es =
       let k : length (upto key u) ≡ u = length-table key u in
       let a : length (each coordinatesOf (seen key u)) ≡ 3 * length (seen key u) = length-positions (seen key u) in
-      let b : length (each (cornerOf (seen key u)) (upto key u)) ≡ 3 * length (upto key u) =
-      length-threes (cornerOf (seen key u)) (λ x. refl) (upto key u) in
+      let b : length (each (cornerOf (seen key u)) (upto key u)) ≡ width * length (upto key u) =
+      length-pieces (cornerOf (seen key u)) width (λ x. refl) (upto key u) in
       let d : length (replicate (length (upto key u) / leastRing) leastRing) ≡ length (upto key u) / leastRing =
       length-replicate (length (upto key u) / leastRing) leastRing in
       let f : found ≡ length (seen key u) = n .count in

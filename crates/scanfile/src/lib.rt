@@ -20,7 +20,7 @@ const HEADER_BYTES: usize = 80;
 
 // Reads a binary STL file into five lent lists. A scan has no texture points and no normals: those two lists are never written.
 //
-// Lends: room at the full limits, 6,144 numbers for positions, 4,096 for texture points, 6,144 for normals, 12,288 for corners
+// Lends: room at the full limits, 6,144 numbers for positions, 4,096 for texture points, 6,144 for normals, 16,384 for corners
 // and 1,365 for sizes.
 // Numbers: 9; 11 fewer than 84 bytes; 1 a count over 1,365; 11 or 13 the length is below or above what the count asks; 14 a point that is
 // not finite; 1 more than 2,048 different positions. A refused file writes nothing.

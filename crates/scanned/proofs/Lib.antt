@@ -1,6 +1,6 @@
 pub mod Points
 pub mod Prefixes
-pub mod Threes
+pub mod Pieces
 pub mod Lengths
 pub mod Numbers
 pub mod Meshes

@@ -30,7 +30,7 @@ use Rattle.scanned.specs.Seen.{upto, seen}
 use Rattle.scanned.specs.Promises.{Read, NumberSaysRead, ReadIsAccepted, ReadIsFinite, positionAt, indexAt, PositionsDiffer, PositionsUsed, CornerIsPoint, CornersArePoints, PointsAreWidened}
 use Rattle.scanned.proofs.Points.{plain-below, coordinates-point}
 use Rattle.scanned.proofs.Lengths.{right}
-use Rattle.scanned.proofs.Threes.{length-threes, threes-at, three-at, length-coordinates, length-positions}
+use Rattle.scanned.proofs.Pieces.{length-pieces, pieces-at, piece-at, length-coordinates, length-positions}
 use Rattle.scanned.proofs.Prefixes.{upto-take, number-old, number-new}
 
 -- ---- what a number 0 says
@@ -66,32 +66,36 @@ module _ (ps : List ℕ) where
   has-point : (k : ℕ) → k < length ps → has (getD ps k 0) (firstUses ps) ≡ true
   has-point k h = has-firstUses (getD ps k 0) ps ∙ has-getD ps k h
 
-  corners-long : length (meshFrom ps .corners) ≡ 3 * length ps
+  corners-long : length (meshFrom ps .corners) ≡ width * length ps
   unfolding meshFrom
-  corners-long = length-threes (cornerOf (firstUses ps)) (λ p. refl) ps
+  corners-long = length-pieces (cornerOf (firstUses ps)) width (λ p. refl) ps
 
   positions-long : length (meshFrom ps .positions) ≡ 3 * length (firstUses ps)
   unfolding meshFrom
   positions-long = length-positions (firstUses ps)
 
-  index-at : (k : ℕ) → k < length ps → getD (meshFrom ps .corners) (3 * k) 0 ≡ place (firstUses ps) (getD ps k 0)
+  index-at : (k : ℕ) → k < length ps → getD (meshFrom ps .corners) (width * k) 0 ≡ place (firstUses ps) (getD ps k 0)
   unfolding meshFrom
   index-at k h =
-      let z : 3 * k ≡ 3 * k + 0 = omega arith in
+      let z : width * k ≡ width * k + 0 = omega arith in
       ap (λ (n : ℕ). getD (each (cornerOf (firstUses ps)) ps) n 0) z
-      ∙ threes-at (cornerOf (firstUses ps)) (λ p. refl) 0 0 ps k 0 h (omega arith)
+      ∙ pieces-at (cornerOf (firstUses ps)) width (λ p. refl) 0 0 ps k 0 h (omega arith)
 
-  texture-at : (k : ℕ) → k < length ps → getD (meshFrom ps .corners) (3 * k + 1) 0 ≡ missing
+  texture-at : (k : ℕ) → k < length ps → getD (meshFrom ps .corners) (width * k + 1) 0 ≡ missing
   unfolding meshFrom
-  texture-at k h = threes-at (cornerOf (firstUses ps)) (λ p. refl) 0 0 ps k 1 h (omega arith)
+  texture-at k h = pieces-at (cornerOf (firstUses ps)) width (λ p. refl) 0 0 ps k 1 h (omega arith)
 
-  normal-at : (k : ℕ) → k < length ps → getD (meshFrom ps .corners) (3 * k + 2) 0 ≡ missing
+  normal-at : (k : ℕ) → k < length ps → getD (meshFrom ps .corners) (width * k + 2) 0 ≡ missing
   unfolding meshFrom
-  normal-at k h = threes-at (cornerOf (firstUses ps)) (λ p. refl) 0 0 ps k 2 h (omega arith)
+  normal-at k h = pieces-at (cornerOf (firstUses ps)) width (λ p. refl) 0 0 ps k 2 h (omega arith)
+
+  mark-at : (k : ℕ) → k < length ps → getD (meshFrom ps .corners) (width * k + 3) 0 ≡ 0
+  unfolding meshFrom
+  mark-at k h = pieces-at (cornerOf (firstUses ps)) width (λ p. refl) 0 0 ps k 3 h (omega arith)
 
   position-at : (i : ℕ) → i < length (firstUses ps) → positionAt (meshFrom ps) i ≡ coordinatesOf (getD (firstUses ps) i 0)
   unfolding meshFrom row
-  position-at i h = three-at coordinatesOf length-coordinates 0 (firstUses ps) i h
+  position-at i h = piece-at coordinatesOf pointWidth length-coordinates 0 (firstUses ps) i h
 
 -- ---- accepted
 
@@ -128,7 +132,7 @@ module _ (ps : List ℕ) (n : ℕ) (l : length ps ≡ leastRing * n) (f : n ≤ 
   unfolding meshFrom
   adds =
       let a : sum (replicate (length ps / leastRing) leastRing) ≡ 3 * (length ps / leastRing) = sum-threes (length ps / leastRing) in
-      let b : length (each (cornerOf (firstUses ps)) ps) ≡ 3 * length ps = length-threes (cornerOf (firstUses ps)) (λ p. refl) ps in
+      let b : length (each (cornerOf (firstUses ps)) ps) ≡ width * length ps = length-pieces (cornerOf (firstUses ps)) width (λ p. refl) ps in
       omega (arith, faces-are)
 
   all-grouped : falls (map kind (meshFrom ps .sizes)) ≡ false
@@ -138,7 +142,7 @@ module _ (ps : List ℕ) (n : ℕ) (l : length ps ≡ leastRing * n) (f : n ≤ 
   pub mesh-accepted : meshNumber (meshFrom ps) ≡ 0
   unfolding ungrouped
   mesh-accepted =
-      let c : length (meshFrom ps .corners) ≡ 3 * length ps = corners-long ps in
+      let c : length (meshFrom ps .corners) ≡ width * length ps = corners-long ps in
       let p : length (meshFrom ps .positions) ≡ 3 * length (firstUses ps) = positions-long ps in
       let s : length (meshFrom ps .sizes) ≡ n = sizes-long in
       clear-0 (meshFrom ps) (record {
@@ -164,7 +168,7 @@ module _ (ps : List ℕ) (n : ℕ) (l : length ps ≡ leastRing * n) (f : n ≤ 
             let i : k < length ps = omega arith in
             let b : place (firstUses ps) (getD ps k 0) < length (firstUses ps) = place-below (firstUses ps) (getD ps k 0) (has-point ps k i) in
             record {
-              position = (let e : getD (meshFrom ps .corners) (3 * k) 0 ≡ place (firstUses ps) (getD ps k 0) = index-at ps k i in omega arith);
+              position = (let e : getD (meshFrom ps .corners) (width * k) 0 ≡ place (firstUses ps) (getD ps k 0) = index-at ps k i in omega arith);
               texture = λ ne. absurd (ne (texture-at ps k i));
               normal = λ ne. absurd (ne (normal-at ps k i));
             });
@@ -214,7 +218,7 @@ positions-used file i h =
     let l : i < length (firstUses (pointsIn file)) = omega arith in
     let w = among (pointsIn file) i l in (
       w .0,
-      (let b : length (meshFrom (pointsIn file) .corners) ≡ 3 * length (pointsIn file) = corners-long (pointsIn file) in
+      (let b : length (meshFrom (pointsIn file) .corners) ≡ width * length (pointsIn file) = corners-long (pointsIn file) in
           let k : w .0 < length (pointsIn file) = w .1 in omega arith),
       index-at (pointsIn file) (w .0) (w .1)
           ∙ ap (place (firstUses (pointsIn file))) (w .2)
@@ -261,6 +265,7 @@ corners-are-points file k h =
       position = own-position (pointAt file) n k h;
       texture = texture-at (upto (pointAt file) n) k (inside (pointAt file) n k h);
       normal = normal-at (upto (pointAt file) n) k (inside (pointAt file) n k h);
+      mark = mark-at (upto (pointAt file) n) k (inside (pointAt file) n k h);
       first = early (pointAt file) n k h;
     }
 

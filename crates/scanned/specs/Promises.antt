@@ -51,12 +51,13 @@ PositionsUsed =
     (file : List ℕ) (i : ℕ) → i < positionCount (scanMesh file)
     → (k : ℕ) × (k < length (scanMesh file .corners) / width) × (indexAt (scanMesh file) k ≡ i)
 
--- corner k has the coordinates of point k of the file, no texture and no normal; positions are numbered by first appearance, so that its
+-- corner k has the coordinates of point k of the file, no texture, no normal and no mark; positions are numbered by first appearance, so that its
 -- number is no larger than how many different points stand before it
 pub record CornerIsPoint (file : List ℕ) (k : ℕ) : Type 0 where
   pub position : positionAt (scanMesh file) (indexAt (scanMesh file) k) ≡ coordinatesOf (pointAt file k)
   pub texture : getD (scanMesh file .corners) (width * k + 1) 0 ≡ missing
   pub normal : getD (scanMesh file .corners) (width * k + 2) 0 ≡ missing
+  pub mark : getD (scanMesh file .corners) (width * k + 3) 0 ≡ 0
   pub first : indexAt (scanMesh file) k ≤ length (firstUses (take k (pointsIn file)))
 
 abbrev pub CornersArePoints : Type 0

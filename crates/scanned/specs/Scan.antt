@@ -89,9 +89,9 @@ notFinite p = not (every finite (coordinatesOf p))
 
 -- ---- the mesh
 
--- points with equal bits become one position, numbered by first appearance; corners get no texture and no normal
+-- points with equal bits become one position, numbered by first appearance; corners get no texture, no normal and no mark
 abbrev pub bare : ℕ → Corner
-bare i = i ∷ missing ∷ missing ∷ []
+bare i = i ∷ missing ∷ missing ∷ 0 ∷ []
 
 abbrev pub cornerOf : List ℕ → ℕ → Corner
 cornerOf us p = bare (place us p)

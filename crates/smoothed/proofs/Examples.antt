@@ -94,7 +94,7 @@ strip-positions = refl
 
 -- the tetrahedron is smoothed, with just the room that is stated
 pub solid-number :
-    (numberOf solid ≡ 0) × (smoothingNumber solid (cosines 64 half) (cosines 64 half) (rooms 49 145 17) ≡ 0)
+    (numberOf solid ≡ 0) × (smoothingNumber solid (cosines 64 half) (cosines 64 half) (rooms 49 193 17) ≡ 0)
 unfolding smoothingNumber boundlessPosition boundless otherFace foldedOrIdle foldedBy allUsed unoriented verdict key unfitCosines neighbours edgesByUse smoothedFaces smoothedMesh smoothedPositions tooShort short faces meshNumber shapeNumber overLimits uneven misfit ungrouped astray ieee.le ieee.lt ieee.eq
 solid-number = (refl, refl)
 
@@ -110,15 +110,15 @@ other-numbers = (refl, refl, refl, refl, refl)
 
 -- 17: a list of 63, a cosine of 2 or that is no number; 9: one place too few; and 17 goes before 9
 pub lent-numbers :
-    (smoothingNumber solid (cosines 63 half) (cosines 64 half) (rooms 48 144 16) ≡ 17)
-    × (smoothingNumber solid (cosines 64 half) (cosines 64 (power (pos 1))) (rooms 48 144 16) ≡ 17)
-    × (smoothingNumber solid (cosines 64 ieee.nan) (cosines 64 half) (rooms 48 144 16) ≡ 17)
-    × (smoothingNumber solid (cosines 64 half) (cosines 64 half) (rooms 47 144 16) ≡ 9)
-    × (smoothingNumber solid (cosines 63 half) (cosines 64 half) (rooms 47 144 16) ≡ 17)
-    × (smoothingNumber solid (cosines 64 half) (cosines 64 half) (rooms 48 143 16) ≡ 9)
-    × (smoothingNumber solid (cosines 64 half) (cosines 64 half) (rooms 48 144 15) ≡ 9)
-    × (smoothingNumber solid (cosines 64 (ieee.fin true 1 (pos 0))) (cosines 64 (power (pos 0))) (rooms 48 144 16) ≡ 0)
-    × (smoothingNumber solid (cosines 64 half) (cosines 65 half) (rooms 48 144 16) ≡ 17)
+    (smoothingNumber solid (cosines 63 half) (cosines 64 half) (rooms 48 192 16) ≡ 17)
+    × (smoothingNumber solid (cosines 64 half) (cosines 64 (power (pos 1))) (rooms 48 192 16) ≡ 17)
+    × (smoothingNumber solid (cosines 64 ieee.nan) (cosines 64 half) (rooms 48 192 16) ≡ 17)
+    × (smoothingNumber solid (cosines 64 half) (cosines 64 half) (rooms 47 192 16) ≡ 9)
+    × (smoothingNumber solid (cosines 63 half) (cosines 64 half) (rooms 47 192 16) ≡ 17)
+    × (smoothingNumber solid (cosines 64 half) (cosines 64 half) (rooms 48 191 16) ≡ 9)
+    × (smoothingNumber solid (cosines 64 half) (cosines 64 half) (rooms 48 192 15) ≡ 9)
+    × (smoothingNumber solid (cosines 64 (ieee.fin true 1 (pos 0))) (cosines 64 (power (pos 0))) (rooms 48 192 16) ≡ 0)
+    × (smoothingNumber solid (cosines 64 half) (cosines 65 half) (rooms 48 192 16) ≡ 17)
     × (smoothingNumber (meshAt nought 0 []) (cosines 64 half) (cosines 64 half) (rooms 0 0 0) ≡ 0)
     × (smoothingNumber (meshAt nought 1 []) (cosines 64 half) (cosines 64 half) (rooms 0 0 0) ≡ 16)
 unfolding smoothingNumber boundlessPosition boundless otherFace foldedOrIdle foldedBy allUsed unoriented verdict key unfitCosines neighbours edgesByUse smoothedFaces smoothedMesh smoothedPositions tooShort short faces meshNumber shapeNumber overLimits uneven misfit ungrouped astray ieee.le ieee.lt ieee.eq

@@ -1,4 +1,5 @@
 pub mod All
+pub mod Afterwards
 pub mod Spans
 pub mod Verdicts
 pub mod Places

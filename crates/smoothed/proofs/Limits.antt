@@ -14,6 +14,7 @@ use Rattle.lists.proofs.Bools.{by-cases, and-both, or-right}
 use Rattle.lists.proofs.Counting.{clash}
 use Rattle.lists.proofs.Only.{only-length}
 use Rattle.lists.proofs.Others.{has-only}
+use Rattle.mesh.specs.Limits.{cornerNumbers}
 use Rattle.mesh.specs.Mesh.{Mesh, Ring, position, faces, positionCount}
 use Rattle.mesh.specs.Table.{overLimits}
 use Rattle.mesh.proofs.Faces.{length-rings}
@@ -105,7 +106,7 @@ over-limit m ps h =
     (ltb 6144 (length ps)
     || ltb 4096 (length (m .textures))
     || ltb 6144 (length (m .normals))
-    || ltb 12288 (length (each joined (smoothedFaces (positionCount m) (faces m)))))
+    || ltb cornerNumbers (length (each joined (smoothedFaces (positionCount m) (faces m)))))
     (ltb 1365 (length (map length (smoothedFaces (positionCount m) (faces m)))))
     (lt-ltb 1365 (length (map length (smoothedFaces (positionCount m) (faces m))))
     (omega (arith, length-map (smoothedFaces (positionCount m) (faces m)) length, faces-four (positionCount m) (faces m), mesh-faces m)))

@@ -15,7 +15,7 @@ use Rattle.lists.proofs.Bools.{and-both, and-left, and-right, or-neither, or-fa
 use Rattle.lists.proofs.Mapping.{every-map}
 use Rattle.lists.proofs.Parts.{some-joined}
 use Rattle.mesh.specs.Limits.{ringLimit}
-use Rattle.mesh.specs.Mesh.{Mesh, meshOf, Corner, Ring, position, texture, normal, missing, cornersIn, faces, positionCount, textureCount, normalCount}
+use Rattle.mesh.specs.Mesh.{Mesh, meshOf, Corner, Ring, position, texture, normal, mark, missing, cornersIn, faces, positionCount, textureCount, normalCount}
 use Rattle.mesh.specs.Table.{meshNumber, beyondUnlessMissing, astrayBy, astrayAt, astray}
 use Rattle.mesh.proofs.Corners.{isCorner}
 use Rattle.mesh.proofs.Faces.{isRing, rings-are, rings-back, sizes-back, corners-back, length-rings}
@@ -36,6 +36,7 @@ use Rattle.smoothed.proofs.Again.{smoothed-again}
 use Rattle.smoothed.proofs.Used.{smoothed-used}
 use Rattle.smoothed.proofs.Twins.{smoothed-unlike}
 use Rattle.smoothed.proofs.Limits.{smoothed-fits}
+use Rattle.smoothed.proofs.Afterwards.{smoothed-marks}
 
 -- ---- corners
 
@@ -246,6 +247,7 @@ module _ (m : Mesh) (g : Given m) (ps : List Float) (e : Fitting m ps) where
   smoothed-mesh = record {
     accepted = result-accepted;
     is = result-faces;
+    marks = ap (map (map mark)) result-faces ∙ smoothed-marks (positionCount m) before;
     unfolded = ap (some folded) result-faces ∙ again .unfolded;
     used = rw (result-faces, result-count) (smoothed-used (positionCount m) before s (g .used));
     same-verdict = λ r.

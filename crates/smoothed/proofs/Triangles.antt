@@ -47,24 +47,27 @@ module _ {A B : Type 0} (f : A → List B) (w : ℕ) (d : A) (e : B) (long : (x 
 
 three : (l : List ℕ) → length l ≡ width * leastRing → cornersIn l ≡ cornerAt l 0 ∷ cornerAt l 1 ∷ cornerAt l 2 ∷ []
 three l h =
-    let z : length l ≤ 9 = omega arith in
+    let z : length l ≤ width * leastRing = omega arith in
     cornersIn-step l 0 (omega arith)
     ∙ ap (λ (r : Ring). cornerAt l 0 ∷ r) (cornersIn-step l 1 (omega arith))
     ∙ ap (λ (r : Ring). cornerAt l 0 ∷ cornerAt l 1 ∷ r) (cornersIn-step l 2 (omega arith))
     ∙ ap (λ (t : List ℕ). cornerAt l 0 ∷ cornerAt l 1 ∷ cornerAt l 2 ∷ cornersIn t) (drop-of-length-le l z)
 
 -- corner j of a part is the corner that stands there
-corner-part : (cs : List ℕ) (a m j i : ℕ) → width * j + 2 < m → a + width * j ≡ width * i → cornerAt (take m (drop a cs)) j ≡ cornerAt cs i
+corner-part : (cs : List ℕ) (a m j i : ℕ) → width * j + 3 < m → a + width * j ≡ width * i → cornerAt (take m (drop a cs)) j ≡ cornerAt cs i
 corner-part cs a m j i h e =
     let first : a + (width * j + 1) ≡ width * i + 1 = omega arith in
     let second : a + (width * j + 2) ≡ width * i + 2 = omega arith in
+    let third : a + (width * j + 3) ≡ width * i + 3 = omega arith in
     rw (
       part-at 0 cs a m (width * j) (omega arith),
       part-at 0 cs a m (width * j + 1) (omega arith),
       part-at 0 cs a m (width * j + 2) (omega arith),
+      part-at 0 cs a m (width * j + 3) (omega arith),
       e,
       first,
       second,
+      third,
     )
 
 sum-replicate : (n k t : ℕ) → k ≤ t → sum (take k (replicate t n)) ≡ n * k
@@ -94,17 +97,17 @@ module _ (cs : List ℕ) where
   triangle-at k h =
       let s : List ℕ = replicate triangleCount leastRing in
       let a : ℕ = width * (leastRing * k) in
-      let l : List ℕ = take 9 (drop a cs) in
+      let l : List ℕ = take (width * leastRing) (drop a cs) in
       let size : getD s k 0 ≡ leastRing = getD-replicate triangleCount k leastRing 0 h in
       let before : sum (take k s) ≡ leastRing * k = sum-replicate leastRing k triangleCount (omega arith) in
-      let long : length l ≡ 9 = length-part cs a 9 (omega arith) in
+      let long : length l ≡ width * leastRing = length-part cs a (width * leastRing) (omega arith) in
       getD-rings s cs k (omega (arith, length-replicate triangleCount leastRing))
       ∙ ap₂ (λ (n m : ℕ). cornersIn (take (width * n) (drop (width * m) cs))) size before
       ∙ three l long
       ∙ rw (
-        corner-part cs a 9 0 (leastRing * k) (omega arith) (omega arith),
-        corner-part cs a 9 1 (leastRing * k + 1) (omega arith) (omega arith),
-        corner-part cs a 9 2 (leastRing * k + 2) (omega arith) (omega arith),
+        corner-part cs a (width * leastRing) 0 (leastRing * k) (omega arith) (omega arith),
+        corner-part cs a (width * leastRing) 1 (leastRing * k + 1) (omega arith) (omega arith),
+        corner-part cs a (width * leastRing) 2 (leastRing * k + 2) (omega arith) (omega arith),
       )
 
 -- all their corners are those of the list

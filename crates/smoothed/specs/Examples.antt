@@ -186,7 +186,7 @@ rooms p c s = lists (replicate p nought) (replicate c 0) (replicate s 0)
 
 -- the number of a mesh with cosines of 1/2 and room for what comes of four triangles over four positions
 abbrev pub numberOf : Mesh → ℕ
-numberOf m = smoothingNumber m (cosines cosineCount half) (cosines cosineCount half) (rooms 48 144 16)
+numberOf m = smoothingNumber m (cosines cosineCount half) (cosines cosineCount half) (rooms 48 192 16)
 
 -- the tetrahedron; a quadrangle; two triangles that use an edge the same way
 abbrev pub solid : Mesh

@@ -2,14 +2,14 @@
 -- nothing.
 use mathlib.Core.Path.{_≡_}
 use mathlib.Core.Bool.{true, false}
-use mathlib.Core.List.{List, map}
+use mathlib.Core.List.{List, [], _∷_, map}
 use Prim.Native.Nat.{ℕ, _*_, _/_, _≤_}
-use lib.ListN.{length}
+use lib.ListN.{length, getD}
 use lib.Dec.{eqb}
 use lib.Ieee.{Float}
 use Rattle.lists.specs.Lists.{some, every, joined, each}
 use Rattle.mesh.specs.Limits.{pointWidth, leastRing, faceLimit}
-use Rattle.mesh.specs.Mesh.{Mesh, meshOf, faces, positionCount}
+use Rattle.mesh.specs.Mesh.{Mesh, meshOf, Ring, mark, faces, positionCount}
 use Rattle.mesh.specs.Table.{meshNumber}
 use Rattle.verdicts.specs.Edges.{edgesOf, verdict}
 use Rattle.folding.specs.Folding.{folded}
@@ -39,10 +39,21 @@ pub record Given (m : Mesh) : Type 0 where
 abbrev pub Fitting : Mesh → List Float → Type 0
 Fitting m ps = length ps ≡ pointWidth * smoothedCount (positionCount m) (faces m)
 
+-- the marks of the four triangles that come of a face: each old corner keeps its own, a new one has none
+abbrev pub fourMarks : Ring → List (List ℕ)
+fourMarks f =
+    (mark (getD f 0 []) ∷ 0 ∷ 0 ∷ [])
+    ∷ (0 ∷ mark (getD f 2 []) ∷ 0 ∷ [])
+    ∷ (0 ∷ 0 ∷ mark (getD f 1 []) ∷ [])
+    ∷ (0 ∷ 0 ∷ 0 ∷ [])
+    ∷ []
+
 pub record Promised (m : Mesh) (ps : List Float) : Type 0 where
   -- the result is accepted, and its faces are the smoothed faces
   pub accepted : meshNumber (smoothedMesh m ps) ≡ 0
   pub is : faces (smoothedMesh m ps) ≡ smoothedFaces (positionCount m) (faces m)
+  -- old corners keep their marks, and new corners have none
+  pub marks : map (map mark) (faces (smoothedMesh m ps)) ≡ each fourMarks (faces m)
   -- no result face is folded, and each position of the result is in some face
   pub unfolded : some folded (faces (smoothedMesh m ps)) ≡ false
   pub used : allUsed (positionCount (smoothedMesh m ps)) (faces (smoothedMesh m ps)) ≡ true

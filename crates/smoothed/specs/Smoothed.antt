@@ -36,9 +36,9 @@ place (j ∷ ks) k = cond (same k j) 0 (suc (place ks k))
 unfoldable pub middle : ℕ → List Edge → Edge → ℕ
 middle n ks e = n + place ks (key e)
 
--- an inner corner carries no texture and no normal
+-- an inner corner carries no texture, no normal and no mark
 abbrev pub bare : ℕ → Corner
-bare p = p ∷ missing ∷ missing ∷ []
+bare p = p ∷ missing ∷ missing ∷ 0 ∷ []
 
 -- so many triangles for one
 abbrev pub fold : ℕ

@@ -81,6 +81,7 @@ module _ (m : Mesh) (ones twos : List Float) (before left : Result) (answer : Sm
     fourfold = sizes-long m ones twos g;
     unfolded = p .unfolded;
     used = p .used;
+    marks = p .marks;
     same-verdict = p .same-verdict;
     unlike = p .unlike;
   }

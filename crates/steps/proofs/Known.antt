@@ -1,5 +1,6 @@
 -- The steps over an answer that is known by an equation, as a function that took the answer apart knows it. Assumes nothing.
 use mathlib.Core.Path.{_≡_, sym, ap, _∙_}
+use mathlib.Core.Bool.{Bool}
 use mathlib.Core.List.{List, [], _∷_}
 use Prim.Native.Nat.{ℕ, _+_, _*_, _≤_, _<_}
 use native.Mathlib.Numerals.{add-one}
@@ -16,6 +17,7 @@ use Rattle.floating.specs.declared.Texel.{Texel}
 use Rattle.floating.specs.Points.{coordinates}
 use Rattle.records.specs.declared.Record.{Record}
 use Rattle.records.specs.declared.Record.the-variants.{Position, Texture, Normal, Face, End, Refused}
+use Rattle.records.specs.Lengths.{cornerSize}
 use Rattle.records.specs.Records.{ringFrom, numberOf}
 use Rattle.records.proofs.Record.{the-type}
 use Rattle.steps.specs.declared.Progress.{Progress}
@@ -74,18 +76,19 @@ module _ (file : List ℕ) (r : Record) (x : Progress) (l : Mesh) where
       normal-step h n f = rw (e, f) (normal-taken file x pt l (rw e at a) long h)
 
     -- ---- faces
-    module _ (i m : ℕ) (e : r ≡ Face i m) where
-      pub face-drop : m < 3 → Stepped file r x (pastFace x i m) l l
-      face-drop h = rw e (face-dropped file x i m l (rw e at a) h)
+    module _ (i m : ℕ) (b : Bool) (e : r ≡ Face i m b) where
+      pub face-drop : m < 3 → (p : ℕ) → p ≡ i + cornerSize b * m → Stepped file r x (pastFace x p) l l
+      face-drop h p g = rw (e, g) (face-dropped file x i m b l (rw e at a) h)
 
       pub face-stop : 3 ≤ m → cornerLimit < x .corners + m → (y : Progress) → y ≡ stoppedWith x 1 → Stepped file r x y l l
-      face-stop g h y f = rw (e, f) (face-over file x i m l (rw e at a) g h)
+      face-stop g h y f = rw (e, f) (face-over file x i m b l (rw e at a) g h)
 
       pub face-step :
           3 ≤ m → x .corners + m ≤ cornerLimit → length (l .corners) ≡ cornerNumbers → length (l .sizes) ≡ faceLimit
-          → (c : List ℕ) → c ≡ sets (l .corners) (width * x .corners) (joined (ringFrom file m i))
-          → Stepped file r x (atFace x i m) l (meshOf (l .positions) (l .textures) (l .normals) c (set (l .sizes) (x .faces) m))
-      face-step g h lc ls c f = rw (e, f) (face-taken file x i m l (rw e at a) g h lc ls)
+          → (c : List ℕ) → c ≡ sets (l .corners) (width * x .corners) (joined (ringFrom b file m i))
+          → (p : ℕ) → p ≡ i + cornerSize b * m
+          → Stepped file r x (atFace x p m) l (meshOf (l .positions) (l .textures) (l .normals) c (set (l .sizes) (x .faces) m))
+      face-step g h lc ls c f p k = rw (e, f, k) (face-taken file x i m b l (rw e at a) g h lc ls)
 
 -- the answer is the record at the place
 pub stepped-at :

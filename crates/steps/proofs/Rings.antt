@@ -16,17 +16,18 @@ use Rattle.mesh.specs.Mesh.{Mesh, Ring, meshOf}
 use Rattle.grouping.specs.Push.{cornerCount}
 use Rattle.grouping.proofs.Placing.{count-append}
 use Rattle.records.specs.declared.Record.the-variants.{Face}
-use Rattle.records.specs.Lengths.{cornerLength}
+use Rattle.records.specs.Lengths.{cornerSize}
 use Rattle.records.specs.Records.{ringFrom}
 use Rattle.records.proofs.Ringing.{ring-flat, ring-length}
 use Rattle.steps.specs.declared.Progress.{Progress}
-use Rattle.steps.specs.Taking.{Reader, reader, limited, takeRecord, takeFace, withFace}
+use Rattle.steps.specs.Taking.{reader, limited, takeRecord, takeFace, withFace}
 use Rattle.steps.specs.Working.{stoppedWith, Able, Holds, Stepped}
 use Rattle.steps.proofs.Stopping.{stepped-stop, over-limit}
 
-abbrev pub pastFace : Progress → ℕ → ℕ → Progress
-pastFace x a n = record {
-  at = a + cornerLength * n;
+-- the reader behind a face that ends at p: it was dropped, or it had n corners
+abbrev pub pastFace : Progress → ℕ → Progress
+pastFace x p = record {
+  at = p;
   number = x .number;
   ended = x .ended;
   positions = x .positions;
@@ -37,8 +38,8 @@ pastFace x a n = record {
 }
 
 abbrev pub atFace : Progress → ℕ → ℕ → Progress
-atFace x a n = record {
-  at = a + cornerLength * n;
+atFace x p n = record {
+  at = p;
   number = x .number;
   ended = x .ended;
   positions = x .positions;
@@ -52,9 +53,12 @@ map-one : (fs : List Ring) (f : Ring) → map length (fs ++ f ∷ []) ≡ map le
 map-one [] f = refl
 map-one (x ∷ fs) f = ap (λ (l : List ℕ). length x ∷ l) (map-one fs f)
 
-module _ (file : List ℕ) (x : Progress) (i m : ℕ) (l : Mesh) (a : Able (length file) (Face i m) x) where
+module _ (file : List ℕ) (x : Progress) (i m : ℕ) (b : Bool) (l : Mesh) (a : Able (length file) (Face i m b) x) where
+  abbrev past : ℕ
+  past = i + cornerSize b * m
+
   -- fewer than three corners: dropped
-  pub face-dropped : m < 3 → Stepped file (Face i m) x (pastFace x i m) l l
+  pub face-dropped : m < 3 → Stepped file (Face i m b) x (pastFace x past) l l
   unfolding takeRecord
   face-dropped h = record {
     within = record {
@@ -67,7 +71,7 @@ module _ (file : List ℕ) (x : Progress) (i m : ℕ) (l : Mesh) (a : Able (leng
     };
     moved = λ e j. omega (arith, a .placed .0);
     taken = λ z k.
-        subst⁻¹ (λ (b : Bool). Holds (takeFace b file i m z) (pastFace x i m) l) (lt-ltb m 3 h)
+        subst⁻¹ (λ (t : Bool). Holds (takeFace t file i m b z) (pastFace x past) l) (lt-ltb m 3 h)
         (record {
           place = refl;
           refusal = a .unrefused;
@@ -81,17 +85,17 @@ module _ (file : List ℕ) (x : Progress) (i m : ℕ) (l : Mesh) (a : Able (leng
         });
   }
 
-  pub face-over : 3 ≤ m → cornerLimit < x .corners + m → Stepped file (Face i m) x (stoppedWith x 1) l l
+  pub face-over : 3 ≤ m → cornerLimit < x .corners + m → Stepped file (Face i m b) x (stoppedWith x 1) l l
   unfolding takeRecord
   face-over g h =
-      stepped-stop file (Face i m) x 1 l a (λ e. omega arith)
+      stepped-stop file (Face i m b) x 1 l a (λ e. omega arith)
       (λ z k.
       let more = cornerCount (z .drawn .faces) + m in
       over-limit (ltb cornerLimit more) z _ (lt-ltb cornerLimit more (omega (arith, k .counted)))
-      ∙ ap (λ (b : Bool). takeFace b file i m z) (sym (le-ltb m 3 g)))
+      ∙ ap (λ (t : Bool). takeFace t file i m b z) (sym (le-ltb m 3 g)))
 
   abbrev ring : Ring
-  ring = ringFrom file m i
+  ring = ringFrom b file m i
 
   abbrev corners' : List ℕ
   corners' = sets (l .corners) (width * x .corners) (joined ring)
@@ -104,7 +108,7 @@ module _ (file : List ℕ) (x : Progress) (i m : ℕ) (l : Mesh) (a : Able (leng
 
   pub face-taken :
       3 ≤ m → x .corners + m ≤ cornerLimit → length (l .corners) ≡ cornerNumbers → length (l .sizes) ≡ faceLimit
-      → Stepped file (Face i m) x (atFace x i m) l with-face
+      → Stepped file (Face i m b) x (atFace x past m) l with-face
   unfolding takeRecord
   face-taken g h lc ls = record {
     within = record {
@@ -119,9 +123,9 @@ module _ (file : List ℕ) (x : Progress) (i m : ℕ) (l : Mesh) (a : Able (leng
     taken = λ z k.
         let fs = z .drawn .faces in
         let u : ltb cornerLimit (cornerCount fs + m) ≡ false = le-ltb cornerLimit (cornerCount fs + m) (omega (arith, k .counted)) in
-        let drawn = reader (i + cornerLength * m) 0 false (withFace ring (z .drawn)) in
-        subst⁻¹ (λ (b : Bool). Holds (takeFace b file i m z) (atFace x i m) with-face) (le-ltb m 3 g)
-        (subst⁻¹ (λ (b : Bool). Holds (limited b z drawn) (atFace x i m) with-face) u
+        let drawn = reader past 0 false (withFace ring (z .drawn)) in
+        subst⁻¹ (λ (t : Bool). Holds (takeFace t file i m b z) (atFace x past m) with-face) (le-ltb m 3 g)
+        (subst⁻¹ (λ (t : Bool). Holds (limited t z drawn) (atFace x past m) with-face) u
         (record {
           place = refl;
           refusal = a .unrefused;
@@ -130,15 +134,15 @@ module _ (file : List ℕ) (x : Progress) (i m : ℕ) (l : Mesh) (a : Able (leng
           textures = k .textures;
           normals = k .normals;
           corners =
-              take-sets (l .corners) (width * x .corners) (joined ring) (width * (x .corners + m)) (omega (arith, ring-flat file m i)) (omega arith)
+              take-sets (l .corners) (width * x .corners) (joined ring) (width * (x .corners + m)) (omega (arith, ring-flat b file m i)) (omega arith)
               ∙ ap (λ (l : List ℕ). l ++ joined ring) (k .corners)
               ∙ ap (λ (l : List ℕ). each joined fs ++ l) (sym (append-nil (joined ring)))
               ∙ sym (each-append joined fs (ring ∷ []));
           sizes =
               take-sets (l .sizes) (x .faces) (m ∷ []) (x .faces + 1) refl (omega (arith, a .within .faces))
               ∙ ap (λ (l : List ℕ). l ++ (m ∷ [])) (k .sizes)
-              ∙ ap (λ (j : ℕ). map length fs ++ (j ∷ [])) (sym (ring-length file m i))
+              ∙ ap (λ (j : ℕ). map length fs ++ (j ∷ [])) (sym (ring-length b file m i))
               ∙ sym (map-one fs ring);
-          counted = omega (arith, k .counted, count-append fs (ring ∷ []), ring-length file m i);
+          counted = omega (arith, k .counted, count-append fs (ring ∷ []), ring-length b file m i);
         }));
   }

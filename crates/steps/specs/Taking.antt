@@ -51,11 +51,11 @@ abbrev pub withFace : Ring → Drawn → Drawn
 withFace f d = record { positions = d .positions; textures = d .textures; normals = d .normals; faces = d .faces ++ f ∷ [] }
 
 -- a face of fewer than three corners is dropped: its indices aren't checked and its corners don't count
-abbrev pub takeFace : Bool → List ℕ → ℕ → ℕ → Reader → Reader
-takeFace true s a n x = reader (endOf (x .at) (Face a n)) 0 false (x .drawn)
-takeFace false s a n x =
+abbrev pub takeFace : Bool → List ℕ → ℕ → ℕ → Bool → Reader → Reader
+takeFace true s a n m x = reader (endOf (x .at) (Face a n m)) 0 false (x .drawn)
+takeFace false s a n m x =
     limited (ltb cornerLimit (cornerCount (x .drawn .faces) + n)) x
-    (reader (endOf (x .at) (Face a n)) 0 false (withFace (ringFrom s n a) (x .drawn)))
+    (reader (endOf (x .at) (Face a n m)) 0 false (withFace (ringFrom m s n a) (x .drawn)))
 
 -- one record is taken, with its values; a refusal stops the reading there, with its number
 unfoldable pub takeRecord : List ℕ → Reader → Record → Reader
@@ -68,6 +68,6 @@ takeRecord s x (Texture t) =
 takeRecord s x (Normal p) =
     limited (ltb pointNumbers (length (x .drawn .normals) + 3)) x
     (reader (endOf (x .at) (Normal p)) 0 false (withNormal (valuesOf (Normal p)) (x .drawn)))
-takeRecord s x (Face a n) = takeFace (ltb n 3) s a n x
+takeRecord s x (Face a n m) = takeFace (ltb n 3) s a n m x
 takeRecord s x End = reader (endOf (x .at) End) 0 true (x .drawn)
 takeRecord s x (Refused n) = reader (x .at) (numberOf (Refused n)) false (x .drawn)

@@ -19,7 +19,7 @@ abbrev pub caseOf : Record → ℕ
 caseOf (Position p) = 0
 caseOf (Texture t) = 1
 caseOf (Normal p) = 2
-caseOf (Face a n) = 3
+caseOf (Face a n m) = 3
 caseOf End = 4
 caseOf (Refused n) = 5
 

@@ -138,13 +138,13 @@ fn step_face(
         (meshOf p t n (now (corners .entry)) (now (sizes .entry)))
         (meshOf p t n (now (corners .exit)) (now (sizes .exit)))) ⌝ }
 {
-    let Record::Face(a, n) = r else {
+    let Record::Face(a, n, marked) = r else {
         return step_end(r, x, file.len());
     };
     let m = n as usize;
     let c = x.corners;
     let f = x.faces;
-    let next = a + records::CORNER_LENGTH * m;
+    let next = records::corner_place(marked, a, m);
     let more = c + m;
     let mut y = x;
     y.at = next;
@@ -154,7 +154,7 @@ fn step_face(
     if mesh::CORNERS < more {
         return refused(x, 1);
     }
-    records::put_ring(file, a, m, corners, c);
+    records::put_ring(marked, file, a, m, corners, c);
     sizes[f] = n;
     let faces = f + 1;
     y.corners = more;

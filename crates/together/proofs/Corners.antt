@@ -85,22 +85,26 @@ module _ (cs p t n out : List ℕ) where
         ap (λ (j : ℕ). sets (sets out 0 (front k)) j corner) e ∙ sym (sets-append out 0 (front k) corner) ∙ ap (sets out 0) (sym front-more)
 
     pub write-turns :
-        (a b c : ℕ)
+        (a b c d : ℕ)
         → a ≡ getD p (getD cs (width * k) 0) 0
         → b ≡ unlessMissing (λ i. getD t i 0) (getD cs (width * k + 1) 0)
         → c ≡ unlessMissing (λ i. getD n i 0) (getD cs (width * k + 2) 0)
-        → Writing cs p t n out (set (set (set out' (width * k) a) (width * k + 1) b) (width * k + 2) c) (k + 1)
+        → d ≡ getD cs (width * k + 3) 0
+        → Writing cs p t n out (set (set (set (set out' (width * k) a) (width * k + 1) b) (width * k + 2) c) (width * k + 3) d) (k + 1)
     unfolding sentCorner
-    write-turns a b c x y z =
+    write-turns a b c d x y z u =
         let e : width * k + 1 ≡ suc (width * k) = omega arith in
         let e' : width * k + 2 ≡ suc (suc (width * k)) = omega arith in
-        let w : set (set (set out' (width * k) a) (width * k + 1) b) (width * k + 2) c ≡ sets out' (width * k) (a ∷ b ∷ c ∷ []) =
-        ap (λ (j : ℕ). set (set (set out' (width * k) a) j b) (width * k + 2) c) e ∙ ap (λ (j : ℕ). set (set (set out' (width * k) a) (suc (width * k)) b) j c) e' in
-        let v : (a ∷ b ∷ c ∷ []) ≡ corner = cc in
+        let e'' : width * k + 3 ≡ suc (suc (suc (width * k))) = omega arith in
+        let w : set (set (set (set out' (width * k) a) (width * k + 1) b) (width * k + 2) c) (width * k + 3) d ≡ sets out' (width * k) (a ∷ b ∷ c ∷ d ∷ []) =
+        ap (λ (j : ℕ). set (set (set (set out' (width * k) a) j b) (width * k + 2) c) (width * k + 3) d) e
+        ∙ ap (λ (j : ℕ). set (set (set (set out' (width * k) a) (suc (width * k)) b) j c) (width * k + 3) d) e'
+        ∙ ap (λ (j : ℕ). set (set (set (set out' (width * k) a) (suc (width * k)) b) (suc (suc (width * k))) c) j d) e'' in
+        let v : (a ∷ b ∷ c ∷ d ∷ []) ≡ corner = cc in
         record {
           within = omega arith;
           written = w ∙ ap (sets out' (width * k)) v ∙ ap (λ (o : List ℕ). sets o (width * k) corner) (g .written) ∙ one-more;
-          long = ap length w ∙ length-sets out' (width * k) (a ∷ b ∷ c ∷ []) ∙ g .long;
+          long = ap length w ∙ length-sets out' (width * k) (a ∷ b ∷ c ∷ d ∷ []) ∙ g .long;
         }
 
   pub write-ends :

@@ -9,7 +9,7 @@ use lib.ListN.{length}
 use lib.Seq.{sets}
 use lib.Ieee.{Float}
 use Rattle.lists.specs.Lists.{some, joined}
-use Rattle.mesh.specs.Mesh.{Mesh, Corner, position, texture, normal, missing, cornersIn}
+use Rattle.mesh.specs.Mesh.{Mesh, Corner, position, texture, normal, mark, missing, cornersIn}
 use Rattle.mesh.specs.Table.{meshNumber, firstOf, when, lent, short, after}
 use Rattle.floating.specs.Limits.{unfit, boundless, distant}
 use Rattle.floating.specs.Scaling.{scaledList}
@@ -65,13 +65,14 @@ normalPairs m t = comparedPairs t 3 (m .normals)
 abbrev pub unlessMissing : (ℕ → ℕ) → ℕ → ℕ
 unlessMissing f i = pick (eqb i missing) missing (f i)
 
--- indices in corners become the representative's
+-- indices in corners become the representative's; the mark stays
 unfoldable pub mergedCorner : Mesh → Float → Corner → Corner
 unfolding mergedTo scaledList
 mergedCorner m t c =
     mergedTo t 3 (scaledList (m .positions)) (position c)
     ∷ unlessMissing (mergedTo t 2 (m .textures)) (texture c)
     ∷ unlessMissing (mergedTo t 3 (m .normals)) (normal c)
+    ∷ mark c
     ∷ []
 
 unfoldable pub mergedCorners : Mesh → Float → List ℕ

@@ -8,7 +8,7 @@ use lib.Seq.{slice}
 use lib.Ieee.{Float}
 use Rattle.lists.specs.Lists.{some, has}
 use Rattle.mesh.specs.Limits.{width, entryLimit, pointNumbers, cornerNumbers}
-use Rattle.mesh.specs.Mesh.{Corner, position, texture, normal, missing}
+use Rattle.mesh.specs.Mesh.{Corner, position, texture, normal, mark, missing}
 use Rattle.floating.specs.Limits.{unfit, boundless, distant}
 use Rattle.nearby.specs.Engine.{Laid}
 use Rattle.together.specs.Centre.{representative, sentTo}
@@ -63,10 +63,10 @@ pub record Scalable (s : List Float) (t : Float) : Type 0 where
   pub bounded : some boundless s ≡ false
   pub fit : unfit t ≡ false
 
--- a corner by the three maps
+-- a corner by the three maps, with its own mark
 unfoldable pub sentCorner : List ℕ → List ℕ → List ℕ → Corner → Corner
 sentCorner p t n c =
-    getD p (position c) 0 ∷ unlessMissing (λ i. getD t i 0) (texture c) ∷ unlessMissing (λ i. getD n i 0) (normal c) ∷ []
+    getD p (position c) 0 ∷ unlessMissing (λ i. getD t i 0) (texture c) ∷ unlessMissing (λ i. getD n i 0) (normal c) ∷ mark c ∷ []
 
 -- corners whose indices the maps have
 pub record Indexed (cs p t n out : List ℕ) : Type 0 where

@@ -3,18 +3,18 @@ use crate::fronts;
 use crate::show;
 
 pub(crate) fn parts() {
-    of_two(b"part of face 0 of 2", 21, 3, 4, 0);
-    of_two(b"part of face 1 of 2", 21, 3, 4, 1);
-    of_two(b"part of face 2 of 2", 21, 3, 4, 2);
-    part(b"part where they earn 1", 24, &[3; 1366], 0);
+    of_two(b"part of face 0 of 2", 28, 3, 4, 0);
+    of_two(b"part of face 1 of 2", 28, 3, 4, 1);
+    of_two(b"part of face 2 of 2", 28, 3, 4, 2);
+    part(b"part where they earn 1", 32, &[3; 1366], 0);
     refused();
 }
 
 fn refused() {
-    of_two(b"part where they earn 2", 24, 3, 4, 0);
-    of_two(b"part where they earn 3", 15, 3, 2, 0);
-    of_two(b"part where they earn 4", 21, 4, 3, 0);
-    part_of(b"part where they earn 5", &[4; 9], &[3], 0);
+    of_two(b"part where they earn 2", 32, 3, 4, 0);
+    of_two(b"part where they earn 3", 20, 3, 2, 0);
+    of_two(b"part where they earn 4", 28, 4, 3, 0);
+    part_of(b"part where they earn 5", &[4; 12], &[3], 0);
 }
 
 // Of two faces, over c corner numbers.
@@ -24,7 +24,7 @@ fn of_two(what: &[u8], c: usize, first: u32, second: u32, k: usize) {
 
 // Of c corner numbers that are all 0.
 fn part(what: &[u8], c: usize, sizes: &[u32], k: usize) {
-    let corners = [0; 24];
+    let corners = [0; 32];
     part_of(what, fronts::numbers(&corners, c), sizes, k);
 }
 

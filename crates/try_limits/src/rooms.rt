@@ -7,16 +7,16 @@ use unused::Compacted;
 
 // Compaction: the number, and the counts of positions, texture points and normals.
 pub(crate) fn compaction_rooms() {
-    compacted(b"9 compaction with its room", 9, 18, 4, 6);
-    compacted(b"9 compaction, corners short", 8, 18, 4, 6);
-    compacted(b"9 compaction, positions short", 9, 17, 4, 6);
-    compacted(b"9 compaction, texture points short", 9, 18, 3, 6);
-    compacted(b"9 compaction, normals short", 9, 18, 4, 5);
+    compacted(b"9 compaction with its room", 12, 18, 4, 6);
+    compacted(b"9 compaction, corners short", 11, 18, 4, 6);
+    compacted(b"9 compaction, positions short", 12, 17, 4, 6);
+    compacted(b"9 compaction, texture points short", 12, 18, 3, 6);
+    compacted(b"9 compaction, normals short", 12, 18, 4, 5);
 }
 
 // With room for so many numbers of each list.
 fn compacted(what: &[u8], c: usize, p: usize, t: usize, n: usize) {
-    let mut corners = [0; 9];
+    let mut corners = [0; 12];
     let mut positions = [0.0; 18];
     let r = lend_entries(
         fronts::lent_numbers(&mut corners, c),
@@ -49,7 +49,7 @@ fn compact(c: &mut [u32], p: &mut [f64], t: &mut [f64], n: &mut [f64]) -> Compac
     let many = [0.0; 18];
     let textures = fronts::floats(&many, 4);
     let normals = fronts::floats(&many, 6);
-    let corners = [5, 1, MISSING, 2, MISSING, 1, 4, 1, 1];
+    let corners = [5, 1, MISSING, 7, 2, MISSING, 1, 0, 4, 1, 1, MISSING];
     compaction::remove_unused_attrs(&many, textures, normals, &corners, &[3], c, p, t, n)
 }
 

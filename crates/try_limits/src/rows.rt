@@ -26,9 +26,9 @@ fn too_many_coordinates() {
 }
 
 fn too_many_corners() {
-    full(b"1 corner numbers 12288, sizes 1365", 12288, 1365);
-    full(b"1 corner numbers 12289", 12289, 1365);
-    full(b"1 sizes 1366", 12288, 1366);
+    full(b"1 corner numbers 16384, sizes 1365", 16384, 1365);
+    full(b"1 corner numbers 16385", 16385, 1365);
+    full(b"1 sizes 1366", 16384, 1366);
 }
 
 // 2: a list's length is no multiple of its width, or the sizes don't add up to the corners.
@@ -43,37 +43,37 @@ fn no_whole_entries() {
 }
 
 fn no_sum() {
-    face(b"2 size 3 over 9 corner numbers", 3, 9);
-    face(b"2 size 3 over 10 corner numbers", 3, 10);
     face(b"2 size 3 over 12 corner numbers", 3, 12);
-    face(b"2 size 4 over 9 corner numbers", 4, 9);
-    full(b"2 no size over 9 corner numbers", 9, 0);
+    face(b"2 size 3 over 13 corner numbers", 3, 13);
+    face(b"2 size 3 over 16 corner numbers", 3, 16);
+    face(b"2 size 4 over 12 corner numbers", 4, 12);
+    full(b"2 no size over 12 corner numbers", 12, 0);
     two(
-        b"2 sizes 4294967295 5 over 12 corner numbers",
+        b"2 sizes 4294967295 5 over 16 corner numbers",
         4294967295,
         5,
-        12,
+        16,
     );
 }
 
 // 3: a face size lies outside 3 to 300. 32 and 33 are apart only in a panel file.
 fn sizes_outside() {
-    face(b"3 size 2", 2, 6);
-    face(b"3 size 3", 3, 9);
-    face(b"3 size 32", 32, 96);
-    face(b"3 size 33", 33, 99);
-    face(b"3 size 299", 299, 897);
-    face(b"3 size 300", 300, 900);
-    face(b"3 size 301", 301, 903);
+    face(b"3 size 2", 2, 8);
+    face(b"3 size 3", 3, 12);
+    face(b"3 size 32", 32, 128);
+    face(b"3 size 33", 33, 132);
+    face(b"3 size 299", 299, 1196);
+    face(b"3 size 300", 300, 1200);
+    face(b"3 size 301", 301, 1204);
 }
 
 // 4: sizes aren't grouped: triangles first, then quadrangles, then larger faces.
 fn sizes_ungrouped() {
-    faces(b"4 sizes 3 4 5", 36, &[3, 4, 5]);
-    two(b"4 sizes 6 5", 6, 5, 33);
-    two(b"4 sizes 4 3", 4, 3, 21);
-    two(b"4 sizes 5 4", 5, 4, 27);
-    two(b"4 sizes 5 3", 5, 3, 24);
+    faces(b"4 sizes 3 4 5", 48, &[3, 4, 5]);
+    two(b"4 sizes 6 5", 6, 5, 44);
+    two(b"4 sizes 4 3", 4, 3, 28);
+    two(b"4 sizes 5 4", 5, 4, 36);
+    two(b"4 sizes 5 3", 5, 3, 32);
 }
 
 // 5: a position index, or a texture or normal index that isn't missing, is not below its list's count: 4, 3 and 2 here.
@@ -98,11 +98,14 @@ fn no_position() {
         MISSING,
         MISSING,
         0,
-        MISSING,
-        MISSING,
         0,
         MISSING,
         MISSING,
+        0,
+        0,
+        MISSING,
+        MISSING,
+        0,
     ];
     let number = mesh::number(empty, empty, empty, &corners, &[3]);
     show::one(b"5 position 0 of 0", number as u64);
@@ -111,16 +114,16 @@ fn no_position() {
 // Lists that earn two numbers answer the lower. Index 1 is beyond each list.
 fn rows_in_order() {
     coordinates(b"1 before 2, position numbers 6145", 6145, 0, 0);
-    let corners = [1; 912];
+    let corners = [1; 1216];
     earned(
-        b"2 before 3, size 2 over 9 corner numbers",
-        fronts::numbers(&corners, 9),
+        b"2 before 3, size 2 over 12 corner numbers",
+        fronts::numbers(&corners, 12),
         &[2],
     );
     earned(b"3 before 4, sizes 301 3", &corners, &[301, 3]);
     earned(
         b"4 before 5, sizes 4 3",
-        fronts::numbers(&corners, 21),
+        fronts::numbers(&corners, 28),
         &[4, 3],
     );
 }
@@ -157,7 +160,7 @@ fn two(what: &[u8], first: u32, second: u32, c: usize) {
 
 // c corner numbers that are all 0.
 fn faces(what: &[u8], c: usize, sizes: &[u32]) {
-    let corners = [0; 12289];
+    let corners = [0; 16385];
     earned(what, fronts::numbers(&corners, c), sizes);
 }
 
@@ -168,11 +171,11 @@ fn earned(what: &[u8], corners: &[u32], sizes: &[u32]) {
     show::one(what, number as u64);
 }
 
-// A triangle whose last corner has these indices, over 4 positions, 3 texture points and 2 normals.
+// A triangle whose last corner has these indices, over 4 positions, 3 texture points and 2 normals. Two corners have a mark, which is no index.
 fn corner(what: &[u8], position: u32, texture: u32, normal: u32) {
     let many = [0.0; 12];
     let six = fronts::floats(&many, 6);
-    let corners = [0, 0, 0, 1, 1, 1, position, texture, normal];
+    let corners = [0, 0, 0, 0, 1, 1, 1, 4, position, texture, normal, MISSING];
     let number = mesh::number(&many, six, six, &corners, &[3]);
     show::one(what, number as u64);
 }

@@ -6,16 +6,19 @@ use crate::cases;
 use crate::cases::Outcome;
 use crate::lent;
 use crate::list;
+use merging::Merged;
 
 // The calls, by the kind of their records.
 pub const COMPACTION: u32 = 3;
 
 pub const MERGING: u32 = 5;
 
+pub const BY_CELL: u32 = 19;
+
 // How many counts each of them answers.
 const COUNTS: usize = 3;
 
-// Asks the call of a record of this kind; any other kind than the first is merging.
+// Asks the call of a record of this kind; any other kind than the first is merging, by one engine or the other.
 pub(crate) fn ask(
     list: &[u8],
     kind: u32,
@@ -29,7 +32,7 @@ pub(crate) fn ask(
     if kind == COMPACTION {
         return compaction(list, at, positions, textures, normals, corners, sizes);
     }
-    merging(list, at, positions, textures, normals, corners, sizes)
+    merging(list, kind, at, positions, textures, normals, corners, sizes)
 }
 
 // Compaction. It lends corners, positions, texture points, normals.
@@ -73,9 +76,10 @@ fn compaction(
     lent::hold_floats(with_t, &n, list)
 }
 
-// Merging. It lends corners.
+// Merging. It lends corners. Both engines are asked the same and must answer the same.
 fn merging(
     list: &[u8],
+    kind: u32,
     at: usize,
     positions: &[f64],
     textures: &[f64],
@@ -86,7 +90,8 @@ fn merging(
     let room = lent::rooms_of_words(list, at, COUNTS);
     let tolerance = list::float(list, at);
     let mut c = [0u32; cases::ROOM];
-    let r = merging::put_together_same_attrs(
+    let r = merge(
+        kind,
         positions,
         textures,
         normals,
@@ -105,4 +110,37 @@ fn merging(
         r.normals,
     );
     lent::hold(said, &c, list)
+}
+
+// The call itself: any other kind than that of the engine by cell is the plain one.
+fn merge(
+    kind: u32,
+    positions: &[f64],
+    textures: &[f64],
+    normals: &[f64],
+    corners: &[u32],
+    sizes: &[u32],
+    tolerance: f64,
+    newcorners: &mut [u32],
+) -> Merged {
+    if kind == BY_CELL {
+        return merging::put_together_by_cell(
+            positions,
+            textures,
+            normals,
+            corners,
+            sizes,
+            tolerance,
+            newcorners,
+        );
+    }
+    merging::put_together_same_attrs(
+        positions,
+        textures,
+        normals,
+        corners,
+        sizes,
+        tolerance,
+        newcorners,
+    )
 }

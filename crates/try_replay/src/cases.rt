@@ -6,7 +6,7 @@
 use crate::list;
 
 // More than any room of the list for u32 or f64.
-pub const ROOM: usize = 12304;
+pub const ROOM: usize = 16400;
 
 // What a case is about: where the words of its mesh or of its panel file begin, and where those of the cosines do.
 pub struct About {

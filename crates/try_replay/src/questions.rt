@@ -81,7 +81,7 @@ fn read_corners(
     textures: &[f64],
     normals: &[f64],
 ) -> Outcome {
-    let mut all = [0u32; 12304];
+    let mut all = [0u32; 16400];
     let corners = list::words(list, place, &mut all);
     let next = list::after_words(list, place);
     read_sizes(list, next, case, positions, textures, normals, corners)
@@ -154,6 +154,9 @@ fn ask_of(
 // Whether a call goes by the attributes of its mesh.
 fn is_of_attributes(kind: u32) -> bool {
     if kind == attributes::COMPACTION {
+        return true;
+    }
+    if kind == attributes::BY_CELL {
         return true;
     }
     kind == attributes::MERGING

@@ -9,9 +9,9 @@ use reading::MeshRead;
 pub const SCANNING: u32 = 18;
 
 // The stated rooms: the full limits. No room of the list is larger.
-const FLOATS: usize = 6144;
+const FLOATS: usize = mesh::POINT_NUMBERS;
 
-const CORNERS: usize = 12288;
+const CORNERS: usize = mesh::CORNER_NUMBERS;
 
 pub(crate) fn ask(list: &[u8], kind: u32, at: usize, file: &[u8]) -> Outcome {
     let room = lent::rooms_of_reading(list, at);

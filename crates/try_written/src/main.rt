@@ -1,6 +1,6 @@
-// Tries the writer on the longest file that a mesh can make, every list at its limit, with exactly its room and with one byte less, also
-// with a last coordinate that no corner uses and that is not finite, and on the largest faces that there are; and the reader on what was
-// written; and prints what each answers.
+// Tries the writer on the longest file that a mesh can make, every list at its limit and every face with a mark, with exactly its room and with one
+// byte less, also with a last coordinate that no corner uses and that is not finite, and on the largest faces that there are, without marks and with
+// them; and the reader on what was written; and prints what each answers.
 const LESS: usize = saving::FILE - 1;
 
 const LAST_COORDINATE: usize = mesh::POINT_NUMBERS - 1;
@@ -32,28 +32,35 @@ fn main() {
     let written = write(0.5, 0.5, &mut file);
     show(b"with its room", written, untouched(&file) as u64);
     read(&file);
-    let wide = write_largest(&mut file);
-    show(b"faces of 300 corners", wide, untouched(&file) as u64);
-    read(front(&file, wide.length));
+    largest(b"faces of 300 corners", 0, &mut file);
+    largest(b"marked faces of 300 corners", 1, &mut file);
 }
 
-// 1,364 triangles and a quadrangle are 4,096 corners. The last coordinate of positions and normals is x, that of texture points u.
+// The largest faces, written and read.
+fn largest(what: &[u8], number: u32, file: &mut [u8]) {
+    let wide = write_largest(number, file);
+    show(what, wide, untouched(file) as u64);
+    read(front(file, wide.length));
+}
+
+// 1,364 triangles and a quadrangle are 4,096 corners, each of which has a mark. The last coordinate of positions and normals is x, that of texture
+// points u.
 fn write(x: f64, u: f64, out: &mut [u8]) -> saving::Saved {
     let mut points = [0.5; mesh::POINT_NUMBERS];
     points[LAST_COORDINATE] = x;
     let mut textures = [0.5; mesh::TEXEL_NUMBERS];
     textures[LAST_TEXTURE] = u;
-    let corners = [0u32; mesh::CORNER_NUMBERS];
+    let corners = [1u32; mesh::CORNER_NUMBERS];
     let mut sizes = [3u32; mesh::FACES];
     sizes[LAST] = 4;
     saving::write_panel(&points, &textures, &points, &corners, &sizes, out)
 }
 
-// The same corners in as few faces as there can be, each of kind 5.
-fn write_largest(out: &mut [u8]) -> saving::Saved {
+// As many corners in as few faces as there can be; each number of a corner is this one, its mark too: kind 5, or 6 where it is not 0.
+fn write_largest(number: u32, out: &mut [u8]) -> saving::Saved {
     let points = [0.5; mesh::POINT_NUMBERS];
     let textures = [0.5; mesh::TEXEL_NUMBERS];
-    let corners = [0u32; mesh::CORNER_NUMBERS];
+    let corners = [number; mesh::CORNER_NUMBERS];
     let mut sizes = [mesh::RING as u32; FEWEST];
     sizes[LAST_OF_FEWEST] = REST;
     saving::write_panel(&points, &textures, &points, &corners, &sizes, out)

@@ -5,7 +5,7 @@ use Prim.Native.Nat.{ℕ, _<_}
 use lib.ListN.{length, getD}
 use Rattle.lists.specs.Lists.{has, joined}
 use Rattle.lists.proofs.Mapping.{map-same}
-use Rattle.mesh.specs.Mesh.{Mesh, meshOf, position, texture, normal, cornersIn}
+use Rattle.mesh.specs.Mesh.{Mesh, meshOf, position, texture, normal, mark, cornersIn}
 use Rattle.mesh.specs.Table.{meshNumber}
 use Rattle.unused.specs.Compaction.{usedPositions, usedTextures, usedNormals, renumbered, compacted}
 use Rattle.unused.specs.Promises.{EveryPositionUsed, EveryTextureUsed, EveryNormalUsed, SecondTimeSame}
@@ -47,7 +47,7 @@ module _ (m : Mesh) (z : meshNumber m ≡ 0) where
       (its-number texture cs k h) in
       let n = number-twice (pointed-normals m z) (map normal (cornersIn (compacted m .corners))) (normals-renumbered m) (normal c)
       (its-number normal cs k h) in
-      λ i. p i ∷ t i ∷ n i ∷ []
+      λ i. p i ∷ t i ∷ n i ∷ mark c ∷ []
 
   corners-twice : map (renumbered (compacted m)) (cornersIn (compacted m .corners)) ≡ map (renumbered m) (cornersIn (m .corners))
   corners-twice =

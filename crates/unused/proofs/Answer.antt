@@ -10,6 +10,7 @@ use borrow.Author.Tests.{lt-ltb, le-ltb}
 use Rattle.mesh.specs.Limits.{pointWidth, texelWidth}
 use Rattle.mesh.specs.Mesh.{Mesh, positionCount, textureCount, normalCount}
 use Rattle.mesh.specs.Table.{meshNumber, when, short}
+use Rattle.mesh.proofs.Accepted.{accepted}
 use Rattle.mesh.proofs.After.{after-refused, after-done}
 use Rattle.mesh.proofs.Numbers.{first-is, first-on, row-given}
 use Rattle.unused.specs.declared.Compacted.{Compacted}
@@ -78,6 +79,7 @@ ready m before z a b c d = record {
   positions = pointed-positions m z;
   textures = pointed-textures m z;
   normals = pointed-normals m z;
+  whole = accepted m z .whole .corners;
   corner-room = a;
   position-room = b;
   texture-room = c;

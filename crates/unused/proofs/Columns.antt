@@ -10,10 +10,11 @@ use lib.Ieee.{Float}
 use Rattle.lists.specs.Lists.{every, has, joined}
 use Rattle.lists.proofs.Bools.{and-both}
 use Rattle.lists.proofs.Members.{in-head, in-tail}
-use Rattle.mesh.specs.Mesh.{Mesh, Corner, Ring, position, texture, normal, missing, cornersIn}
+use Rattle.mesh.specs.Mesh.{Mesh, Corner, Ring, position, texture, normal, mark, missing, cornersIn}
 use Rattle.mesh.proofs.Corners.{isCorner, cornersIn-joined}
 use Rattle.mesh.proofs.Faces.{isRing}
 use Rattle.unused.specs.Compaction.{usesOf, renumber, entries, usedPositions, usedTextures, usedNormals, renumbered, compacted}
+use Rattle.unused.specs.Promises.{MarkKept, MarksKept}
 use Rattle.unused.specs.Working.{column, Pointed}
 use Rattle.unused.proofs.Uses.{uses-few, uses-below}
 use Rattle.unused.proofs.Entries.{entries-again}
@@ -88,6 +89,15 @@ module _ (m : Mesh) where
       ap (map normal) corners-compacted
       ∙ map-map normal (renumbered m) (cornersIn (m .corners))
       ∙ sym (map-map (renumber (usedNormals m)) normal (cornersIn (m .corners)))
+
+  -- and the marks are those that were given
+  pub mark-kept : MarkKept m
+  unfolding renumbered
+  mark-kept c = refl
+
+  pub marks-kept : MarksKept m
+  unfolding renumbered
+  marks-kept = ap (map mark) corners-compacted ∙ map-map mark (renumbered m) (cornersIn (m .corners))
 
 -- what a column has of a corner stands in the column
 pub its-number : (f : Corner → ℕ) (l : Ring) (k : ℕ) → k < length l → has (f (getD l k [])) (map f l) ≡ true

@@ -10,7 +10,7 @@ use lib.Ieee.{Float}
 use Rattle.lists.specs.Lists.{only, joined, each}
 use Rattle.lists.specs.FirstUses.{firstUses, place}
 use Rattle.mesh.specs.Limits.{pointWidth, texelWidth}
-use Rattle.mesh.specs.Mesh.{Mesh, meshOf, Corner, position, texture, normal, missing, cornersIn, positionCount, textureCount, normalCount}
+use Rattle.mesh.specs.Mesh.{Mesh, meshOf, Corner, position, texture, normal, mark, missing, cornersIn, positionCount, textureCount, normalCount}
 use Rattle.mesh.specs.Table.{meshNumber, firstOf, when, lent, short, after}
 use Rattle.unused.specs.declared.Compacted.{Compacted}
 
@@ -44,12 +44,13 @@ usedTextures m = usesOf (map texture (cornersIn (m .corners)))
 unfoldable pub usedNormals : Mesh → List ℕ
 usedNormals m = usesOf (map normal (cornersIn (m .corners)))
 
--- a corner, each of its numbers renumbered by its own column
+-- a corner, each of its indices renumbered by its own column; the mark is no index and stays with its corner
 unfoldable pub renumbered : Mesh → Corner → Corner
 renumbered m c =
     renumber (usedPositions m) (position c)
     ∷ renumber (usedTextures m) (texture c)
     ∷ renumber (usedNormals m) (normal c)
+    ∷ mark c
     ∷ []
 
 -- the mesh that compaction gives; the sizes don't change

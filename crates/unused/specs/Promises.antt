@@ -4,7 +4,7 @@ use mathlib.Core.Bool.{true}
 use mathlib.Core.List.{map}
 use Prim.Native.Nat.{ℕ, _≤_, _<_}
 use Rattle.lists.specs.Lists.{has}
-use Rattle.mesh.specs.Mesh.{Mesh, position, texture, normal, cornersIn, faces, positionCount, textureCount, normalCount}
+use Rattle.mesh.specs.Mesh.{Mesh, Corner, position, texture, normal, mark, cornersIn, faces, positionCount, textureCount, normalCount}
 use Rattle.mesh.specs.Table.{meshNumber}
 use Rattle.unused.specs.Compaction.{renumbered, compacted}
 
@@ -35,6 +35,13 @@ NormalsFewer m = normalCount (compacted m) ≤ normalCount m
 -- the faces are the same faces under the new numbers
 abbrev pub SameFaces : Mesh → Type 0
 SameFaces m = faces (compacted m) ≡ map (map (renumbered m)) (faces m)
+
+-- and each corner has its mark yet: of a corner by itself, and of all corners in their order
+abbrev pub MarkKept : Mesh → Type 0
+MarkKept m = (c : Corner) → mark (renumbered m c) ≡ mark c
+
+abbrev pub MarksKept : Mesh → Type 0
+MarksKept m = map mark (cornersIn (compacted m .corners)) ≡ map mark (cornersIn (m .corners))
 
 -- a second time changes nothing
 abbrev pub SecondTimeSame : Mesh → Type 0

@@ -1,5 +1,5 @@
 -- What the functions of the crates oneindex and compaction hand to one another; a caller needs none of it. Assumes nothing.
-use Prim.Native.Nat.{ℕ, _*_, _≤_, _<_}
+use Prim.Native.Nat.{ℕ, _*_, _%_, _≤_, _<_}
 use mathlib.Core.Path.{_≡_}
 use mathlib.Core.Bool.{false}
 use mathlib.Core.List.{List, [], _∷_, map}
@@ -8,7 +8,7 @@ use lib.Seq.{sets}
 use lib.Ieee.{Float}
 use Rattle.lists.specs.Lists.{some, joined}
 use Rattle.mesh.specs.Limits.{pointWidth, texelWidth, width, entryLimit}
-use Rattle.mesh.specs.Mesh.{Corner, cornersIn}
+use Rattle.mesh.specs.Mesh.{Corner, mark, cornersIn}
 use Rattle.mesh.specs.Table.{beyondUnlessMissing}
 use Rattle.unused.specs.Compaction.{usesOf, renumber, entries, Result}
 use Rattle.unused.specs.declared.Compacted.{Compacted}
@@ -27,12 +27,13 @@ pub record Pointed (attrs : List Float) (w : ℕ) (cs : List ℕ) (q : ℕ) : Ty
   pub few : count ≤ entryLimit
   pub within : some (beyondUnlessMissing count) (column q cs) ≡ false
 
--- a corner with its three numbers renumbered, each by its column
+-- a corner with its three indices renumbered, each by its column, and its mark
 abbrev pub newCorner : List ℕ → Corner → Corner
 newCorner cs c =
     renumber (usesOf (column 0 cs)) (getD c 0 0)
     ∷ renumber (usesOf (column 1 cs)) (getD c 1 0)
     ∷ renumber (usesOf (column 2 cs)) (getD c 2 0)
+    ∷ mark c
     ∷ []
 
 -- what the loop over the corners rests on
@@ -40,6 +41,7 @@ pub record Ready (p t n : List Float) (cs : List ℕ) (before : Result) : Type 0
   pub positions : Pointed p pointWidth cs 0
   pub textures : Pointed t texelWidth cs 1
   pub normals : Pointed n pointWidth cs 2
+  pub whole : length cs % width ≡ 0
   pub corner-room : length cs ≤ length (before .corners)
   pub position-room : length p ≤ length (before .positions)
   pub texture-room : length t ≤ length (before .textures)

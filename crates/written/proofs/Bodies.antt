@@ -1,17 +1,18 @@
 -- A written body is read back, in the middle of a file: coordinates, points, and the corners of a face. Assumes nothing.
 use mathlib.Core.Path.{_≡_, refl, sym, ap, ap₂, _∙_}
-use mathlib.Core.Bool.{true}
+use mathlib.Core.Bool.{Bool, true, false}
 use mathlib.Core.List.{List, [], _∷_, _++_, append-assoc}
-use Prim.Native.Nat.{ℕ, suc, _+_, _*_, _≤_, _<_}
+use Prim.Native.Nat.{ℕ, suc, _+_, _≤_, _<_}
 use native.Mathlib.Nat.{mod-eq-of-lt}
 use native.Mathlib.Omega.{arith}
 use lib.ListN.{length, drop}
-use lib.Dec.{T}
+use lib.Dec.{T, eqb}
 use lib.Ieee.{Float, binary64, fits, toBits, ofBits}
 use lib.Ieee.Bits.{ofBits-toBits, toBits-ofBits, toBits-lt}
-use borrow.Author.Tests.{ltb-true, eqb-true}
-use Rattle.lists.specs.Lists.{every, each}
-use Rattle.lists.proofs.Bools.{and-left, and-right}
+use borrow.Author.Tests.{ltb-true, eqb-true, not-false}
+use Rattle.lists.specs.Lists.{every, some, each}
+use Rattle.lists.proofs.Bools.{and-left, and-right, or-false-left, or-false-right}
+use Rattle.lists.proofs.Parts.{every-take}
 use Rattle.little.specs.Little.{Bytes, half, word, long, longValues, wordBytes, longBytes}
 use Rattle.little.proofs.Written.{behind, length-word, word-written, long-written, long-again}
 use Rattle.mesh.specs.Limits.{width}
@@ -22,9 +23,10 @@ use Rattle.floating.specs.declared.Texel.{Texel}
 use Rattle.floating.specs.Limits.{finite}
 use Rattle.floating.proofs.Finite.{no-nan}
 use Rattle.floating.specs.Points.{point, texel, coordinates}
-use Rattle.records.specs.Records.{coordinate, pointFrom, texelFrom, ringFrom}
+use Rattle.records.specs.Lengths.{cornerLength, cornerSize}
+use Rattle.records.specs.Records.{coordinate, pointFrom, texelFrom, cornerFrom, ringFrom, hasMark}
 use Rattle.written.specs.Pieces.{coordinateBytes, cornerBytes, pair}
-use Rattle.written.proofs.Lengths.{length-coordinate, length-words}
+use Rattle.written.proofs.Lengths.{length-coordinate, length-corner}
 use Rattle.written.specs.Promises.{CoordinateReopens}
 use Rattle.written.specs.Said.{isDouble, isCoordinate, isWord}
 
@@ -100,35 +102,56 @@ word-back : (s : List ℕ) (i x : ℕ) (xs r : List ℕ) → every isWord (x ∷
 word-back s i x xs r w h =
     word-written s i x (each wordBytes xs ++ r) (first-stands wordBytes s i x xs r h) ∙ mod-eq-of-lt (ltb-true x 4294967296 (and-left (isWord x) (every isWord xs) w))
 
-corner-back :
-    (s : List ℕ) (i : ℕ) (c : Corner) (r : List ℕ) → length c ≡ 3 → every isWord c ≡ true → drop i s ≡ each wordBytes c ++ r
-    → (word s i ∷ word s (i + 4) ∷ word s (i + 8) ∷ []) ≡ c
-corner-back s i [] r l w h = absurd (let z : _≡_ {A = ℕ} 0 3 = l in omega arith)
-corner-back s i (a ∷ []) r l w h = absurd (let z : _≡_ {A = ℕ} 1 3 = l in omega arith)
-corner-back s i (a ∷ b ∷ []) r l w h = absurd (let z : _≡_ {A = ℕ} 2 3 = l in omega arith)
-corner-back s i (a ∷ b ∷ c ∷ x ∷ cs) r l w h = absurd (let z : suc (suc (suc (suc (length cs)))) ≡ 3 = l in omega arith)
-corner-back s i (a ∷ b ∷ c ∷ []) r l w h =
-    let w' = and-right (isWord a) (every isWord (b ∷ c ∷ [])) w in
-    let w'' = and-right (isWord b) (every isWord (c ∷ [])) w' in
-    let h' = rest-stands wordBytes s i a (b ∷ c ∷ []) r h 4 (i + 4) (length-word a) refl in
-    let h'' = rest-stands wordBytes s (i + 4) b (c ∷ []) r h' 4 (i + 8) (length-word b) (omega arith) in
-    let x : word s i ≡ a = word-back s i a (b ∷ c ∷ []) r w h in
-    let y : word s (i + 4) ≡ b = word-back s (i + 4) b (c ∷ []) r w' h' in
-    let z : word s (i + 8) ≡ c = word-back s (i + 8) c [] r w'' h'' in
-    rw (x, y, z)
+-- the first three numbers, and what stands behind them
+module _ (s : List ℕ) (i a b c : ℕ) (xs r : List ℕ) (w : every isWord (a ∷ b ∷ c ∷ xs) ≡ true) (h : drop i s ≡ each wordBytes (a ∷ b ∷ c ∷ xs) ++ r) where
+  behind-two : every isWord (c ∷ xs) ≡ true
+  behind-two = and-right (isWord b) (every isWord (c ∷ xs)) (and-right (isWord a) (every isWord (b ∷ c ∷ xs)) w)
 
-pub length-corner : (c : Corner) → isCorner c ≡ true → length (cornerBytes c) ≡ 12
+  second-stands : drop (i + 4) s ≡ each wordBytes (b ∷ c ∷ xs) ++ r
+  second-stands = rest-stands wordBytes s i a (b ∷ c ∷ xs) r h 4 (i + 4) (length-word a) refl
+
+  third-stands : drop (i + 8) s ≡ each wordBytes (c ∷ xs) ++ r
+  third-stands = rest-stands wordBytes s (i + 4) b (c ∷ xs) r second-stands 4 (i + 8) (length-word b) (omega arith)
+
+  three-back : (word s i ≡ a) × ((word s (i + 4) ≡ b) × (word s (i + 8) ≡ c))
+  three-back = (
+    word-back s i a (b ∷ c ∷ xs) r w h,
+    (word-back s (i + 4) b (c ∷ xs) r (and-right (isWord a) (every isWord (b ∷ c ∷ xs)) w) second-stands, word-back s (i + 8) c xs r behind-two third-stands),
+  )
+
+  others-stand : drop (i + cornerLength) s ≡ each wordBytes xs ++ r
+  others-stand = rest-stands wordBytes s (i + 8) c xs r third-stands 4 (i + cornerLength) (length-word c) (omega arith)
+
+-- a mark that is not said is 0
+corner-back :
+    (m : Bool) (s : List ℕ) (i : ℕ) (c : Corner) (r : List ℕ) → length c ≡ width → every isWord c ≡ true → (m ≡ false → hasMark c ≡ false)
+    → drop i s ≡ cornerBytes m c ++ r → cornerFrom m s i ≡ c
 unfolding cornerBytes
-length-corner c h = length-words c ∙ ap (λ (n : ℕ). 4 * n) (eqb-true (length c) width h)
+corner-back m s i [] r l w u h = absurd (let z : _≡_ {A = ℕ} 0 4 = l in omega arith)
+corner-back m s i (a ∷ []) r l w u h = absurd (let z : _≡_ {A = ℕ} 1 4 = l in omega arith)
+corner-back m s i (a ∷ b ∷ []) r l w u h = absurd (let z : _≡_ {A = ℕ} 2 4 = l in omega arith)
+corner-back m s i (a ∷ b ∷ c ∷ []) r l w u h = absurd (let z : _≡_ {A = ℕ} 3 4 = l in omega arith)
+corner-back m s i (a ∷ b ∷ c ∷ d ∷ e ∷ cs) r l w u h = absurd (let z : suc (suc (suc (suc (suc (length cs))))) ≡ 4 = l in omega arith)
+corner-back true s i (a ∷ b ∷ c ∷ d ∷ []) r l w u h =
+    let t = three-back s i a b c (d ∷ []) r w h in
+    let v : every isWord (d ∷ []) ≡ true = and-right (isWord c) (every isWord (d ∷ [])) (behind-two s i a b c (d ∷ []) r w h) in
+    let z : word s (i + cornerLength) ≡ d = word-back s (i + cornerLength) d [] r v (others-stand s i a b c (d ∷ []) r w h) in
+    rw (t .0, t .1 .0, t .1 .1, z)
+corner-back false s i (a ∷ b ∷ c ∷ d ∷ []) r l w u h =
+    let t = three-back s i a b c [] r (every-take isWord 3 (a ∷ b ∷ c ∷ d ∷ []) w) h in
+    let z : d ≡ 0 = eqb-true d 0 (not-false (eqb d 0) (u refl)) in
+    rw (t .0, t .1 .0, t .1 .1, z)
 
 pub ring-back :
-    (s : List ℕ) (i : ℕ) (f : Ring) (r : List ℕ) → every isCorner f ≡ true → every (every isWord) f ≡ true → drop i s ≡ each cornerBytes f ++ r
-    → ringFrom s (length f) i ≡ f
-unfolding cornerBytes
-ring-back s i [] r l w h = refl
-ring-back s i (c ∷ f) r l w h =
+    (m : Bool) (s : List ℕ) (i : ℕ) (f : Ring) (r : List ℕ) → every isCorner f ≡ true → every (every isWord) f ≡ true
+    → (m ≡ false → some hasMark f ≡ false) → drop i s ≡ each (cornerBytes m) f ++ r
+    → ringFrom m s (length f) i ≡ f
+ring-back m s i [] r l w u h = refl
+ring-back m s i (c ∷ f) r l w u h =
     let lc = and-left (isCorner c) (every isCorner f) l in
     ap₂ (λ (x : Corner) (y : Ring). x ∷ y)
-    (corner-back s i c (each cornerBytes f ++ r) (eqb-true (length c) width lc) (and-left (every isWord c) (every (every isWord) f) w) (first-stands cornerBytes s i c f r h))
-    (ring-back s (i + 12) f r (and-right (isCorner c) (every isCorner f) l) (and-right (every isWord c) (every (every isWord) f) w)
-    (rest-stands cornerBytes s i c f r h 12 (i + 12) (length-corner c lc) refl))
+    (corner-back m s i c (each (cornerBytes m) f ++ r) (eqb-true (length c) width lc) (and-left (every isWord c) (every (every isWord) f) w)
+    (λ e. or-false-left (hasMark c) (some hasMark f) (u e)) (first-stands (cornerBytes m) s i c f r h))
+    (ring-back m s (i + cornerSize m) f r (and-right (isCorner c) (every isCorner f) l) (and-right (every isWord c) (every (every isWord) f) w)
+    (λ e. or-false-right (hasMark c) (some hasMark f) (u e))
+    (rest-stands (cornerBytes m) s i c f r h (cornerSize m) (i + cornerSize m) (length-corner m c lc) refl))

@@ -1,28 +1,30 @@
 -- The file of a mesh in five parts, and how long they are. Assumes nothing.
 use mathlib.Core.Path.{_≡_, refl, sym, ap, ap₂, _∙_}
-use mathlib.Core.Bool.{Bool, true, false}
+use mathlib.Core.Bool.{true}
 use mathlib.Core.List.{List, [], _∷_, _++_, append-assoc, append-nil, map}
-use Prim.Native.Nat.{ℕ, zero, suc, _+_, _*_, _/_, _%_, _≤_, _<_}
+use Prim.Native.Nat.{ℕ, zero, suc, _+_, _*_, _/_, _≤_}
 use native.Mathlib.Nat.{mul-zero, mul-suc, add-comm}
 use native.Mathlib.Omega.{arith}
-use lib.ListN.{length, getD, take, drop, length-append, length-drop}
+use lib.ListN.{length, take, drop, length-append, length-drop}
 use lib.Seq.{length-take-le}
 use lib.Ieee.{Float}
-use borrow.Author.Tests.{ltb-true}
-use Rattle.lists.specs.Lists.{bump, count, each, sum}
+use Rattle.lists.specs.Lists.{every, each, sum}
+use Rattle.lists.proofs.Bools.{and-left, and-right}
 use Rattle.lists.proofs.Parts.{each-append}
 use Rattle.lists.proofs.Mapping.{each-map}
-use Rattle.mesh.specs.Limits.{width, leastRing}
-use Rattle.mesh.specs.Mesh.{Mesh, Ring, cornersIn, rings, faces}
+use Rattle.mesh.proofs.Faces.{isRing, rings-are, length-rings, sizes-back}
+use Rattle.mesh.specs.Mesh.{Mesh, Ring, rings, faces}
 use Rattle.mesh.proofs.Accepted.{Accepted, accepted}
 use Rattle.floating.specs.declared.Point.{Point}
 use Rattle.floating.specs.declared.Texel.{Texel}
 use Rattle.floating.specs.Points.{coordinates, pointsOf}
-use Rattle.written.specs.Pieces.{aPosition, aTexture, aNormal, aFace, theEnd, texelsOf, pair, piecesOf, wide, countLength}
-use Rattle.written.specs.Pieces.{coordinateBytes, headerOf, bodyOf, recordOf, fileOf, fileLength, fileLimit}
+use Rattle.written.specs.Pieces.{aPosition, aTexture, aNormal, aFace, theEnd, texelsOf, pair, piecesOf, withMarks, wide}
+use Rattle.records.specs.Lengths.{markedLength}
+use Rattle.records.proofs.Ringing.{size-most}
+use Rattle.written.specs.Pieces.{coordinateBytes, headerOf, bodyOf, recordOf, faceBytes, fileOf, fileLength, fileLimit}
 use Rattle.written.specs.Promises.{FileIsLong, FileFits}
 use Rattle.written.specs.Parts.{entryRecord, firstRows, faceRecord}
-use Rattle.written.proofs.Lengths.{length-header, length-coordinates, length-entry, length-face-record}
+use Rattle.written.proofs.Lengths.{length-header, length-coordinates, length-entry, count-few, length-face-record}
 
 -- ---- the records of a list of entries, by the points that they are and by their places in the list
 
@@ -120,34 +122,17 @@ entries-length w c kind (suc n) s e h =
     ∙ add-comm c (c * n)
     ∙ sym (mul-suc c n)
 
--- one more where the count has a second byte
-pub bump-more : (b : Bool) (n : ℕ) → 1 + bump b n ≡ countLength b + n
-bump-more false n = omega arith
-bump-more true n = omega arith
+faces-length : (fs : List Ring) → every isRing fs ≡ true → length (each faceRecord fs) ≡ sum (map faceBytes fs)
+faces-length [] h = refl
+faces-length (f ∷ fs) h =
+    length-append (faceRecord f) (each faceRecord fs)
+    ∙ ap₂ (λ (x y : ℕ). x + y) (length-face-record f (and-left (isRing f) (every isRing fs) h)) (faces-length fs (and-right (isRing f) (every isRing fs) h))
 
-faces-length : (s cs : List ℕ) → width * sum s ≡ length cs → length (each faceRecord (rings s cs)) ≡ 5 * length s + count wide s + 4 * length cs
-faces-length [] cs h = omega arith
-faces-length (n ∷ s) cs h =
-    let t = take (width * n) cs in
-    let a : length t ≡ width * n = length-take-le (width * n) cs (omega arith) in
-    let d : length (drop (width * n) cs) ≡ width * sum s = length-drop (width * n) cs ∙ omega arith in
-    let w : length t % width ≡ 0 = omega arith in
-    let k : length t / width ≡ n = omega arith in
-    let i = faces-length s (drop (width * n) cs) (sym d) in
-    let j : length (faceRecord (cornersIn t)) ≡ 4 + (countLength (wide n) + 4 * length t) =
-    length-face-record t w ∙ ap (λ (c : ℕ). 4 + (countLength (wide c) + 4 * length t)) k in
-    omega (arith, i, j, bump-more (wide n) (count wide s), length-append (faceRecord (cornersIn t)) (each faceRecord (rings s (drop (width * n) cs))))
-
--- a wide face has thirty corners more than the least, so that one byte more is no loss
-sizes-weigh : (s : List ℕ) → ((k : ℕ) → k < length s → leastRing ≤ getD s k 0) → leastRing * length s + 30 * count wide s ≤ sum s
-sizes-weigh [] h = omega arith
-sizes-weigh (n ∷ s) h = one (wide n) refl (h 0 (omega arith)) (sizes-weigh s (λ k l. h (suc k) (omega arith)))
-  where
-    one :
-        (b : Bool) → wide n ≡ b → leastRing ≤ n → leastRing * length s + 30 * count wide s ≤ sum s
-        → leastRing * suc (length s) + 30 * bump b (count wide s) ≤ n + sum s
-    one false e l g = omega arith
-    one true e l g = omega (arith, ltb-true _ n e)
+-- a face has at most six bytes before its corners, and sixteen for each
+pub faces-most : (fs : List Ring) → sum (map faceBytes fs) ≤ 6 * length fs + markedLength * sum (map length fs)
+unfolding faceBytes
+faces-most [] = omega arith
+faces-most (f ∷ fs) = omega (arith, faces-most fs, count-few (wide (withMarks f) (length f)), size-most (withMarks f) (length f))
 
 module _ (m : Mesh) (a : Accepted m) where
   length-P : length (P m) ≡ 28 * (length (m .positions) / 3)
@@ -173,11 +158,11 @@ module _ (m : Mesh) (a : Accepted m) where
       )
 
   pub file-length : length (fileOf m) ≡ fileLength m
-  unfolding fileLength
-  file-length = omega (arith, faces-length (m .sizes) (m .corners) (a .whole .adds), length-P, length-T, length-N, parts-length)
+  unfolding fileLength faces
+  file-length = omega (arith, faces-length (rings (m .sizes) (m .corners)) (rings-are (m .sizes) (m .corners)), length-P, length-T, length-N, parts-length)
 
   pub file-limit : fileLength m ≤ fileLimit
-  unfolding fileLength
+  unfolding fileLength faces
   file-limit =
       omega (
         arith,
@@ -186,7 +171,10 @@ module _ (m : Mesh) (a : Accepted m) where
         a .limits .normals,
         a .limits .corners,
         a .whole .adds,
-        sizes-weigh (m .sizes) (a .least),
+        a .limits .sizes,
+        faces-most (rings (m .sizes) (m .corners)),
+        length-rings (m .sizes) (m .corners),
+        ap sum (sizes-back (m .sizes) (m .corners) (omega (arith, a .whole .adds))),
       )
 
 pub file-is-long : FileIsLong

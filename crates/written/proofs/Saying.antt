@@ -164,21 +164,22 @@ small-index i count l f =
     (λ e. let z : i ≡ 4294967295 = eqb-true i missing e in omega arith)
     (λ e. let z : i < count = f (eqb-false i missing e) in omega arith)
 
-word-at : (m : Mesh) → Accepted m → (k r : ℕ) → k < length (m .corners) / width → r < width → getD (m .corners) (width * k + r) 0 < 4294967296
-word-at m a k zero l h =
+word-at : (m : Mesh) → Accepted m → DoubleMesh m → (k r : ℕ) → k < length (m .corners) / width → r < width → getD (m .corners) (width * k + r) 0 < 4294967296
+word-at m a d k zero l h =
     let f : Found m k = a .corner k l in
     let e : width * k + 0 ≡ width * k = omega arith in
     rw e (omega (arith, f .position, a .limits .positions))
-word-at m a k (suc zero) l h = small-index (getD (m .corners) (width * k + 1) 0) (length (m .textures) / 2) (omega (arith, a .limits .textures)) (a .corner k l .texture)
-word-at m a k (suc (suc zero)) l h = small-index (getD (m .corners) (width * k + 2) 0) (length (m .normals) / 3) (omega (arith, a .limits .normals)) (a .corner k l .normal)
-word-at m a k (suc (suc (suc r))) l h = absurd (omega arith)
+word-at m a d k (suc zero) l h = small-index (getD (m .corners) (width * k + 1) 0) (length (m .textures) / 2) (omega (arith, a .limits .textures)) (a .corner k l .texture)
+word-at m a d k (suc (suc zero)) l h = small-index (getD (m .corners) (width * k + 2) 0) (length (m .normals) / 3) (omega (arith, a .limits .normals)) (a .corner k l .normal)
+word-at m a d k (suc (suc (suc zero))) l h = omega (arith, d .marks k)
+word-at m a d k (suc (suc (suc (suc r)))) l h = absurd (omega arith)
 
-words : (m : Mesh) → Accepted m → every isWord (m .corners) ≡ true
-words m a =
+words : (m : Mesh) → Accepted m → DoubleMesh m → every isWord (m .corners) ≡ true
+words m a d =
     every-all isWord 0 (m .corners)
     (λ i l.
     let e : i ≡ width * (i / width) + i % width = omega arith in
-    let z : getD (m .corners) (width * (i / width) + i % width) 0 < 4294967296 = word-at m a (i / width) (i % width) (omega (arith, a .whole .corners)) (omega arith) in
+    let z : getD (m .corners) (width * (i / width) + i % width) 0 < 4294967296 = word-at m a d (i / width) (i % width) (omega (arith, a .whole .corners)) (omega arith) in
     ap (λ (j : ℕ). isWord (getD (m .corners) j 0)) e ∙ lt-ltb (getD (m .corners) (width * (i / width) + i % width) 0) 4294967296 z)
 
 word-first : (n : ℕ) (cs : List ℕ) → every isWord cs ≡ true → every (every isWord) (firstCorners n cs) ≡ true
@@ -210,9 +211,9 @@ pub faces-are : (m : Mesh) → every isRing (faces m) ≡ true
 unfolding faces
 faces-are m = rings-are (m .sizes) (m .corners)
 
-faces-words : (m : Mesh) → Accepted m → every (every (every isWord)) (faces m) ≡ true
+faces-words : (m : Mesh) → Accepted m → DoubleMesh m → every (every (every isWord)) (faces m) ≡ true
 unfolding faces
-faces-words m a = word-faces (m .sizes) (m .corners) (words m a)
+faces-words m a d = word-faces (m .sizes) (m .corners) (words m a d)
 
 pub pieces-sayable : (m : Mesh) → Accepted m → DoubleMesh m → finiteMesh m ≡ true → every sayable (piecesOf m) ≡ true
 pieces-sayable m a d f =
@@ -222,7 +223,7 @@ pieces-sayable m a d f =
     (texels-pass isCoordinate (m .textures) (are-coordinates (m .textures) (d .textures) (lists .textures)))
     (points-pass isCoordinate (m .normals) (are-coordinates (m .normals) (d .normals) (lists .normals)))
     (every-both sized (λ (f : Ring). every isCorner f && every (every isWord) f) (faces m) (sized-faces m a)
-    (every-both (every isCorner) (every (every isWord)) (faces m) (faces-are m) (faces-words m a)))
+    (every-both (every isCorner) (every (every isWord)) (faces m) (faces-are m) (faces-words m a d)))
 
 -- ---- all of it is within the limits
 

@@ -1,6 +1,6 @@
 -- The pieces of a written file are drawn one after the other, up to its end. Assumes nothing.
 use mathlib.Core.Path.{_≡_, refl, sym, ap, ap₂, _∙_}
-use mathlib.Core.Bool.{Bool, true, false, not, _&&_}
+use mathlib.Core.Bool.{Bool, true, false, not}
 use mathlib.Core.List.{List, [], _∷_, _++_, append-assoc, append-nil}
 use Prim.Native.Nat.{ℕ, zero, suc, _+_, _*_, _<_}
 use native.Mathlib.Nat.{le-of-suc-le-suc, not-suc-le-zero}
@@ -12,19 +12,16 @@ use Rattle.lists.proofs.Bools.{and-left, and-right}
 use Rattle.little.proofs.Written.{behind}
 use Rattle.mesh.specs.Limits.{cornerLimit, pointNumbers, texelNumbers}
 use Rattle.mesh.specs.Mesh.{Ring}
-use Rattle.mesh.proofs.Corners.{isCorner}
 use Rattle.grouping.specs.Push.{cornerCount}
 use Rattle.grouping.proofs.Placing.{count-append}
-use Rattle.grouping.proofs.Accepting.{sized}
 use Rattle.floating.specs.Points.{coordinates}
-use Rattle.records.specs.Records.{ringFrom}
+use Rattle.records.specs.Lengths.{cornerSize}
 use Rattle.reading.specs.Reading.{Drawn, reader, takeRecord, readFrom, withFace}
 use Rattle.reading.proofs.Sane.{read-on, read-off}
-use Rattle.written.specs.Pieces.{Piece, aPosition, aTexture, aNormal, aFace, theEnd, wide, countLength, kindOf, headerOf, bodyOf, recordOf, pair}
+use Rattle.written.specs.Pieces.{Piece, aPosition, aTexture, aNormal, aFace, theEnd, withMarks, wide, countLength, kindOf, headerOf, bodyOf, recordOf, pair}
 use Rattle.written.proofs.Lengths.{length-header}
-use Rattle.written.specs.Said.{isWord, sayable, answerAt, ends, drawnMore, positionsIn, texturesIn, normalsIn, facesIn, drawnWith, Roomy}
-use Rattle.written.proofs.Bodies.{ring-back}
-use Rattle.written.proofs.Records.{lengthOf, length-body, small-face, body-stands, corners-stand, record-back}
+use Rattle.written.specs.Said.{sayable, answerAt, ends, drawnMore, positionsIn, texturesIn, normalsIn, facesIn, drawnWith, Roomy}
+use Rattle.written.proofs.Records.{lengthOf, length-body, small-face, body-stands, corners-back, record-back}
 
 -- ---- limits
 
@@ -54,13 +51,10 @@ take-back s at d (aTexture t) r w h m = rw (le-ltb texelNumbers (length (d .text
 take-back s at d (aNormal p) r w h m = rw (le-ltb pointNumbers (length (d .normals) + 3) (omega (arith, m .normals, length-append (d .normals) (coordinates p))))
 take-back s at d (aFace f) r w h m =
     let n = length f in
-    let v : (every isCorner f && every (every isWord) f) ≡ true = and-right (sized f) (every isCorner f && every (every isWord) f) w in
-    let k = countLength (wide n) in
-    let e : ringFrom s n (at + 4 + k) ≡ f =
-    ring-back s (at + 4 + k) f r (and-left (every isCorner f) (every (every isWord) f) v) (and-right (every isCorner f) (every (every isWord) f) v) (corners-stand s at f r h) in
-    let j : at + 4 + k + 12 * n ≡ at + (4 + (k + 12 * n)) = omega arith in
+    let k = countLength (wide (withMarks f) n) in
+    let j : at + 4 + k + cornerSize (withMarks f) * n ≡ at + (4 + (k + cornerSize (withMarks f) * n)) = omega arith in
     rw (le-ltb n 3 (small-face f w .0), le-ltb cornerLimit (cornerCount (d .faces) + n) (omega (arith, m .corners, count-append (d .faces) (f ∷ []))))
-    (ap₂ (λ (a : ℕ) (g : Ring). reader a 0 false (withFace g d)) j e)
+    (ap₂ (λ (a : ℕ) (g : Ring). reader a 0 false (withFace g d)) j (corners-back s at f r w h))
 take-back s at d theEnd r w h m = refl
 
 -- ---- all pieces

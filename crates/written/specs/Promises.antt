@@ -7,8 +7,8 @@ use mathlib.Core.Bool.{true, false}
 use mathlib.Core.List.{List, [], _++_}
 use lib.ListN.{length, take, drop}
 use lib.Ieee.{Float}
-use Rattle.mesh.specs.Limits.{width}
-use Rattle.mesh.specs.Mesh.{Mesh, meshOf}
+use Rattle.mesh.specs.Limits.{width, largest}
+use Rattle.mesh.specs.Mesh.{Mesh, meshOf, mark, cornerAt}
 use Rattle.mesh.specs.Table.{meshNumber, Lent, short}
 use Rattle.floating.specs.Limits.{finite}
 use Rattle.floating.specs.Promises.{Doubles}
@@ -43,19 +43,21 @@ pub record CoordinateReopens : Type 0 where
       (s : List ℕ) (i : ℕ) → Bytes s → i + coordinateLength ≤ length s → finite (coordinate s i) ≡ true
       → drop i s ≡ coordinateBytes (coordinate s i) ++ drop (i + coordinateLength) s
 
--- ---- one record, over all kinds: written anywhere in a file, it is read back there; of a face its place and its count, and its corners
--- ---- come back with the mesh
+-- ---- one record, over all kinds: written anywhere in a file, it is read back there; of a face its place, its count and whether it has a
+-- ---- mark, and its corners come back with the mesh
 
 abbrev pub RecordReopens : Type 0
 RecordReopens = (s : List ℕ) (at : ℕ) (p : Piece) (r : List ℕ) → sayable p ≡ true → drop at s ≡ recordOf p ++ r → recordFrom s at ≡ answerAt at p
 
 -- ---- a mesh, of the rules
 
--- the coordinates of a mesh are f64, as those of every lent list are
+-- the coordinates of a mesh are f64, and its marks are numbers of 32 bits, as those of every lent list are; every other number of a corner is
+-- bounded where the mesh is accepted
 pub record DoubleMesh (m : Mesh) : Type 0 where
   pub positions : Doubles (m .positions)
   pub textures : Doubles (m .textures)
   pub normals : Doubles (m .normals)
+  pub marks : (k : ℕ) → mark (cornerAt (m .corners) k) ≤ largest
 
 -- the file of m is read without refusal, into m itself; so writing what was read gives the same bytes
 pub record Reopens (m : Mesh) : Type 0 where
@@ -67,9 +69,9 @@ pub record Reopens (m : Mesh) : Type 0 where
 abbrev pub MeshReopens : Type 0
 MeshReopens = (m : Mesh) → meshNumber m ≡ 0 → DoubleMesh m → finiteMesh m ≡ true → Reopens m
 
--- and of the mesh of every file that is read, wherever the file is from
+-- and of the mesh of every file of bytes that is read, wherever the file is from
 abbrev pub FileReopens : Type 0
-FileReopens = (file : List ℕ) → readingNumber [] file ≡ 0 → Reopens (panelMesh file)
+FileReopens = (file : List ℕ) → Bytes file → readingNumber [] file ≡ 0 → Reopens (panelMesh file)
 
 -- ---- a mesh, of the calls
 

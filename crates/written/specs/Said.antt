@@ -17,7 +17,7 @@ use Rattle.records.specs.Lengths.{headerLength}
 use Rattle.records.specs.declared.Record.{Record}
 use Rattle.records.specs.declared.Record.the-variants.{Position, Texture, Normal, Face, End}
 use Rattle.reading.specs.Reading.{Drawn, withPosition, withTexture, withNormal, withFace}
-use Rattle.written.specs.Pieces.{Piece, aPosition, aTexture, aNormal, aFace, theEnd, wide, countLength, pair}
+use Rattle.written.specs.Pieces.{Piece, aPosition, aTexture, aNormal, aFace, theEnd, withMarks, wide, countLength, pair}
 
 -- a number that an f64 holds, and a coordinate of a file: one that is finite besides
 abbrev pub isDouble : Float → Bool
@@ -43,7 +43,7 @@ abbrev pub answerAt : ℕ → Piece → Record
 answerAt at (aPosition p) = Position p
 answerAt at (aTexture t) = Texture t
 answerAt at (aNormal p) = Normal p
-answerAt at (aFace f) = Face (at + headerLength + countLength (wide (length f))) (length f)
+answerAt at (aFace f) = Face (at + headerLength + countLength (wide (withMarks f) (length f))) (length f) (withMarks f)
 answerAt at theEnd = End
 
 -- ---- what pieces draw

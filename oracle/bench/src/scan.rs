@@ -2,6 +2,7 @@
 
 use crate::shapes::Case;
 use crate::time::fastest;
+use judge::mesh::WIDTH;
 use judge::{Mesh, MISSING};
 use rustc_hash::FxHashMap;
 use std::time::Duration;
@@ -13,9 +14,9 @@ const TRIANGLE: usize = 50;
 pub fn file(mesh: &Mesh) -> Vec<u8> {
     let mut file = vec![0; FRONT - 4];
     file.extend((mesh.sizes.len() as u32).to_le_bytes());
-    for face in mesh.corners.chunks(9) {
+    for face in mesh.corners.chunks(3 * WIDTH) {
         file.extend([0; 12]);
-        let places = face.iter().step_by(3).map(|position| 3 * *position as usize);
+        let places = face.iter().step_by(WIDTH).map(|position| 3 * *position as usize);
         let coordinates = places.flat_map(|place| &mesh.positions[place..place + 3]);
         file.extend(coordinates.flat_map(|x| (*x as f32).to_le_bytes()));
         file.extend([0; 2]);
@@ -31,7 +32,7 @@ pub fn read(file: &[u8]) -> Option<Mesh> {
         return None;
     }
     let mut numbers: FxHashMap<[u32; 3], u32> = FxHashMap::default();
-    let mut mesh = Mesh { corners: Vec::with_capacity(9 * count), sizes: vec![3; count], ..Mesh::default() };
+    let mut mesh = Mesh { corners: Vec::with_capacity(3 * WIDTH * count), sizes: vec![3; count], ..Mesh::default() };
     for triangle in file[FRONT..].chunks_exact(TRIANGLE) {
         for point in triangle[12..48].chunks_exact(12) {
             let coordinate = |at: usize| f32::from_le_bytes(point[at..at + 4].try_into().unwrap()) + 0.0;
@@ -44,7 +45,7 @@ pub fn read(file: &[u8]) -> Option<Mesh> {
             if number == next {
                 mesh.positions.extend(place.map(f64::from));
             }
-            mesh.corners.extend([number, MISSING, MISSING]);
+            mesh.corners.extend([number, MISSING, MISSING, 0]);
         }
     }
     Some(mesh)

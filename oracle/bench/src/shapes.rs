@@ -191,7 +191,7 @@ fn scattered(corners: usize) -> Mesh {
     while left >= 8 {
         let size = random.within(3, 8);
         let index = |random: &Random| if random.once_in(10) { MISSING } else { random.below(points) as u32 };
-        let mut face: Vec<Corner> = (0..size).map(|_| [random.below(points) as u32, index(&random), index(&random)]).collect();
+        let mut face: Vec<Corner> = (0..size).map(|_| [random.below(points) as u32, index(&random), index(&random), 0]).collect();
         if random.once_in(4) {
             face[size - 1][0] = face[random.below(size - 2)][0];
         }
@@ -220,7 +220,7 @@ fn separate(corners: usize) -> Mesh {
 /// Positions and normals in one place each, texture points in another; quadrangles that use them all.
 fn cloud(corners: usize, place: impl Fn(usize) -> [f64; 3], texture: impl Fn(usize) -> [f64; 2]) -> Mesh {
     let points = corners / 2;
-    let corner = |i: usize| [(i % points) as u32; 3];
+    let corner = |i: usize| by_one((i % points) as u32);
     let faces: Vec<Vec<Corner>> = (0..corners / 4).map(|k| (4 * k..4 * k + 4).map(corner).collect()).collect();
     Mesh {
         positions: (0..points).flat_map(&place).collect(),
@@ -236,10 +236,15 @@ fn circle(i: usize, around: usize, height: f64) -> [f64; 3] {
     [angle.cos(), angle.sin(), height]
 }
 
+/// The corner whose indices are all one, with no mark.
+fn by_one(index: u32) -> Corner {
+    [index, index, index, 0]
+}
+
 /// Faces by positions; each position has a texture point and a normal of its own.
 fn mesh(places: Vec<[f64; 3]>, mut faces: Vec<Vec<u32>>) -> Mesh {
     faces.sort_by_key(|face| face.len().min(5));
-    let faces: Vec<Vec<Corner>> = faces.into_iter().map(|face| face.into_iter().map(|i| [i; 3]).collect()).collect();
+    let faces: Vec<Vec<Corner>> = faces.into_iter().map(|face| face.into_iter().map(by_one).collect()).collect();
     Mesh {
         positions: places.iter().flatten().copied().collect(),
         textures: places.iter().flat_map(|p| [p[0], p[2]]).collect(),

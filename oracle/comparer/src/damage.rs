@@ -2,6 +2,7 @@
 
 use crate::coordinates;
 use crate::random::Random;
+use judge::mesh::{INDICES, WIDTH};
 use judge::{Mesh, MISSING};
 
 /// Spoils something. Most of it earns a number; some of it is still accepted.
@@ -24,7 +25,7 @@ fn over_a_limit(random: &Random, mesh: &mut Mesh) {
         0 => mesh.positions.resize(3 * 2_048 + by, 0.0),
         1 => mesh.textures.resize(2 * 2_048 + by, 0.0),
         2 => mesh.normals.resize(3 * 2_048 + by, 0.0),
-        3 => mesh.corners.resize(3 * 4_096 + by, 0),
+        3 => mesh.corners.resize(WIDTH * 4_096 + by, 0),
         _ => mesh.sizes.resize(1_365 + by, 3),
     }
 }
@@ -81,7 +82,7 @@ fn grow_the_last(random: &Random, mesh: &mut Mesh) {
     let new = random.pick(&[32, 33, 299, 300, 300, 301, 301, 302, old.min(1_000) + 256]);
     if old < new && old as usize <= mesh.corner_count() {
         mesh.sizes[last] = new;
-        mesh.corners.resize(mesh.corners.len() + 3 * (new - old) as usize, 0);
+        mesh.corners.resize(mesh.corners.len() + WIDTH * (new - old) as usize, 0);
     }
 }
 
@@ -93,13 +94,14 @@ fn order_off(random: &Random, mesh: &mut Mesh) {
     }
 }
 
-/// An index is at its list's count, above it, or missing.
+/// An index is at its list's count, above it, or missing; or a mark is, which earns nothing.
 fn index_off(random: &Random, mesh: &mut Mesh) {
     if mesh.corners.is_empty() {
         return;
     }
     let place = random.below(mesh.corners.len());
-    let count = [mesh.positions.len() / 3, mesh.textures.len() / 2, mesh.normals.len() / 3][place % 3] as u32;
+    let counts = [mesh.positions.len() / 3, mesh.textures.len() / 2, mesh.normals.len() / 3];
+    let count = counts[place % WIDTH % INDICES] as u32;
     mesh.corners[place] = random.pick(&[count, count, count + 1, count.wrapping_sub(1), MISSING, MISSING - 1, 0x8000_0000, 0]);
 }
 

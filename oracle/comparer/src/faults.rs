@@ -2,6 +2,7 @@
 
 use crate::files::{at_a_border, break_one, face, face_of_kind, record};
 use crate::random::Random;
+use judge::mesh::WIDTH;
 
 const END: u16 = 0;
 
@@ -12,7 +13,7 @@ pub fn random(random: &Random) -> Vec<u8> {
     let mut parts: Vec<Vec<u8>> = (0..random.within(1, 4)).map(|_| entry(kind())).collect();
     parts.extend((0..random.pick(&[0, 0, 1, 2])).map(|_| broken(random, kind())));
     parts.extend((0..random.pick(&[0, 0, 1, 2])).map(|_| fault(random, kind())));
-    parts.extend((0..random.below(3)).map(|_| face(&[0; 9])));
+    parts.extend((0..random.below(3)).map(|_| face(&[[0; WIDTH]; 3])));
     random.shuffle(&mut parts);
     if random.once_in(8) {
         parts.insert(0, entry(often).repeat(random.within(2_046, 2_048)));
@@ -43,12 +44,12 @@ fn broken(random: &Random, kind: usize) -> Vec<u8> {
 fn fault(random: &Random, kind: usize) -> Vec<u8> {
     let body = broken(random, kind)[4..].to_vec();
     match random.below(8) {
-        0 => record(random.pick(&[5, 6, 7, 256, 257, 260, 261]), &body),
+        0 => record(random.pick(&[5, 6, 7, 256, 257, 260, 261, 262]), &body),
         1 => record(kind as u16, &[&body[..], &[0; 8][..random.pick(&[1, 7, 8])]].concat()),
         2 => record(kind as u16, &body[..body.len() - random.pick(&[1, 8])]),
         3 => record(4, &[&[random.pick(&[2, 4, 34])][..], &[0; 36]].concat()),
-        4 => face_of_kind(random.pick(&[4, 5]), &[0; 3 * 33]),
-        5 => face(&[random.pick(&[7, 2_048]); 9]),
+        4 => face_of_kind(random.pick(&[4, 5, 6]), &[[0; WIDTH]; 33]),
+        5 => face(&[[random.pick(&[7, 2_048]); WIDTH]; 3]),
         6 => at_a_border(random),
         _ => record(END, &[]),
     }

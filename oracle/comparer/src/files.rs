@@ -1,7 +1,8 @@
 //! Panel files: made from random meshes, with records in any order, and then cut, lengthened and changed.
 
 use crate::random::Random;
-use crate::{coordinates, faults, meshes};
+use crate::{coordinates, faults, marks, meshes};
+use judge::mesh::{Corner, INDICES, WIDTH};
 use judge::reading::{sheet, writing};
 use judge::{Mesh, MISSING};
 
@@ -33,17 +34,54 @@ pub fn with_large_faces(random: &Random) -> Vec<u8> {
     spoilt(random, records)
 }
 
+/// A random file with marks: of a mesh, or a short one with faces of kind 6 at its borders.
+pub fn with_marks(random: &Random) -> Vec<u8> {
+    let mut records = vec![record(1, &[0; 24])];
+    records.extend((0..random.within(1, 3)).map(|_| marked_at_a_border(random)));
+    if random.once_in(3) {
+        records.insert(random.below(records.len()), at_a_border(random));
+    }
+    spoilt(random, records)
+}
+
 /// A face of a number of corners, and of a kind, that is right, or just is not; its n may be another, by one byte or by both.
 pub fn at_a_border(random: &Random) -> Vec<u8> {
-    let (kind, corners) = match random.below(3) {
+    let (kind, corners) = match random.below(4) {
         0 => (4, random.pick(&[0, 2, 3, 31, 32, 33, 34, 44, 255])),
         1 => (5, random.pick(&[31, 32, 33, 34, 255, 256, 257])),
-        _ => (5, random.pick(&[0, 3, 299, 300, 301, 302, 556, 1_365, 4_097, 5_461])),
+        2 => (5, random.pick(&[0, 3, 299, 300, 301, 302, 556, 1_365, 4_097, 5_461])),
+        _ => return marked_at_a_border(random),
     };
     let position = if random.once_in(12) { 1 } else { 0 };
-    let mut face = face_of_kind(kind, &[position, MISSING, MISSING].repeat(corners));
+    misstated(random, face_of_kind(kind, &vec![[position, MISSING, MISSING, 0]; corners]))
+}
+
+/// The same of kind 6: with no mark, with one, in its first, its last or any corner, or with marks everywhere.
+fn marked_at_a_border(random: &Random) -> Vec<u8> {
+    let corners = match random.below(3) {
+        0 => random.pick(&[0, 1, 2, 2, 3, 3, 4]),
+        1 => random.pick(&[5, 31, 32, 33, 255, 256, 257]),
+        _ => random.pick(&[299, 300, 300, 301, 301, 302, 556, 4_094, 4_095]),
+    };
+    let position = if random.once_in(12) { 1 } else { 0 };
+    let mut face: Vec<Corner> = vec![[position, MISSING, MISSING, 0]; corners];
+    let marked = match random.below(5) {
+        0 => 0..0,
+        1 => 0..1,
+        2 => corners.saturating_sub(1)..corners,
+        3 => random.below(corners)..corners,
+        _ => 0..corners,
+    };
+    for corner in face.iter_mut().take(marked.end).skip(marked.start) {
+        corner[INDICES] = random.pick(&[1, 2, 256, 65_536, 0x0100_0000, MISSING]);
+    }
+    misstated(random, face_of_kind(6, &face))
+}
+
+/// A face whose n may be another, by one byte or by both, and that may be cut.
+fn misstated(random: &Random, mut face: Vec<u8>) -> Vec<u8> {
     if random.once_in(5) {
-        let byte = 4 + random.below(kind as usize - 3);
+        let byte = 4 + random.below(count_bytes(face[2] as usize));
         face[byte] = random.pick(&[0, 1, 2, 32, 33, 44, 45, face[byte].wrapping_add(1), face[byte].wrapping_sub(1)]);
     }
     if random.once_in(10) {
@@ -91,15 +129,15 @@ fn records(random: &Random, mesh: &Mesh) -> Vec<Vec<u8>> {
     records.extend(mesh.positions.chunks_exact(3).map(|p| attribute(1, p)));
     records.extend(mesh.textures.chunks_exact(2).map(|p| attribute(2, p)));
     records.extend(mesh.normals.chunks_exact(3).map(|p| attribute(3, p)));
-    let corners: Vec<&[u32]> = mesh.corners.chunks_exact(3).collect();
+    let corners: Vec<Corner> = mesh.corners.chunks_exact(WIDTH).map(|corner| corner.try_into().unwrap()).collect();
     let mut from = 0;
     for size in &mesh.sizes {
         let to = from + (*size as usize).min(corners.len() - from);
-        records.push(face(&corners[from..to].concat()));
+        records.push(face(&corners[from..to]));
         from = to;
         if random.once_in(8) {
             let few = random.below(3);
-            records.push(face(&[random.pick(&[0, 1, MISSING, 2_048]); 6][..3 * few]));
+            records.push(face_of_kind(4, &[[random.pick(&[0, 1, MISSING, 2_048]); WIDTH]; 2][..few]));
         }
     }
     if random.once_in(16) {
@@ -108,15 +146,31 @@ fn records(random: &Random, mesh: &Mesh) -> Vec<Vec<u8>> {
     records
 }
 
-/// A face of the kind that its size asks for.
-pub fn face(corners: &[u32]) -> Vec<u8> {
-    face_of_kind(if corners.len() / 3 <= 32 { 4 } else { 5 }, corners)
+/// A face of the kind that its marks and its size ask for.
+pub fn face(corners: &[Corner]) -> Vec<u8> {
+    let is_marked = corners.iter().any(|corner| corner[INDICES] != 0);
+    face_of_kind(if is_marked { 6 } else { 4 + (corners.len() > 32) as u16 }, corners)
 }
 
-/// A face of kind 4, whose n has a byte, or of kind 5, whose n has two. A length that two bytes cannot say is cut to them.
-pub fn face_of_kind(kind: u16, corners: &[u32]) -> Vec<u8> {
-    let count = (corners.len() / 3).to_le_bytes().into_iter().take(kind as usize - 3);
-    record(kind, &count.chain(corners.iter().flat_map(|number| number.to_le_bytes())).collect::<Vec<u8>>())
+/// A face of kind 4, whose n has a byte, or of kind 5 or 6, whose n has two; kind 6 has the marks. A length that two bytes cannot say is cut to them.
+pub fn face_of_kind(kind: u16, corners: &[Corner]) -> Vec<u8> {
+    let count = corners.len().to_le_bytes().into_iter().take(count_bytes(kind as usize));
+    let numbers = corners.iter().flat_map(|corner| &corner[..corner_bytes(kind as usize) / 4]);
+    record(kind, &count.chain(numbers.flat_map(|number| number.to_le_bytes())).collect::<Vec<u8>>())
+}
+
+/// How many bytes n has in a kind of face.
+pub fn count_bytes(kind: usize) -> usize {
+    if kind == 4 {
+        1
+    } else {
+        2
+    }
+}
+
+/// How many bytes a corner has in a kind of face.
+pub fn corner_bytes(kind: usize) -> usize {
+    4 * if kind == 6 { WIDTH } else { INDICES }
 }
 
 /// A coordinate or two of the entries are not finite.
@@ -143,7 +197,7 @@ fn over_a_limit(random: &Random, records: &mut Vec<Vec<u8>>) {
     if kind == 4 {
         let size = random.pick(&[3, 4, 16, 32, 64, 300]);
         let faces = 4_096 / size + random.below(2);
-        *records = vec![face(&vec![0; 3 * size]); faces];
+        *records = vec![face(&vec![[0, 0, 0, marks::one(random)]; size]); faces];
         records.push(record(1, &[0; 24]));
     } else {
         let wanted = 2_048 + random.below(2);
@@ -167,7 +221,7 @@ fn damage(random: &Random, file: &mut Vec<u8>) {
         }
         4 => file.insert(at, random.bits() as u8),
         5 => change_a_header(random, file),
-        _ if !file.is_empty() => file[at] = random.pick(&[0, 1, 2, 3, 4, 5, 6, 24, 33, 44, 255]),
+        _ if !file.is_empty() => file[at] = random.pick(&[0, 1, 2, 3, 4, 5, 6, 7, 24, 33, 44, 255]),
         _ => {}
     }
 }
@@ -185,7 +239,13 @@ fn change_a_header(random: &Random, file: &mut [u8]) {
     let place = at + random.below(6);
     if place < file.len() {
         let there = file[place];
-        file[place] = random.pick(&[0, 1, 2, 3, 4, 5, 6, 16, 24, 25, 33, 37, 44, there.wrapping_add(12), there.wrapping_sub(12)]);
+        let by = random.pick(&[12, 16]);
+        let near = [there.wrapping_add(by), there.wrapping_sub(by)];
+        file[place] = if random.once_in(6) {
+            random.pick(&near)
+        } else {
+            random.pick(&[0, 1, 2, 3, 4, 5, 6, 7, 16, 24, 25, 33, 37, 44, 50])
+        };
     }
 }
 
@@ -199,5 +259,5 @@ fn pad(random: &Random, file: &mut Vec<u8>) {
     let left = length - file.len();
     let of_one = 3 * left % 5 + 5 * random.below(left / (5 * 17));
     let of_none = (left - 17 * of_one) / 5;
-    file.splice(0..0, [face(&[0; 3]).repeat(of_one), face(&[]).repeat(of_none)].concat());
+    file.splice(0..0, [face(&[[0; WIDTH]]).repeat(of_one), face(&[]).repeat(of_none)].concat());
 }

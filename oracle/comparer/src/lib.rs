@@ -1,9 +1,9 @@
 //! The comparer: the product's C interface against the judge, mesh by mesh.
 //!
 //! `library` asks the product, with lent lists that are filled with a pattern (`lent`); `check` holds what came back to the judge's
-//! answer. `meshes`, `shapes`, `pinched`, `round`, `surfaces`, `coordinates`, `damage`, `files`, `faults` and `scans` make what is asked. A difference is made small by
+//! answer. `meshes`, `shapes`, `pinched`, `round`, `surfaces`, `coordinates`, `marks`, `damage`, `files`, `faults` and `scans` make what is asked. A difference is made small by
 //! `shrink` and printed by `show`. What was written is read back by `round_trip`, and what was cleaned is cleaned in every other order by `orders`.
-//! `slips`, `wrong`, `wrong_broken` (over `one_by_one`), `wrong_files`, `wrong_house`, `wrong_large`, `wrong_merging`, `wrong_removal`, `wrong_scans`
+//! `slips`, `wrong`, `wrong_broken` (over `one_by_one`), `wrong_files`, `wrong_house`, `wrong_large`, `wrong_marks`, `wrong_merging`, `wrong_removal`, `wrong_scans`
 //! (over `wrong_scan`) and `wrong_smoothing` (over `wrong_points`) show that the comparer can fail. What is public
 //! serves the lister too.
 
@@ -14,6 +14,7 @@ mod faults;
 pub mod files;
 mod lent;
 mod library;
+mod marks;
 pub mod meshes;
 mod one_by_one;
 mod options;
@@ -40,6 +41,7 @@ mod wrong_by_cell;
 mod wrong_files;
 mod wrong_house;
 mod wrong_large;
+mod wrong_marks;
 mod wrong_merging;
 mod wrong_points;
 mod wrong_removal;

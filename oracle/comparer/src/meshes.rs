@@ -1,7 +1,7 @@
 //! Meshes: every small one, and random ones of every size up to the limits.
 
 use crate::random::Random;
-use crate::{coordinates, damage, pinched, round, shapes};
+use crate::{coordinates, damage, marks, pinched, round, shapes};
 use judge::mesh::Corner;
 use judge::reading::numbers::mesh_number;
 use judge::{Mesh, MISSING};
@@ -27,7 +27,7 @@ pub fn exhaustive_count() -> u64 {
 }
 
 /// Up to three triangles over four positions, single faces of 4 to 6 corners over that many positions, and two triangles over five positions: the
-/// one with this index. A corner's texture point is its place in its face; its normal goes by the seed.
+/// one with this index. A corner's texture point is its place in its face; its normal and its mark go by the seed.
 pub fn exhaustive(index: u64, random: &Random) -> Case {
     let (mut shape, mut left) = (EXHAUSTIVE[0], index);
     for next in EXHAUSTIVE {
@@ -41,7 +41,7 @@ pub fn exhaustive(index: u64, random: &Random) -> Case {
     let mut corner = |place: usize| -> Corner {
         let position = (left % positions as u64) as u32;
         left /= positions as u64;
-        [position, place as u32, random.pick(&[0, 1, 2, MISSING])]
+        [position, place as u32, random.pick(&[0, 1, 2, MISSING]), marks::one(random)]
     };
     let faces: Vec<Vec<Corner>> = (0..faces).map(|_| (0..corners).map(&mut corner).collect()).collect();
     let mesh = Mesh {
@@ -76,7 +76,7 @@ pub fn with_large_faces(random: &Random) -> Case {
     furnished(random, faces, positions, tolerance, 6)
 }
 
-/// Faces by positions, with coordinates, texture points and normals; one mesh in so many is damaged.
+/// Faces by positions, with coordinates, texture points, normals and marks; one mesh in so many is damaged.
 fn furnished(random: &Random, faces: Vec<Vec<u32>>, positions: usize, tolerance: f64, damaged: usize) -> Case {
     let mut mesh = Mesh {
         positions: coordinates::list(random, with_unused(random, positions), 3, tolerance * random_half(random)),
@@ -93,12 +93,13 @@ fn furnished(random: &Random, faces: Vec<Vec<u32>>, positions: usize, tolerance:
             face.iter()
                 .map(|position| {
                     corner += 1;
-                    [*position, texture_column[corner - 1], normal_column[corner - 1]]
+                    [*position, texture_column[corner - 1], normal_column[corner - 1], 0]
                 })
                 .collect()
         })
         .collect();
     faces.sort_by_key(|face| face.len().min(5));
+    marks::put(random, &mut faces);
     let mut mesh = mesh.with_faces(&faces);
     if random.once_in(damaged) {
         damage::mesh(random, &mut mesh);
@@ -127,7 +128,7 @@ pub fn any_order(random: &Random, mesh: &Mesh) -> Mesh {
     let more = if random.once_in(2) { random.below(4) } else { 0 };
     for _ in 0..more {
         let corners = if random.once_in(12) { random.pick(&[32, 33, 300, 301]) } else { random.below(3) };
-        faces.insert(random.below(faces.len() + 1), vec![[random.below(5) as u32, MISSING, 0]; corners]);
+        faces.insert(random.below(faces.len() + 1), vec![[random.below(5) as u32, MISSING, 0, marks::one(random)]; corners]);
     }
     mesh.with_faces(&faces)
 }

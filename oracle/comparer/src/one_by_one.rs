@@ -1,6 +1,8 @@
 //! The coordinates of a file and of a mesh one by one, the records of a file whatever is wrong with them, and what corners use: for misreadings
 //! that look at some coordinates and not at others.
 
+use crate::files::{corner_bytes, count_bytes};
+use judge::mesh::{INDICES, WIDTH};
 use judge::reading::door::is_broken;
 use judge::Mesh;
 use std::collections::BTreeSet;
@@ -97,14 +99,12 @@ pub fn is_entry(kind: usize, length: usize) -> bool {
 
 /// The entries that corners use, by list and number.
 pub fn used(corners: &[u32]) -> BTreeSet<(usize, u32)> {
-    corners.iter().enumerate().map(|(i, index)| (i % 3, *index)).collect()
+    corners.iter().enumerate().map(|(i, index)| (i % WIDTH, *index)).filter(|(column, _)| *column < INDICES).collect()
 }
 
 pub fn used_in_file(file: &[u8]) -> BTreeSet<(usize, u32)> {
-    let faces = records(file).into_iter().filter(|(_, kind, body)| [4, 5].contains(kind) && body.len() > 36);
-    let corners: Vec<u32> = faces
-        .flat_map(|(_, kind, body)| body[kind - 3..].chunks_exact(4))
-        .map(|index| u32::from_le_bytes(index.try_into().unwrap()))
-        .collect();
-    used(&corners)
+    let faces = records(file).into_iter().filter(|(_, kind, body)| (4..=6).contains(kind) && body.len() > 36);
+    let corners = faces.flat_map(|(_, kind, body)| body[count_bytes(kind)..].chunks_exact(corner_bytes(kind)));
+    let indices = corners.flat_map(|corner| corner.chunks_exact(4).take(INDICES).enumerate());
+    indices.map(|(column, index)| (column, u32::from_le_bytes(index.try_into().unwrap()))).collect()
 }

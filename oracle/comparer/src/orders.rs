@@ -3,6 +3,7 @@
 
 use crate::lent::Number;
 use crate::library::{Asked, Product};
+use judge::mesh::{INDICES, WIDTH};
 use judge::reading::numbers::stated_rooms;
 use judge::reading::sheet::FILE;
 use judge::{Call, Mesh, Question};
@@ -70,7 +71,7 @@ fn stepped(product: &dyn Product, before: &Left, step: Step) -> Result<Left, Str
 fn removed(mesh: &Mesh, asked: &Asked) -> (Mesh, Vec<u32>) {
     let (corners, faces) = (asked.counts[0] as usize, asked.counts[1] as usize);
     let left =
-        Mesh { corners: asked.lists[0].front_words(3 * corners), sizes: asked.lists[1].front_words(faces), ..mesh.clone() };
+        Mesh { corners: asked.lists[0].front_words(WIDTH * corners), sizes: asked.lists[1].front_words(faces), ..mesh.clone() };
     (left, asked.lists[2].front_words(faces))
 }
 
@@ -117,7 +118,7 @@ fn is_same(one: &Mesh, other: &Mesh) -> bool {
 }
 
 /// Slips in one of the orders: each must be found.
-pub const SLIPS: [(&str, Slip); 6] = [
+pub const SLIPS: [(&str, Slip); 7] = [
     ("no second compaction behind a removal", |left, before| {
         if left.steps == [Compact, Remove, Compact] {
             left.mesh = before.mesh.clone();
@@ -130,8 +131,8 @@ pub const SLIPS: [(&str, Slip); 6] = [
     }),
     ("a second removal that turns the last face", |left, _| {
         if let ([Remove, Remove], Some(size)) = (&left.steps[..], left.mesh.sizes.last()) {
-            let at = left.mesh.corners.len() - 3 * *size as usize;
-            left.mesh.corners[at..].rotate_left(3);
+            let at = left.mesh.corners.len() - WIDTH * *size as usize;
+            left.mesh.corners[at..].rotate_left(WIDTH);
         }
     }),
     ("a second compaction that makes a NaN a zero", |left, _| {
@@ -141,8 +142,13 @@ pub const SLIPS: [(&str, Slip); 6] = [
     }),
     ("a compaction of a clean mesh that numbers positions backwards", |left, _| {
         if left.steps == [Remove, Compact, Compact] {
-            let last = left.mesh.corners.iter().step_by(3).copied().max().unwrap_or(0);
-            left.mesh.corners.iter_mut().step_by(3).for_each(|position| *position = last - *position);
+            let last = left.mesh.corners.iter().step_by(WIDTH).copied().max().unwrap_or(0);
+            left.mesh.corners.iter_mut().step_by(WIDTH).for_each(|position| *position = last - *position);
+        }
+    }),
+    ("a second compaction that clears marks", |left, _| {
+        if left.steps == [Remove, Compact, Compact] {
+            left.mesh.corners.iter_mut().skip(INDICES).step_by(WIDTH).for_each(|mark| *mark = 0);
         }
     }),
     ("origins that count the faces of the result after a compaction", |left, _| {

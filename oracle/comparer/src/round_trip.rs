@@ -2,6 +2,7 @@
 
 use crate::check::difference;
 use crate::library::{Asked, Product};
+use judge::mesh::WIDTH;
 use judge::reading::numbers::stated_rooms;
 use judge::{Answer, Call, Mesh, Question};
 
@@ -25,7 +26,7 @@ fn taken(read: &Asked) -> Mesh {
         positions: read.lists[0].front_floats(3 * count(0)),
         textures: read.lists[1].front_floats(2 * count(1)),
         normals: read.lists[2].front_floats(3 * count(2)),
-        corners: read.lists[3].front_words(3 * count(3)),
+        corners: read.lists[3].front_words(WIDTH * count(3)),
         sizes: read.lists[4].front_words(count(4)),
     }
 }

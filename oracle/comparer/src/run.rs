@@ -123,6 +123,7 @@ impl Subject {
                 (About::Scan, _) => scans::random(random),
                 (_, 0..=3) => files::with_touching_hems(random),
                 (_, 4..=6) => files::with_large_faces(random),
+                (_, 7..=8) => files::with_marks(random),
                 _ => files::random(random),
             };
             let question = Question { file, ..Question::default() };

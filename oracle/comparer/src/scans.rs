@@ -2,6 +2,7 @@
 
 use crate::meshes;
 use crate::random::Random;
+use judge::mesh::WIDTH;
 use judge::reading::numbers::{ATTRIBUTES, FACES};
 use judge::reading::scan::{Point, FRONT, HEADER, TRIANGLE};
 use judge::{Mesh, MISSING};
@@ -77,7 +78,7 @@ fn normals(random: &Random) -> fn(&Random, &[Point; 3]) -> Point {
 /// The faces of a mesh, each cut into triangles around its first corner; position i has a point of its own.
 fn of_mesh(random: &Random, mesh: &Mesh) -> Triangles {
     let point_of = points(random);
-    let corners: Vec<u32> = mesh.corners.chunks_exact(3).map(|corner| corner[0]).collect();
+    let corners: Vec<u32> = mesh.corners.chunks_exact(WIDTH).map(|corner| corner[0]).collect();
     let (mut from, mut made) = (0, vec![]);
     for size in &mesh.sizes {
         let to = from + (*size as usize).min(corners.len() - from);

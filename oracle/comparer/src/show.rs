@@ -1,5 +1,6 @@
 //! A question in words.
 
+use judge::mesh::{INDICES, WIDTH};
 use judge::rust::has_its_cosines;
 use judge::{Call, Mesh, Question, MISSING};
 use std::fmt::Write;
@@ -43,7 +44,7 @@ fn mesh(mesh: &Mesh) -> String {
     for (name, list, width) in lists {
         let _ = writeln!(text, "  {name}, {} numbers:{}", list.len(), entries(list, width));
     }
-    let corners: String = mesh.corners.chunks(3).map(corner).collect();
+    let corners: String = mesh.corners.chunks(WIDTH).map(corner).collect();
     let _ = writeln!(text, "  corners, {} numbers:{corners}", mesh.corners.len());
     let _ = writeln!(text, "  face sizes, {}: {:?}", mesh.sizes.len(), mesh.sizes);
     text
@@ -55,6 +56,6 @@ fn entries(list: &[f64], width: usize) -> String {
 }
 
 fn corner(corner: &[u32]) -> String {
-    let number = |n: &u32| if *n == MISSING { "-".to_string() } else { n.to_string() };
-    format!(" {}", corner.iter().map(number).collect::<Vec<_>>().join("/"))
+    let number = |(place, n): (usize, &u32)| if *n == MISSING && place < INDICES { "-".to_string() } else { n.to_string() };
+    format!(" {}", corner.iter().enumerate().map(number).collect::<Vec<_>>().join("/"))
 }

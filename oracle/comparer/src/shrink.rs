@@ -1,6 +1,6 @@
 //! Makes a question that shows a difference smaller, as long as it still shows one.
 
-use judge::mesh::Corner;
+use judge::mesh::{Corner, INDICES, WIDTH};
 use judge::reading::numbers::{mesh_number, stated_rooms};
 use judge::reading::scan::{FRONT, HEADER, TRIANGLE};
 use judge::rust::{self, has_its_cosines};
@@ -206,7 +206,7 @@ impl Shrinker<'_> {
             while less > 0 {
                 let mut mesh = self.best.mesh.clone();
                 mesh.sizes[i] -= less.min(mesh.sizes[i] as usize) as u32;
-                mesh.corners.truncate(mesh.corners.len().saturating_sub(3 * less));
+                mesh.corners.truncate(mesh.corners.len().saturating_sub(WIDTH * less));
                 self.attempt_mesh(mesh);
                 less /= 2;
             }
@@ -234,11 +234,11 @@ impl Shrinker<'_> {
         list!(normals, 2, 3, MISSING);
     }
 
-    /// Makes indices missing, and positions lower.
+    /// Makes indices missing, and positions and marks lower.
     fn indices(&mut self) {
         for at in 0..self.best.mesh.corners.len() {
             let index = self.best.mesh.corners[at];
-            let smaller = if at % 3 == 0 { vec![0, 1, 2] } else { vec![MISSING, 0] };
+            let smaller = if [0, INDICES].contains(&(at % WIDTH)) { vec![0, 1, 2] } else { vec![MISSING, 0] };
             for new in smaller.into_iter().take_while(|new| *new != index) {
                 let mut mesh = self.best.mesh.clone();
                 mesh.corners[at] = new;
@@ -324,7 +324,7 @@ fn records(file: &[u8]) -> Vec<&[u8]> {
 
 /// Gives a column the numbers that are right once the entries of a range have gone.
 fn renumber(mesh: &mut Mesh, column: usize, range: Range<usize>, gone: u32) {
-    for index in mesh.corners.iter_mut().skip(column).step_by(3) {
+    for index in mesh.corners.iter_mut().skip(column).step_by(WIDTH) {
         let old = *index as usize;
         if *index != MISSING && old >= range.end {
             *index -= range.len() as u32;

@@ -1,8 +1,8 @@
 //! Questions to smoothing: surfaces of triangles, most of them accepted, and what earns each of its numbers.
 
 use crate::random::Random;
-use crate::{coordinates, damage, meshes};
-use judge::mesh::Corner;
+use crate::{coordinates, damage, marks, meshes};
+use judge::mesh::{Corner, WIDTH};
 use judge::reading::numbers::{mesh_number, stated_rooms};
 use judge::{rust, Call, Mesh, Question, MISSING};
 use std::collections::{BTreeMap, BTreeSet};
@@ -243,20 +243,21 @@ pub fn renumber<F: AsMut<[u32]>>(random: &Random, faces: &mut [F]) {
     flat(faces).for_each(|position| *position = numbers[names[position] as usize]);
 }
 
-/// With coordinates, texture points and normals.
+/// With coordinates, texture points, normals and marks.
 fn furnished(random: &Random, triangles: Triangles) -> Mesh {
     let faces: Vec<Vec<u32>> = triangles.iter().map(|triangle| triangle.to_vec()).collect();
     let positions = triangles.iter().flatten().max().map_or(0, |last| *last as usize + 1);
     let (textures, texture_column) = meshes::column(random, &faces);
     let (normals, normal_column) = meshes::column(random, &faces);
     let mut places = 0..;
-    let faces: Vec<Vec<Corner>> = faces
+    let mut faces: Vec<Vec<Corner>> = faces
         .iter()
         .map(|face| {
-            let corner = |(position, place): (&u32, usize)| [*position, texture_column[place], normal_column[place]];
+            let corner = |(position, place): (&u32, usize)| [*position, texture_column[place], normal_column[place], 0];
             face.iter().zip(places.by_ref()).map(corner).collect()
         })
         .collect();
+    marks::put(random, &mut faces);
     let positions = match random.below(4) {
         0 => coordinates::list(random, positions, 3, 0.3),
         1 => (0..3 * positions).map(|_| coordinates::anything_ordinary(random)).collect(),
@@ -342,11 +343,11 @@ fn spoil_faces(random: &Random, mesh: &mut Mesh) {
         3 => faces[which][corner][0] = random.below(positions) as u32,
         4 => {
             let [a, b] = [0, 1].map(|i: usize| faces[which][(corner + i) % 3]);
-            faces.insert(0, vec![b, a, [random.below(positions) as u32, MISSING, MISSING]]);
+            faces.insert(0, vec![b, a, [random.below(positions) as u32, MISSING, MISSING, marks::one(random)]]);
         }
         _ => {
             let size = random.pick(&[4, 4, 5, 32]);
-            faces.push((0..size).map(|_| [random.below(positions) as u32, MISSING, MISSING]).collect());
+            faces.push((0..size).map(|_| [random.below(positions) as u32, MISSING, MISSING, marks::one(random)]).collect());
         }
     }
     faces.sort_by_key(|face| face.len().min(5));
@@ -361,8 +362,8 @@ fn drop_unused(mesh: &mut Mesh) {
     if mesh_number(mesh) != 0 {
         return;
     }
-    let used: Vec<u32> = mesh.corners.iter().step_by(3).copied().collect::<BTreeSet<u32>>().into_iter().collect();
+    let used: Vec<u32> = mesh.corners.iter().step_by(WIDTH).copied().collect::<BTreeSet<u32>>().into_iter().collect();
     mesh.positions = used.iter().flat_map(|position| mesh.positions[3 * *position as usize..][..3].to_vec()).collect();
     let new = |old: u32| used.binary_search(&old).unwrap() as u32;
-    mesh.corners.iter_mut().step_by(3).for_each(|position| *position = new(*position));
+    mesh.corners.iter_mut().step_by(WIDTH).for_each(|position| *position = new(*position));
 }

@@ -3,7 +3,8 @@
 use crate::check::Compared;
 use judge::reading::edges::hem_edges;
 use judge::reading::numbers::NUMBERS;
-use judge::{Call, Count, Mesh, Numbers, Question};
+use judge::reading::panel_file;
+use judge::{About, Call, Count, Mesh, Numbers, Question};
 
 /// What one call was asked.
 #[derive(Clone, Default)]
@@ -15,6 +16,8 @@ struct Asked {
     telling: u64,
     /// Questions whose mesh was cleaned in every order, or whose cleaned file was cleaned again.
     with_orders: u64,
+    /// Accepted questions with a mark in their mesh, or in the mesh of their file.
+    with_marks: u64,
     /// The most corners and the most points of a mesh that the Rust was asked about, and the most corners of a face.
     corners: usize,
     face: usize,
@@ -46,6 +49,7 @@ impl Tally {
             return;
         }
         asked.telling += is_telling(call, question, compared) as u64;
+        asked.with_marks += has_marks(call, question) as u64;
         if call == Call::ShellCondition {
             self.verdicts[count(compared, 0) as usize] += 1;
         }
@@ -74,6 +78,9 @@ impl Tally {
             }
             if let Some(what) = shows(*call) {
                 println!("  {:<26}{what}: {}", "", grouped(asked.telling));
+            }
+            if asked.with_marks > 0 {
+                println!("  {:<26}with marks: {}", "", grouped(asked.with_marks));
             }
             if asked.with_orders > 0 {
                 let what = if call.reads_a_file() { "cleaned again" } else { "cleaned in every order" };
@@ -128,6 +135,16 @@ fn is_telling(call: Call, question: &Question, compared: &Compared) -> bool {
         Call::ReadScan => count(compared, 0) < count(compared, 3),
         Call::ScanSheet => matches!(&compared.right.lists[0], Numbers::Bytes(text) if text.starts_with(b"mesh")),
         _ => false,
+    }
+}
+
+/// Whether a corner of an accepted question has a mark. A scan has none.
+fn has_marks(call: Call, question: &Question) -> bool {
+    let is_marked = |mesh: &Mesh| mesh.marks().any(|mark| mark != 0);
+    match call.about() {
+        About::Mesh => is_marked(&question.mesh),
+        About::PanelFile => panel_file::read(&question.file).map_or(false, |mesh| is_marked(&mesh)),
+        About::Scan => false,
     }
 }
 

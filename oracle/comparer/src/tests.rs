@@ -6,9 +6,10 @@ use crate::meshes;
 use crate::random::Random;
 use crate::run::{run, Subject};
 use crate::shrink::shrink;
-use crate::wrong_by_cell::by_cell;
 use crate::wrong::answers;
+use crate::wrong_by_cell::by_cell;
 use crate::{scans, surfaces, wrong_points, wrong_scan, wrong_smoothing};
+use judge::mesh::{Corner, WIDTH};
 use judge::reading::numbers::mesh_number;
 use judge::{reading, rust, Answer, Call, Mesh, Numbers, Question, MISSING};
 use std::collections::{BTreeMap, BTreeSet};
@@ -102,7 +103,7 @@ fn what_is_not_read_back_is_found() {
 #[test]
 fn differences_become_small() {
     let third_use = smallest(Call::ShellCondition, "uses counted modulo two");
-    assert_eq!(third_use.mesh.corners.iter().step_by(3).copied().collect::<Vec<_>>(), [0, 0, 0]);
+    assert_eq!(third_use.mesh.corners.iter().step_by(WIDTH).copied().collect::<Vec<_>>(), [0, 0, 0]);
     let both_rings = smallest(Call::RemoveDegenerateFaces, "corner i for both rings");
     assert_eq!(both_rings.mesh.sizes, [5]);
     let from_0_again = smallest(Call::RemoveDegenerateFaces, "faces behind the triangles numbered from 0 again");
@@ -129,7 +130,7 @@ fn accepted() -> impl Iterator<Item = (Mesh, f64)> {
 
 /// Whether two columns of corners put the same corners together.
 fn is_same_grouping(one: &[u32], other: &[u32]) -> bool {
-    let pairs: BTreeSet<(usize, u32, u32)> = (0..one.len()).map(|i| (i % 3, one[i], other[i])).collect();
+    let pairs: BTreeSet<(usize, u32, u32)> = (0..one.len()).map(|i| (i % WIDTH, one[i], other[i])).collect();
     let of = |pick: fn(&(usize, u32, u32)) -> (usize, u32)| pairs.iter().map(pick).collect::<BTreeSet<_>>().len();
     one.len() == other.len() && of(|p| (p.0, p.1)) == pairs.len() && of(|p| (p.0, p.2)) == pairs.len()
 }
@@ -157,7 +158,8 @@ fn the_runs_of_an_order_have_what_is_compared() {
         let random = Random::of(9, i);
         let mut case = meshes::exhaustive(meshes::exhaustive_count() - 1 - i, &random);
         meshes::to_borders(&random, &mut case);
-        let question = Question { rooms: vec![case.mesh.corners.len()], mesh: case.mesh, tolerance: case.tolerance, ..Question::default() };
+        let question =
+            Question { rooms: vec![case.mesh.corners.len()], mesh: case.mesh, tolerance: case.tolerance, ..Question::default() };
         let right = reading::answer(Call::PutTogetherByCell, &question);
         assert_eq!(format!("{:?}", by_cell(&question, None)), format!("{right:?}"));
         let cells: Vec<f64> = question.mesh.textures.iter().map(|c| (c / question.tolerance).trunc()).collect();
@@ -233,7 +235,7 @@ fn smoothing_keeps_the_verdict_and_folds_nothing() {
             _ => panic!("corners and sizes"),
         };
         let result = Mesh { corners, sizes, ..Mesh::default() };
-        let is_folded = |face: Vec<[u32; 3]>| face.iter().map(|corner| corner[0]).collect::<BTreeSet<u32>>().len() < 3;
+        let is_folded = |face: Vec<Corner>| face.iter().map(|corner| corner[0]).collect::<BTreeSet<u32>>().len() < 3;
         assert!(!result.faces().into_iter().any(is_folded));
         if has_equal_faces(&question.mesh) {
             equal += 1;
@@ -273,7 +275,7 @@ impl Product for RightRemoval {
 #[test]
 fn orders_that_leave_another_mesh_are_found() {
     let positions = (0..9).map(f64::from).collect();
-    let corners = [2, 1, 0].iter().flat_map(|position| [*position, MISSING, MISSING]).collect();
+    let corners = [2, 1, 0].iter().flat_map(|position| [*position, MISSING, MISSING, 0]).collect();
     let mesh = Mesh { positions, corners, sizes: vec![3], ..Mesh::default() };
     let rooms = reading::numbers::stated_rooms(Call::RemoveDegenerateFaces, &mesh);
     let question = Question { mesh, rooms, ..Question::default() };

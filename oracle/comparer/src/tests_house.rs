@@ -3,7 +3,7 @@
 use crate::pinched;
 use crate::random::Random;
 use crate::wrong_house::{wires, Misread};
-use judge::mesh::Verdict;
+use judge::mesh::{Corner, Verdict};
 use judge::reading::edges::{hem_edges, ported_wires, verdict};
 use judge::reading::house::house_wires;
 use judge::reading::panels::components;
@@ -17,7 +17,7 @@ type Faces = Vec<Vec<u32>>;
 type Step = [u32; 2];
 
 fn mesh(faces: &[Vec<u32>]) -> Mesh {
-    let faces: Vec<Vec<[u32; 3]>> = faces.iter().map(|face| face.iter().map(|p| [*p, MISSING, MISSING]).collect()).collect();
+    let faces: Vec<Vec<Corner>> = faces.iter().map(|face| face.iter().map(|p| [*p, MISSING, MISSING, 0]).collect()).collect();
     Mesh::default().with_faces(&faces)
 }
 

@@ -1,8 +1,10 @@
 //! Wrong answers that look right: what a product with one misreading of document 01 would say.
 
 use crate::wrong_merging::{merging, Misread};
-use crate::{wrong_broken, wrong_by_cell, wrong_files, wrong_house, wrong_large, wrong_removal, wrong_scans, wrong_smoothing};
-use judge::mesh::{Corner, Merged, Pushed, Verdict};
+use crate::{
+    wrong_broken, wrong_by_cell, wrong_files, wrong_house, wrong_large, wrong_marks, wrong_removal, wrong_scans, wrong_smoothing,
+};
+use judge::mesh::{Corner, Merged, Pushed, Verdict, INDICES, WIDTH};
 use judge::reading::merging::put_together_same_attrs;
 use judge::reading::{cleaning, edges, numbers, panel_file, panels};
 use judge::{Answer, Call, Count, Mesh, Numbers, Question, MISSING};
@@ -13,7 +15,7 @@ pub type Wrong = fn(&Question, &Answer) -> Option<Answer>;
 
 /// The misreadings of a call, each by its name.
 pub fn answers(call: Call) -> impl Iterator<Item = &'static (&'static str, Wrong)> {
-    of_its_own(call).iter().chain(wrong_broken::answers(call)).chain(wrong_large::answers(call))
+    of_its_own(call).iter().chain(wrong_broken::answers(call)).chain(wrong_large::answers(call)).chain(wrong_marks::answers(call))
 }
 
 /// Those that no other call has.
@@ -112,12 +114,12 @@ fn sizes_that_wrap(question: &Question, right: &Answer) -> Option<Answer> {
     let mesh = &question.mesh;
     let sum = mesh.sizes.iter().fold(0u64, |sum, size| sum + *size as u64);
     let wraps = sum != mesh.corner_count() as u64 && sum as u32 as usize == mesh.corner_count();
-    (right.number == 2 && mesh.corners.len() % 3 == 0 && wraps).then(|| Answer::mesh_number(3))
+    (right.number == 2 && mesh.corners.len() % WIDTH == 0 && wraps).then(|| Answer::mesh_number(3))
 }
 
 fn missing_position(question: &Question, right: &Answer) -> Option<Answer> {
     let mut mesh = question.mesh.clone();
-    mesh.corners.iter_mut().step_by(3).filter(|position| **position == MISSING).for_each(|position| *position = 0);
+    mesh.corners.iter_mut().step_by(WIDTH).filter(|position| **position == MISSING).for_each(|position| *position = 0);
     (right.number == 5).then(|| Answer::mesh_number(numbers::mesh_number(&mesh)))
 }
 
@@ -125,10 +127,13 @@ fn missing_position(question: &Question, right: &Answer) -> Option<Answer> {
 fn old_order(question: &Question, right: &Answer) -> Option<Answer> {
     accepted(right, || {
         let corners = &question.mesh.corners;
-        let used = |column: usize| -> BTreeSet<u32> { corners.iter().skip(column).step_by(3).copied().collect() };
+        let used = |column: usize| -> BTreeSet<u32> { corners.iter().skip(column).step_by(WIDTH).copied().collect() };
         let ranks = [used(0), used(1), used(2)];
-        let rank =
-            |(i, index): (usize, &u32)| if *index == MISSING { MISSING } else { ranks[i % 3].range(..index).count() as u32 };
+        let rank = |(i, number): (usize, &u32)| match (i % WIDTH, *number) {
+            (INDICES, mark) => mark,
+            (_, MISSING) => MISSING,
+            (column, index) => ranks[column].range(..index).count() as u32,
+        };
         let mut answer = right.clone();
         answer.lists[0] = Numbers::Words(corners.iter().enumerate().map(rank).collect());
         answer
@@ -145,7 +150,10 @@ fn words(answer: &Answer) -> &[u32] {
 /// Of the indices that have one representative, the lowest that some corner has.
 fn lowest_index(question: &Question, right: &Answer) -> Option<Answer> {
     let (old, new) = (&question.mesh.corners, words(right));
-    let lowest = |i: usize| (i % 3..new.len()).step_by(3).filter(|k| new[*k] == new[i]).map(|k| old[k]).min();
+    let lowest = |i: usize| match i % WIDTH {
+        INDICES => Some(new[i]),
+        column => (column..new.len()).step_by(WIDTH).filter(|k| new[*k] == new[i]).map(|k| old[k]).min(),
+    };
     accepted(right, || {
         let mut answer = right.clone();
         answer.lists[0] = Numbers::Words((0..new.len()).map(|i| lowest(i).unwrap()).collect());
@@ -157,13 +165,13 @@ fn lowest_index(question: &Question, right: &Answer) -> Option<Answer> {
 fn raw_positions(question: &Question, right: &Answer) -> Option<Answer> {
     let mut mesh = question.mesh.clone();
     mesh.normals = mesh.positions.clone();
-    (0..mesh.corners.len()).step_by(3).for_each(|i| mesh.corners[i + 2] = mesh.corners[i]);
+    (0..mesh.corners.len()).step_by(WIDTH).for_each(|i| mesh.corners[i + 2] = mesh.corners[i]);
     if right.number != 0 || numbers::merging_number(&mesh, question.tolerance) != 0 {
         return None;
     }
     let raw: Merged = put_together_same_attrs(&mesh, question.tolerance);
     let mut new = words(right).to_vec();
-    (0..new.len()).step_by(3).for_each(|i| new[i] = raw.corners[i + 2]);
+    (0..new.len()).step_by(WIDTH).for_each(|i| new[i] = raw.corners[i + 2]);
     let mut answer = right.clone();
     answer.lists[0] = Numbers::Words(new);
     answer.counts[0] = Count::Is(raw.pairs[2]);
@@ -173,7 +181,7 @@ fn raw_positions(question: &Question, right: &Answer) -> Option<Answer> {
 fn textures_kept(question: &Question, right: &Answer) -> Option<Answer> {
     accepted(right, || {
         let mut new = words(right).to_vec();
-        (1..new.len()).step_by(3).for_each(|i| new[i] = question.mesh.corners[i]);
+        (1..new.len()).step_by(WIDTH).for_each(|i| new[i] = question.mesh.corners[i]);
         let mut answer = right.clone();
         answer.lists[0] = Numbers::Words(new);
         answer
@@ -254,7 +262,7 @@ fn earlier_kept(mesh: &Mesh) -> Answer {
 
 fn missing_normal_is_0(question: &Question, right: &Answer) -> Option<Answer> {
     let mut mesh = question.mesh.clone();
-    (2..mesh.corners.len()).step_by(3).filter(|i| question.mesh.corners[*i] == MISSING).for_each(|i| mesh.corners[i] = 0);
+    (2..mesh.corners.len()).step_by(WIDTH).filter(|i| question.mesh.corners[*i] == MISSING).for_each(|i| mesh.corners[i] = 0);
     accepted(right, || Answer::rows(&panels::components(&mesh, question.use_normal)))
 }
 

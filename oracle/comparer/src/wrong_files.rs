@@ -1,5 +1,6 @@
 //! Misreadings of the writer of panel files and of the cleaner.
 
+use crate::files::{corner_bytes, count_bytes};
 use crate::wrong::{accepted, number, Wrong};
 use judge::reading::{cleaning, panel_file, sheet, writing};
 use judge::{Answer, Call, Mesh, Numbers, Question};
@@ -12,7 +13,7 @@ pub const WRITER: &[(&str, Wrong)] = &[
         written(right, |records| faces(records).for_each(|face| face[0] = face[0].wrapping_sub(1)))
     }),
     ("texture points before positions", |_, right| {
-        written(right, |records| records.sort_by_key(|r| [4, 1, 0, 2, 3, 3][kind(r)]))
+        written(right, |records| records.sort_by_key(|r| [4, 1, 0, 2, 3, 3, 3][kind(r)]))
     }),
     ("a face's corners in reverse", |_, right| written(right, |records| faces(records).for_each(corners_turned))),
     ("a negative zero written as zero", |_, right| written(right, zeros_without_sign)),
@@ -73,7 +74,7 @@ fn faces(records: &mut [Vec<u8>]) -> impl Iterator<Item = &mut Vec<u8>> {
 fn numbers_turned(records: &mut Vec<Vec<u8>>) {
     for record in records {
         match kind(record) {
-            kind @ 4..=5 => record[kind + 1..].chunks_mut(4).for_each(|index| index.reverse()),
+            kind @ 4..=6 => record[4 + count_bytes(kind)..].chunks_mut(4).for_each(|index| index.reverse()),
             _ => record[4..].chunks_mut(8).for_each(|coordinate| coordinate.reverse()),
         }
     }
@@ -84,8 +85,8 @@ fn headers_turned(records: &mut Vec<Vec<u8>>) {
 }
 
 fn corners_turned(face: &mut Vec<u8>) {
-    let corners = kind(face) + 1;
-    let turned: Vec<u8> = face[corners..].chunks(12).rev().flatten().copied().collect();
+    let corners = 4 + count_bytes(kind(face));
+    let turned: Vec<u8> = face[corners..].chunks(corner_bytes(kind(face))).rev().flatten().copied().collect();
     face.truncate(corners);
     face.extend(turned);
 }
@@ -110,7 +111,7 @@ fn room_first(question: &Question, right: &Answer) -> Option<Answer> {
 }
 
 /// A cleaner that does something else with the mesh.
-fn cleaned(question: &Question, right: &Answer, clean: impl Fn(Mesh) -> Mesh) -> Option<Answer> {
+pub fn cleaned(question: &Question, right: &Answer, clean: impl Fn(Mesh) -> Mesh) -> Option<Answer> {
     let mesh = panel_file::read(&question.file).ok()?;
     accepted(right, || Answer::bytes(writing::write(&clean(mesh.clone()))))
 }

@@ -1,10 +1,11 @@
 //! Misreadings of 'round tables have more than 32 sides': of the limit of a face, in every call that has one, and of kind 5, in the reader, in what reads
 //! and in the writer.
 
-use crate::files::{face_of_kind, record};
+use crate::files::{count_bytes, face_of_kind, record};
 use crate::one_by_one::header;
 use crate::wrong::Wrong;
 use crate::wrong_files::{kind, written};
+use judge::mesh::WIDTH;
 use judge::reading::{self, numbers, writing};
 use judge::{Answer, Call, Count, Numbers, Question};
 
@@ -42,7 +43,7 @@ const LIMIT: &[(&str, Wrong)] = &[STILL_32, REFUSED_300, TAKEN_301];
 const FACE: &[(&str, Wrong)] = &[
     ("no part where a face has more than 32 corners", |q, _| (largest(q) > SMALL).then(|| Answer::face(0, 0))),
     ("a part where a face has 301 corners", |q, _| {
-        (numbers::mesh_number(&q.mesh) == 3 && is_over_by_one(q)).then(|| Answer::face(0, 9))
+        (numbers::mesh_number(&q.mesh) == 3 && is_over_by_one(q)).then(|| Answer::face(0, 12))
     }),
 ];
 
@@ -142,8 +143,8 @@ fn of_number(right: &Answer, number: u32) -> Answer {
 /// The right file, in which some faces, by their number of corners and the bytes of these, are other records.
 fn rewritten(right: &Answer, change: fn(usize, &[u8]) -> Option<Vec<u8>>) -> Option<Answer> {
     written(right, |records| {
-        for face in records.iter_mut().filter(|record| kind(record) >= 4) {
-            let corners = face[kind(face) + 1..].to_vec();
+        for face in records.iter_mut().filter(|record| [4, 5].contains(&kind(record))) {
+            let corners = face[4 + count_bytes(kind(face))..].to_vec();
             if let Some(other) = change(corners.len() / 12, &corners) {
                 *face = other;
             }
@@ -151,17 +152,17 @@ fn rewritten(right: &Answer, change: fn(usize, &[u8]) -> Option<Vec<u8>>) -> Opt
     })
 }
 
-fn unknown(is_so: bool, body: &[u8]) -> Option<Vec<u8>> {
+pub fn unknown(is_so: bool, body: &[u8]) -> Option<Vec<u8>> {
     is_so.then(|| record(UNKNOWN, body))
 }
 
 /// A face that is refused by 3.
-fn too_large() -> Vec<u8> {
-    face_of_kind(5, &[0; 3 * (MOST + 1)])
+pub fn too_large() -> Vec<u8> {
+    face_of_kind(5, &[[0; WIDTH]; MOST + 1])
 }
 
 /// Where the records of a file end of which nothing is cut, and each of them.
-fn whole(file: &[u8]) -> (usize, Vec<(usize, &[u8])>) {
+pub fn whole(file: &[u8]) -> (usize, Vec<(usize, &[u8])>) {
     let (mut at, mut records) = (0, vec![]);
     while let Some((length, kind)) = header(file, at).filter(|(length, _)| at + 4 + length <= file.len()) {
         records.push((kind, &file[at + 4..at + 4 + length]));

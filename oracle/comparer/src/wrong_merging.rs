@@ -1,6 +1,6 @@
 //! Mergings with one misreading each.
 
-use judge::mesh::Merged;
+use judge::mesh::{Merged, INDICES, WIDTH};
 use judge::{Answer, Question, MISSING};
 
 /// Which misreading.
@@ -36,7 +36,11 @@ pub fn merging_by(question: &Question, misread: Option<Misread>, reach: &Reach) 
         column(&mesh.textures, 2, tolerance, misread, reach),
         column(&mesh.normals, 3, tolerance, misread, reach),
     ];
-    let new = |(i, index): (usize, &u32)| if *index == MISSING { MISSING } else { columns[i % 3].0[*index as usize] as u32 };
+    let new = |(i, number): (usize, &u32)| match (i % WIDTH, *number) {
+        (INDICES, mark) => mark,
+        (_, MISSING) => MISSING,
+        (column, index) => columns[column].0[index as usize] as u32,
+    };
     Answer::merged(Merged {
         corners: mesh.corners.iter().enumerate().map(new).collect(),
         pairs: [columns[0].1, columns[1].1, columns[2].1],

@@ -42,6 +42,7 @@ pub enum Misread {
     MiddleTurnedOver,
     TextureCarried,
     NormalCarried,
+    MarkCarried,
 }
 
 type Point = [f64; 3];
@@ -208,9 +209,11 @@ impl Net<'_> {
     }
 
     fn quarters(&self, [a, b, c]: [Corner; 3]) -> Vec<Vec<Corner>> {
-        let (texture, normal) = (self.misread == Misread::TextureCarried, self.misread == Misread::NormalCarried);
+        let carried = |misread: Misread, old: u32, new: u32| if self.misread == misread { old } else { new };
         let corner = |place: usize, old: Corner| {
-            [place as u32, if texture { old[1] } else { MISSING }, if normal { old[2] } else { MISSING }]
+            let (texture, normal) =
+                (carried(Misread::TextureCarried, old[1], MISSING), carried(Misread::NormalCarried, old[2], MISSING));
+            [place as u32, texture, normal, carried(Misread::MarkCarried, old[3], 0)]
         };
         let old = self.near.len();
         let middle = |one: Corner, other: Corner| {
@@ -219,7 +222,7 @@ impl Net<'_> {
         };
         let kept = |corner: Corner| {
             let moved = if self.misread == Misread::EdgesFirst { self.ends.len() as u32 } else { 0 };
-            [corner[0] + moved, corner[1], corner[2]]
+            [corner[0] + moved, corner[1], corner[2], corner[3]]
         };
         let (ab, bc, ca) = (middle(a, b), middle(b, c), middle(c, a));
         let (a, b, c) = (kept(a), kept(b), kept(c));

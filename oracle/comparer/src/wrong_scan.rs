@@ -145,7 +145,7 @@ fn mesh_of(facets: &[Facet], misread: Misread) -> Mesh {
     Mesh {
         positions: positions.into_iter().flatten().map(|bits| widened(bits, misread)).collect(),
         normals: normals.map(|bits| widened(bits, misread)).collect(),
-        corners: numbers.iter().enumerate().flat_map(|(i, number)| [*number, MISSING, normal(i)]).collect(),
+        corners: numbers.iter().enumerate().flat_map(|(i, number)| [*number, MISSING, normal(i), 0]).collect(),
         sizes: vec![3; points.len() / 3],
         ..Mesh::default()
     }

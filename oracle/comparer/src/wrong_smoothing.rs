@@ -2,6 +2,7 @@
 
 use crate::wrong::{accepted, number, Wrong};
 use crate::wrong_points::{smoothed, Misread};
+use judge::mesh::{Corner, INDICES, WIDTH};
 use judge::reading::edges::verdict;
 use judge::reading::numbers::{is_boundless, stated_rooms};
 use judge::reading::smoothing::loop_subdivision;
@@ -45,12 +46,14 @@ pub const SMOOTHING: &[(&str, Wrong)] = &[
     ("the middle triangle turned over", |q, right| points(q, right, Misread::MiddleTurnedOver)),
     ("inner corners with the texture of the old one", |q, right| points(q, right, Misread::TextureCarried)),
     ("inner corners with the normal of the old one", |q, right| points(q, right, Misread::NormalCarried)),
+    ("inner corners with the mark of the old one", |q, right| points(q, right, Misread::MarkCarried)),
+    ("old corners without their mark", |_, right| with_corners(right, |corner| corner[INDICES] = 0)),
     ("old corners without their texture", |_, right| without(right, 1)),
     ("old corners without their normal", |_, right| without(right, 2)),
     ("inner corners with texture 0", |_, right| zeros(right)),
     // The counts.
     ("positions counted by their numbers", |_, right| counted(right, 0, 3)),
-    ("corners counted by their numbers", |_, right| counted(right, 1, 3)),
+    ("corners counted by their numbers", |_, right| counted(right, 1, WIDTH as u64)),
     ("three faces counted for one", |q, right| {
         accepted(right, || {
             let mut answer = right.clone();
@@ -143,7 +146,7 @@ fn with_corners(right: &Answer, change: impl Fn(&mut [u32])) -> Option<Answer> {
     accepted(right, || {
         let mut answer = right.clone();
         if let Numbers::Words(corners) = &mut answer.lists[1] {
-            corners.chunks_mut(3).for_each(&change);
+            corners.chunks_mut(WIDTH).for_each(&change);
         }
         answer
     })
@@ -183,7 +186,7 @@ struct Faults {
 impl Faults {
     fn of(question: &Question) -> Faults {
         let mesh = &question.mesh;
-        let used: BTreeSet<u32> = mesh.corners.iter().step_by(3).copied().collect();
+        let used: BTreeSet<u32> = mesh.corners.iter().step_by(WIDTH).copied().collect();
         let is_folded = |positions: Vec<u32>| positions.iter().collect::<BTreeSet<_>>().len() < positions.len();
         Faults {
             boundless: mesh.positions.iter().any(is_boundless),
@@ -265,7 +268,7 @@ fn is_off(cosines: &[f64]) -> bool {
 }
 
 fn edges(mesh: &Mesh) -> BTreeSet<(u32, u32)> {
-    let ends = |face: &[[u32; 3]], i: usize| (face[i][0], face[(i + 1) % face.len()][0]);
+    let ends = |face: &[Corner], i: usize| (face[i][0], face[(i + 1) % face.len()][0]);
     let faces = mesh.faces();
     faces.iter().flat_map(|face| (0..face.len()).map(move |i| ends(face, i))).map(|(a, b)| (a.min(b), a.max(b))).collect()
 }
@@ -281,7 +284,7 @@ fn most_neighbours(mesh: &Mesh) -> usize {
 
 fn most_faces(mesh: &Mesh) -> usize {
     let mut counts = vec![0; mesh.positions.len() / 3];
-    mesh.corners.iter().step_by(3).for_each(|position| counts[*position as usize] += 1);
+    mesh.corners.iter().step_by(WIDTH).for_each(|position| counts[*position as usize] += 1);
     counts.into_iter().max().unwrap_or(0)
 }
 

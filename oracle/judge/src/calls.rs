@@ -1,6 +1,6 @@
 //! The calls of the product's C interface, what can be asked of each, and the one shape of all their answers.
 
-use crate::mesh::{Compacted, Merged, Mesh, Pushed, Smoothed, Unfolded, Verdict};
+use crate::mesh::{Compacted, Merged, Mesh, Pushed, Smoothed, Unfolded, Verdict, WIDTH};
 use crate::reading::smoothing::Cosines;
 
 #[derive(Clone, Copy, Debug, PartialEq, Eq)]
@@ -190,19 +190,19 @@ impl Answer {
     }
 
     pub fn pushed(made: Pushed) -> Answer {
-        let counts = [made.corners.len() / 3, made.sizes.len()];
+        let counts = [made.corners.len() / WIDTH, made.sizes.len()];
         Answer::done(vec![Numbers::Words(made.corners), Numbers::Words(made.sizes)], &counts)
     }
 
     /// The faces count their origins too.
     pub fn unfolded(made: Unfolded) -> Answer {
-        let counts = [made.corners.len() / 3, made.sizes.len()];
+        let counts = [made.corners.len() / WIDTH, made.sizes.len()];
         let lists = vec![Numbers::Words(made.corners), Numbers::Words(made.sizes), Numbers::Words(made.origins)];
         Answer::done(lists, &counts)
     }
 
     pub fn smoothed(made: Smoothed) -> Answer {
-        let counts = [made.positions.len() / 3, made.corners.len() / 3, made.sizes.len()];
+        let counts = [made.positions.len() / 3, made.corners.len() / WIDTH, made.sizes.len()];
         Answer::done(vec![Numbers::Floats(made.positions), Numbers::Words(made.corners), Numbers::Words(made.sizes)], &counts)
     }
 

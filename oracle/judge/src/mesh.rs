@@ -3,7 +3,11 @@
 /// The index that means 'missing'.
 pub const MISSING: u32 = 4_294_967_295;
 
-/// The five lists: three numbers to a position, a normal and a corner, two to a texture point.
+/// How many numbers a corner has, and how many of them the rules read: the last is its mark, which no rule tests.
+pub const WIDTH: usize = 4;
+pub const INDICES: usize = 3;
+
+/// The five lists: three numbers to a position and a normal, two to a texture point, `WIDTH` to a corner.
 #[derive(Clone, Debug, Default)]
 pub struct Mesh {
     pub positions: Vec<f64>,
@@ -13,18 +17,23 @@ pub struct Mesh {
     pub sizes: Vec<u32>,
 }
 
-/// Position, texture point and normal.
-pub type Corner = [u32; 3];
+/// Position, texture point, normal, and the mark, 0 for none (request 11 of document 02).
+pub type Corner = [u32; WIDTH];
 
 impl Mesh {
     pub fn corner_count(&self) -> usize {
-        self.corners.len() / 3
+        self.corners.len() / WIDTH
     }
 
     /// The faces of a mesh whose sizes add up to its corners.
     pub fn faces(&self) -> Vec<Vec<Corner>> {
-        let mut corners = self.corners.chunks(3).map(|corner| [corner[0], corner[1], corner[2]]);
+        let mut corners = self.corners.chunks(WIDTH).map(|corner| -> Corner { corner.try_into().unwrap() });
         self.sizes.iter().map(|size| corners.by_ref().take(*size as usize).collect()).collect()
+    }
+
+    /// The mark of each corner.
+    pub fn marks(&self) -> impl Iterator<Item = u32> + '_ {
+        self.corners.chunks(WIDTH).map(|corner| corner[INDICES])
     }
 
     /// The same attribute lists with other faces, in the order given.

@@ -1,9 +1,11 @@
 //! What the Rust answers: untouched, and in the copy whose maps and sets are read in ascending order.
 //!
 //! The Rust checks less than document 01 asks, and panics where document 01 refuses; so it is asked only where the question is accepted.
+//! Its corners are three numbers. It is handed the first three of ours, and the marks are carried beside it (request 11 of document 02): where corners
+//! move, it is asked once more about corners that are told apart.
 
 use crate::calls::{Answer, Call, Question};
-use crate::mesh::{Compacted, Merged, Mesh, Pushed, Smoothed, Unfolded, Verdict, MISSING};
+use crate::mesh::{Compacted, Merged, Mesh, Pushed, Smoothed, Unfolded, Verdict, INDICES, MISSING, WIDTH};
 use crate::reading::smoothing::COSINES;
 use std::f64::consts::PI;
 use truck_polymesh::{Faces, Point3, PolygonMesh, StandardAttributes, StandardVertex, Vector2, Vector3};
@@ -73,21 +75,42 @@ fn pushed(mesh: &Mesh) -> Faces {
     pushed
 }
 
-/// The same faces, told apart: every corner of face k has texture point k. There are fewer faces than a mesh may have texture points, so
-/// this is a mesh too, and always can be had.
+/// The same faces, told apart: corner k has texture point k. There may be more of these than a mesh of ours may have; the Rust has no limits.
 fn told_apart(mesh: &Mesh) -> Mesh {
-    let mut faces = mesh.faces();
-    for (number, face) in faces.iter_mut().enumerate() {
-        face.iter_mut().for_each(|corner| corner[1] = number as u32);
-    }
-    Mesh { textures: vec![0.0; 2 * faces.len()], ..mesh.with_faces(&faces) }
+    let mut corners = mesh.corners.clone();
+    (0..).zip(corners.chunks_mut(WIDTH)).for_each(|(number, corner)| corner[1] = number);
+    Mesh { textures: vec![0.0; 2 * mesh.corner_count()], corners, ..mesh.clone() }
 }
 
-/// The face that the corners of a result face came from, by their texture points; missing, which is no face, where they came from several.
-fn origin(face: &[StandardVertex]) -> u32 {
-    let origin = face[0].uv;
-    let is_one = face.iter().all(|corner| corner.uv == origin);
-    origin.filter(|_| is_one).map_or(MISSING, |number| number as u32)
+/// Which corner of the faces that were told apart each corner of the result is; none where it is a new one. Where the result is not like `made`, the
+/// result of the same call on the faces as they are, but for texture points, there are none at all: that is a difference.
+fn taken(faces: &Faces, made: &[u32], expected: &[u32]) -> Vec<Option<usize>> {
+    let is_alike = without_textures(&flat_corners(faces)) == without_textures(made) && sizes(faces) == expected;
+    faces.face_iter().flatten().filter(|_| is_alike).map(|corner| corner.uv).collect()
+}
+
+/// The corners of the Rust with the marks of those that they are; a new one has 0.
+fn with_marks(mesh: &Mesh, made: &[u32], taken: &[Option<usize>]) -> Vec<u32> {
+    let marks: Vec<u32> = mesh.marks().collect();
+    let mark = |corner: &Option<usize>| corner.map_or(0, |corner| marks[corner]);
+    made.chunks(INDICES).zip(taken).flat_map(|(corner, taken)| [corner[0], corner[1], corner[2], mark(taken)]).collect()
+}
+
+/// The corners of the Rust where none moves, each with the mark that it had.
+fn with_marks_kept(mesh: &Mesh, made: &[u32]) -> Vec<u32> {
+    let all: Vec<Option<usize>> = (0..mesh.corner_count()).map(Some).collect();
+    with_marks(mesh, made, &all)
+}
+
+/// The face that the corners of each result face came from; missing, which is no face, where they came from several.
+fn origins(mesh: &Mesh, taken: &[Option<usize>], sizes: &[u32]) -> Vec<u32> {
+    let face_of: Vec<u32> = (0..).zip(&mesh.sizes).flat_map(|(face, size)| vec![face; *size as usize]).collect();
+    let mut rest = taken.iter().map(|corner| corner.map_or(MISSING, |corner| face_of[corner]));
+    let origin = |size: &u32| {
+        let faces: Vec<u32> = rest.by_ref().take(*size as usize).collect();
+        faces.first().copied().filter(|first| faces.iter().all(|face| face == first)).unwrap_or(MISSING)
+    };
+    sizes.iter().map(origin).collect()
 }
 
 fn sizes(faces: &Faces) -> Vec<u32> {
@@ -96,9 +119,10 @@ fn sizes(faces: &Faces) -> Vec<u32> {
 
 /// The corners without their texture points.
 fn without_textures(corners: &[u32]) -> Vec<[u32; 2]> {
-    corners.chunks(3).map(|corner| [corner[0], corner[2]]).collect()
+    corners.chunks(INDICES).map(|corner| [corner[0], corner[2]]).collect()
 }
 
+/// Three numbers to a corner, as the Rust has them.
 fn flat_corners(faces: &Faces) -> Vec<u32> {
     let number = |index: Option<usize>| index.map_or(MISSING, |i| i as u32);
     faces.face_iter().flatten().flat_map(|v| [v.pos as u32, number(v.uv), number(v.nor)]).collect()

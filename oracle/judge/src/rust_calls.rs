@@ -4,37 +4,34 @@ pub fn remove_unused_attrs(mesh: &Mesh) -> Compacted {
     let mut rust = into_rust(mesh).unwrap();
     rust.remove_unused_attrs();
     Compacted {
-        corners: flat_corners(rust.faces()),
+        corners: with_marks_kept(mesh, &flat_corners(rust.faces())),
         positions: rust.positions().iter().flat_map(|p| [p.x, p.y, p.z]).collect(),
         textures: rust.uv_coords().iter().flat_map(|p| [p.x, p.y]).collect(),
         normals: rust.normals().iter().flat_map(|p| [p.x, p.y, p.z]).collect(),
     }
 }
 
+/// The Rust gives no origins and knows no marks. It is asked once more, about the same corners told apart by their texture points; no rule of the
+/// removal looks at these, so both results must be alike but for them, and say of each corner which one it is.
 pub fn remove_degenerate_faces(mesh: &Mesh) -> Unfolded {
-    let mut rust = into_rust(mesh).unwrap();
+    let (mut rust, mut apart) = (into_rust(mesh).unwrap(), into_rust(&told_apart(mesh)).unwrap());
     rust.remove_degenerate_faces();
+    apart.remove_degenerate_faces();
     let (corners, sizes) = (flat_corners(rust.faces()), sizes(rust.faces()));
-    Unfolded { origins: origins(mesh, &corners, &sizes), corners, sizes }
+    let taken = taken(apart.faces(), &corners, &sizes);
+    Unfolded { origins: origins(mesh, &taken, &sizes), corners: with_marks(mesh, &corners, &taken), sizes }
 }
 
-/// The Rust gives no origins. It is asked once more, about the same faces told apart by their texture points; no rule of the removal looks at
-/// these, so the faces of both results must be alike but for them. Where they are not, no origins are given: that is a difference.
-fn origins(mesh: &Mesh, corners: &[u32], expected: &[u32]) -> Vec<u32> {
-    let mut rust = into_rust(&told_apart(mesh)).unwrap();
-    rust.remove_degenerate_faces();
-    let is_alike = without_textures(&flat_corners(rust.faces())) == without_textures(corners) && sizes(rust.faces()) == expected;
-    rust.face_iter().filter(|_| is_alike).map(origin).collect()
-}
-
-/// The Rust leaves texture points and normals as they are.
+/// The Rust leaves texture points and normals as they are; which corners are old ones is told as in the removal.
 pub fn loop_subdivision(mesh: &Mesh) -> Smoothed {
-    let mut rust = into_rust(mesh).unwrap();
+    let (mut rust, mut apart) = (into_rust(mesh).unwrap(), into_rust(&told_apart(mesh)).unwrap());
     rust.loop_subdivision();
+    apart.loop_subdivision();
+    let (corners, sizes) = (flat_corners(rust.faces()), sizes(rust.faces()));
     Smoothed {
         positions: rust.positions().iter().flat_map(|p| [p.x, p.y, p.z]).collect(),
-        corners: flat_corners(rust.faces()),
-        sizes: sizes(rust.faces()),
+        corners: with_marks(mesh, &corners, &taken(apart.faces(), &corners, &sizes)),
+        sizes,
     }
 }
 
@@ -42,7 +39,7 @@ pub fn put_together_same_attrs(mesh: &Mesh, tolerance: f64) -> Merged {
     let mut rust = into_rust(mesh).unwrap();
     let pairs = compared_pairs(&rust, tolerance);
     rust.put_together_same_attrs(tolerance);
-    Merged { corners: flat_corners(rust.faces()), pairs }
+    Merged { corners: with_marks_kept(mesh, &flat_corners(rust.faces())), pairs }
 }
 
 pub fn shell_condition(mesh: &Mesh) -> Verdict {
@@ -72,7 +69,7 @@ fn face(mesh: &Mesh, k: usize) -> Answer {
     let rust = into_rust(mesh).unwrap();
     let before: usize = rust.face_iter().take(k).map(|face| face.len()).sum();
     if k < rust.faces().len() {
-        Answer::face(3 * before, 3 * rust.faces()[k].len())
+        Answer::face(WIDTH * before, WIDTH * rust.faces()[k].len())
     } else {
         Answer::face(0, 0)
     }
@@ -91,8 +88,9 @@ fn answered(call: Call, question: &Question) -> Option<Answer> {
         Call::ExtractBoundaries => Answer::rows(&extract_boundaries(mesh)),
         Call::Components => Answer::rows(&components(mesh, question.use_normal)),
         Call::Push => {
-            let faces = pushed(mesh);
-            Answer::pushed(Pushed { corners: flat_corners(&faces), sizes: sizes(&faces) })
+            let (faces, apart) = (pushed(mesh), pushed(&told_apart(mesh)));
+            let (corners, sizes) = (flat_corners(&faces), sizes(&faces));
+            Answer::pushed(Pushed { corners: with_marks(mesh, &corners, &taken(&apart, &corners, &sizes)), sizes })
         }
         Call::LoopSubdivision => Answer::smoothed(loop_subdivision(mesh)),
         Call::HouseWires | Call::ReadPanel | Call::WritePanel | Call::CleanPanel | Call::Sheet => return None,

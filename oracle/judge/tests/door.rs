@@ -95,7 +95,7 @@ fn the_writer_turns_it_down_after_5_and_before_9() {
         reading::answer(Call::WritePanel, &question).number
     };
     let good = Mesh { positions: vec![0.5; 6], textures: vec![0.5; 4], normals: vec![0.5; 6], ..Mesh::default() }
-        .with_faces(&[vec![[0, 0, 0]; 3]]);
+        .with_faces(&[vec![[0; 4]; 3]]);
     let room = writing::length(&good);
     assert_eq!([number(&good, room), number(&good, room - 1)], [0, 9]);
     for place in 0..16 {

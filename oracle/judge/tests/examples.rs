@@ -1,11 +1,12 @@
 //! The twelve examples of document 01, the sheet's example and the edges of the table, held to each of the three judges that answers.
 
+use judge::mesh::{Corner, WIDTH};
 use judge::{reading, rust, Answer, Call, Mesh, Question, MISSING};
 
 /// A mesh by positions only, with as many positions as are named.
 fn by_positions(faces: &[&[u32]]) -> Mesh {
     let count = faces.iter().flat_map(|face| face.iter()).max().map_or(0, |most| most + 1);
-    let faces: Vec<Vec<[u32; 3]>> = faces.iter().map(|face| face.iter().map(|p| [*p, MISSING, MISSING]).collect()).collect();
+    let faces: Vec<Vec<Corner>> = faces.iter().map(|face| face.iter().map(|p| [*p, MISSING, MISSING, 0]).collect()).collect();
     Mesh { positions: (0..3 * count).map(|i| i as f64).collect(), ..Mesh::default() }.with_faces(&faces)
 }
 
@@ -32,7 +33,7 @@ fn verdict(faces: &[&[u32]]) -> String {
 fn unfolded(face: &[u32]) -> Vec<Vec<u32>> {
     let mut mesh = by_positions(&[face]);
     mesh.textures = vec![0.0; 2 * face.len()];
-    (0..face.len()).for_each(|i| mesh.corners[3 * i + 1] = i as u32);
+    (0..face.len()).for_each(|i| mesh.corners[WIDTH * i + 1] = i as u32);
     judged(Call::RemoveDegenerateFaces, Question { mesh: mesh.clone(), ..Question::default() });
     let made = rust::untouched::remove_degenerate_faces(&mesh);
     Mesh { corners: made.corners, sizes: made.sizes, ..Mesh::default() }
@@ -114,7 +115,7 @@ fn each_face_has_the_number_of_the_face_it_came_from() {
 fn origins_do_not_go_by_what_the_corners_carry() {
     let mut mesh = by_positions(&[&[0, 1, 2], &[3, 4, 5, 3, 6, 7]]);
     mesh.textures = vec![0.5; 2];
-    mesh.corners.iter_mut().skip(1).step_by(3).for_each(|texture| *texture = 0);
+    mesh.corners.iter_mut().skip(1).step_by(WIDTH).for_each(|texture| *texture = 0);
     assert_eq!(origins(&mesh), [0, 1, 1]);
 }
 
@@ -123,7 +124,7 @@ fn example_9_compaction() {
     let mesh = by_positions(&[&[5, 2, 4]]);
     ask(Call::RemoveUnusedAttrs, &mesh);
     let made = rust::untouched::remove_unused_attrs(&mesh);
-    assert_eq!(made.corners, [0, MISSING, MISSING, 1, MISSING, MISSING, 2, MISSING, MISSING]);
+    assert_eq!(made.corners, [0, MISSING, MISSING, 0, 1, MISSING, MISSING, 0, 2, MISSING, MISSING, 0]);
     assert_eq!(made.positions, [15.0, 16.0, 17.0, 6.0, 7.0, 8.0, 12.0, 13.0, 14.0]);
 }
 
@@ -131,13 +132,13 @@ fn example_9_compaction() {
 fn examples_10_and_11_merging() {
     let mut mesh = by_positions(&[&[0, 1, 2]]);
     mesh.textures = vec![0.0, 0.0, 0.5, 0.0, 1.0, 0.0];
-    (0..3).for_each(|i| mesh.corners[3 * i + 1] = i as u32);
+    (0..3).for_each(|i| mesh.corners[WIDTH * i + 1] = i as u32);
     for (tolerance, textures) in [(0.5, [0, 1, 2]), (0.625, [1, 1, 1])] {
         let question = Question { mesh: mesh.clone(), tolerance, ..Question::default() };
         judged(Call::PutTogetherSameAttrs, question);
         let made = rust::ascending::put_together_same_attrs(&mesh, tolerance);
         assert_eq!(made.pairs[1], 3);
-        assert_eq!([made.corners[1], made.corners[4], made.corners[7]], textures);
+        assert_eq!([made.corners[1], made.corners[5], made.corners[9]], textures);
     }
 }
 
@@ -146,10 +147,10 @@ fn examples_10_and_11_merging() {
 fn of_equal_distances_the_first_in_walk_order() {
     let mut mesh = by_positions(&[&[0, 1, 2, 3]]);
     mesh.textures = vec![-0.25, 0.0, 0.0, 0.0, 0.0, 0.0, 0.25, 0.0];
-    (0..4).for_each(|i| mesh.corners[3 * i + 1] = i as u32);
+    (0..4).for_each(|i| mesh.corners[WIDTH * i + 1] = i as u32);
     let answer = judged(Call::PutTogetherSameAttrs, Question { mesh, tolerance: 1.0, ..Question::default() });
     let corners = format!("{:?}", answer.lists[0]);
-    assert_eq!(corners, format!("Words([0, 2, {0}, 1, 2, {0}, 2, 2, {0}, 3, 2, {0}])", MISSING));
+    assert_eq!(corners, format!("Words([0, 2, {0}, 0, 1, 2, {0}, 0, 2, 2, {0}, 0, 3, 2, {0}, 0])", MISSING));
 }
 
 #[test]
@@ -162,7 +163,7 @@ fn example_12_ported_wires() {
 #[test]
 fn a_cube_has_six_panels_by_normals_and_one_without() {
     let sides: [[u32; 4]; 6] = [[3, 2, 1, 0], [0, 1, 5, 4], [1, 2, 6, 5], [2, 3, 7, 6], [3, 0, 4, 7], [4, 5, 6, 7]];
-    let faces: Vec<Vec<[u32; 3]>> = (0..6).map(|n| sides[n].iter().map(|p| [*p, MISSING, n as u32]).collect()).collect();
+    let faces: Vec<Vec<Corner>> = (0..6).map(|n| sides[n].iter().map(|p| [*p, MISSING, n as u32, 0]).collect()).collect();
     let mesh = Mesh { positions: vec![0.0; 24], normals: vec![0.0; 18], ..Mesh::default() }.with_faces(&faces);
     for (use_normal, panels) in [(true, 6), (false, 1)] {
         judged(Call::Components, Question { mesh: mesh.clone(), use_normal, ..Question::default() });
@@ -196,8 +197,8 @@ fn the_sheet_of_document_01() {
 
 /// A mesh with something in each list, faces of three sizes, and coordinates of every kind that a file may have.
 fn furnished() -> Mesh {
-    let faces: Vec<Vec<[u32; 3]>> =
-        [3, 4, 32].iter().map(|n| (0..*n).map(|i| [i % 2, [0, MISSING][i as usize % 2], 0]).collect()).collect();
+    let faces: Vec<Vec<Corner>> =
+        [3, 4, 32].iter().map(|n| (0..*n).map(|i| [i % 2, [0, MISSING][i as usize % 2], 0, 0]).collect()).collect();
     let positions = vec![0.0, -0.0, f64::MIN_POSITIVE, 5e-324, -1.5, f64::MAX];
     let (textures, normals) = (vec![0.1, f64::MIN], vec![1.0, 2.0, -3.0]);
     Mesh { positions, textures, normals, ..Mesh::default() }.with_faces(&faces)
@@ -223,7 +224,7 @@ fn what_is_written_is_read_back_bit_for_bit() {
 /// Lengths, kinds and numbers with their lowest byte first; positions, texture points, normals, faces, end.
 #[test]
 fn a_written_file_byte_by_byte() {
-    let faces = [vec![[0, 0, MISSING], [258, MISSING, 0], [1, 0, 0]]];
+    let faces = [vec![[0, 0, MISSING, 0], [258, MISSING, 0, 0], [1, 0, 0, 0]]];
     let (positions, textures, normals) = (vec![1.0, -0.0, -2.0], vec![0.5, 0.0], vec![0.0, 0.0, f64::MAX]);
     let mesh = Mesh { positions, textures, normals, ..Mesh::default() }.with_faces(&faces);
     #[rustfmt::skip]
@@ -240,11 +241,11 @@ fn a_written_file_byte_by_byte() {
 #[test]
 fn the_longest_file_has_every_list_at_its_limit() {
     let sizes: Vec<u32> = (0..1_365).map(|face| if face < 1_364 { 3 } else { 4 }).collect();
-    let (points, texels, corners) = (vec![0.5; 3 * 2_048], vec![0.5; 2 * 2_048], vec![0; 3 * 4_096]);
+    let (points, texels, corners) = (vec![0.5; 3 * 2_048], vec![0.5; 2 * 2_048], [0, 0, 0, 1].repeat(4_096));
     let mesh = Mesh { positions: points.clone(), textures: texels, normals: points, corners, sizes };
     assert_eq!(reading::numbers::mesh_number(&mesh), 0);
     let file = reading::writing::write(&mesh);
-    assert_eq!((file.len(), reading::writing::LONGEST), (211_629, 211_629));
+    assert_eq!((file.len(), reading::writing::LONGEST), (229_378, 229_378));
     assert_eq!(bits(&reading::panel_file::read(&file).unwrap()), bits(&mesh));
 }
 
@@ -268,8 +269,8 @@ fn a_cleaned_file() {
     assert_eq!(reading::writing::clean(&file).unwrap(), file);
     assert_eq!(reading::sheet::sheet(&file), reading::sheet::sheet(&document()));
     assert_eq!(reading::writing::clean(&document()[..266]).err(), Some(11));
-    // Dropped faces of no corners, five bytes each, make a file as long as the longest and one that is longer.
-    let dropped = record(4, &[0]).repeat((211_629 - 4) / 5);
+    // Dropped faces of no corners, five bytes each, and two of one, seventeen each, make a file as long as the longest and one that is longer.
+    let dropped = [face_record(&[0]).repeat(2), record(4, &[0]).repeat((229_378 - 4 - 34) / 5)].concat();
     assert_eq!(reading::writing::clean(&[&dropped[..], &[0; 4]].concat()), Ok(vec![0; 4]));
     assert_eq!(reading::writing::clean(&[&dropped[..], &[0; 5]].concat()), Err(1));
 }
@@ -281,7 +282,7 @@ fn files_are_refused_in_order() {
     assert_eq!(read(&[&end]), 0);
     assert_eq!(read(&[]), 11);
     assert_eq!(read(&[&[0, 0, 0]]), 11);
-    assert_eq!(read(&[&record(6, &[]), &end]), 12);
+    assert_eq!(read(&[&record(7, &[]), &end]), 12);
     assert_eq!(read(&[&record(0, &[0]), &end]), 12);
     assert_eq!(read(&[&record(1, &[0; 23]), &end]), 12);
     assert_eq!(read(&[&record(1, &[0; 24])[..27]]), 11);
@@ -310,6 +311,6 @@ fn tolerances_on_both_sides() {
 
 #[test]
 fn sizes_do_not_wrap() {
-    let mesh = Mesh { corners: vec![0; 12], sizes: vec![MISSING, 5], ..Mesh::default() };
+    let mesh = Mesh { corners: vec![0; 4 * WIDTH], sizes: vec![MISSING, 5], ..Mesh::default() };
     assert_eq!(reading::numbers::mesh_number(&mesh), 2);
 }

@@ -1,5 +1,6 @@
 //! House wires at their smallest, by request 5 of document 02: where hems touch, where a face meets itself, and where wires begin.
 
+use judge::mesh::Corner;
 use judge::mesh::Verdict;
 use judge::reading::{edges, house::house_wires, panels, sheet, writing};
 use judge::{Mesh, MISSING};
@@ -8,7 +9,7 @@ use std::collections::BTreeSet;
 /// A mesh by positions only, with as many positions as are named.
 fn by_positions(faces: &[&[u32]]) -> Mesh {
     let count = faces.iter().flat_map(|face| face.iter()).max().map_or(0, |most| most + 1);
-    let faces: Vec<Vec<[u32; 3]>> = faces.iter().map(|face| face.iter().map(|p| [*p, MISSING, MISSING]).collect()).collect();
+    let faces: Vec<Vec<Corner>> = faces.iter().map(|face| face.iter().map(|p| [*p, MISSING, MISSING, 0]).collect()).collect();
     Mesh { positions: (0..3 * count).map(|i| i as f64).collect(), ..Mesh::default() }.with_faces(&faces)
 }
 

@@ -1,5 +1,6 @@
 //! 'Read the scanner's own file', the eighth request of document 02: what a scan is read as, and the order of its refusals.
 
+use judge::mesh::WIDTH;
 use judge::reading::numbers::stated_rooms;
 use judge::reading::scan::{read, sheet};
 use judge::reading::{self, numbers::mesh_number};
@@ -41,9 +42,9 @@ fn taken(file: &[u8]) -> (Vec<u32>, Vec<u64>) {
     let mesh = read(file).unwrap();
     assert_eq!(mesh_number(&mesh), 0);
     assert!(mesh.textures.is_empty() && mesh.normals.is_empty());
-    assert!(mesh.corners.chunks(3).all(|corner| corner[1..] == [MISSING, MISSING]));
+    assert!(mesh.corners.chunks(WIDTH).all(|corner| corner[1..] == [MISSING, MISSING, 0]));
     assert!(mesh.sizes.iter().all(|size| *size == 3));
-    (mesh.corners.iter().step_by(3).copied().collect(), mesh.positions.iter().map(|x| x.to_bits()).collect())
+    (mesh.corners.iter().step_by(WIDTH).copied().collect(), mesh.positions.iter().map(|x| x.to_bits()).collect())
 }
 
 /// So many triangles over so many different points: point i has i for its bits, so that most are subnormal.
@@ -174,7 +175,7 @@ fn a_scan_is_refused_in_order() {
 #[test]
 fn room_is_asked_first_and_at_the_full_limits() {
     let stated = stated_rooms(Call::ReadScan, &Mesh::default());
-    assert_eq!(stated, [6_144, 4_096, 6_144, 12_288, 1_365]);
+    assert_eq!(stated, [6_144, 4_096, 6_144, 16_384, 1_365]);
     let number = |file: &[u8], rooms: &[usize]| {
         let question = Question { file: file.to_vec(), rooms: rooms.to_vec(), ..Question::default() };
         reading::answer(Call::ReadScan, &question).number

@@ -1,12 +1,13 @@
 //! Smoothing at its smallest, held to each of the three judges, and the numbers that it refuses by, each beside a question that is accepted.
 
+use judge::mesh::{Corner, WIDTH};
 use judge::reading::numbers::stated_rooms;
 use judge::{reading, rust, Answer, Call, Count, Mesh, Numbers, Question, MISSING};
 
 /// Triangles over as many positions as are named, with coordinates that are rounded at every step.
 fn surface(faces: &[[u32; 3]]) -> Mesh {
     let count = faces.iter().flatten().max().map_or(0, |most| most + 1);
-    let faces: Vec<Vec<[u32; 3]>> = faces.iter().map(|face| face.map(|p| [p, MISSING, MISSING]).to_vec()).collect();
+    let faces: Vec<Vec<Corner>> = faces.iter().map(|face| face.map(|p| [p, MISSING, MISSING, 0]).to_vec()).collect();
     Mesh { positions: (0..3 * count).map(|i| 1.0 / (3.0 + i as f64)).collect(), ..Mesh::default() }.with_faces(&faces)
 }
 
@@ -42,7 +43,7 @@ fn judged(faces: &[[u32; 3]]) -> (Vec<f64>, Vec<u32>, Vec<Count>) {
 }
 
 fn by_position(corners: &[u32]) -> Vec<u32> {
-    corners.iter().step_by(3).copied().collect()
+    corners.iter().step_by(WIDTH).copied().collect()
 }
 
 /// A fan of so many triangles around position 0, closed or open.
@@ -71,17 +72,17 @@ fn one_triangle() {
     assert_eq!(counts, [Count::Is(6), Count::Is(12), Count::Is(4)]);
 }
 
-/// Old corners keep texture and normal, new ones have none; the Rust's own lists of both stay as they are.
+/// Old corners keep texture, normal and mark, new ones have none; the Rust's own lists of both stay as they are.
 #[test]
 fn textures_and_normals() {
     let mut mesh = surface(&[[0, 1, 2]]);
     mesh.textures = vec![0.25; 8];
     mesh.normals = vec![0.75; 3];
-    mesh.corners = vec![0, 3, 0, 1, MISSING, MISSING, 2, 1, MISSING];
+    mesh.corners = vec![0, 3, 0, 7, 1, MISSING, MISSING, 0, 2, 1, MISSING, MISSING];
     let made = rust::untouched::loop_subdivision(&mesh);
-    let whole: Vec<&[u32]> = made.corners.chunks(3).filter(|corner| corner[0] < 3).collect();
-    assert_eq!(whole, [&[0, 3, 0][..], &[2, 1, MISSING], &[1, MISSING, MISSING]]);
-    assert!(made.corners.chunks(3).filter(|corner| corner[0] >= 3).all(|corner| corner[1..] == [MISSING, MISSING]));
+    let whole: Vec<&[u32]> = made.corners.chunks(WIDTH).filter(|corner| corner[0] < 3).collect();
+    assert_eq!(whole, [&[0, 3, 0, 7][..], &[2, 1, MISSING, MISSING], &[1, MISSING, MISSING, 0]]);
+    assert!(made.corners.chunks(WIDTH).filter(|corner| corner[0] >= 3).all(|corner| corner[1..] == [MISSING, MISSING, 0]));
     let answer = reading::answer(Call::LoopSubdivision, &question(mesh.clone()));
     assert_eq!(format!("{:?}", answer), format!("{:?}", Answer::smoothed(made)));
 }
@@ -133,7 +134,7 @@ fn numbers_of_the_mesh() {
         assert_eq!(with(TWO, |q| q.mesh.normals = vec![coordinate; 3]), 0);
     }
     let larger = |q: &mut Question| {
-        q.mesh.corners.extend([0, MISSING, MISSING]);
+        q.mesh.corners.extend([0, MISSING, MISSING, 0]);
         q.mesh.sizes[1] = 4;
     };
     assert_eq!(with(TWO, larger), 15);
@@ -172,7 +173,7 @@ fn limits_and_rooms() {
     // The most positions that a result within the limits can have.
     let full = reading::answer(Call::LoopSubdivision, &question(surface(&apart(341))));
     assert_eq!(full.counts, [Count::Is(2_046), Count::Is(4_092), Count::Is(1_364)]);
-    assert_eq!(question(surface(TWO)).rooms, [3 * (4 + 6), 4 * 18, 8]);
+    assert_eq!(question(surface(TWO)).rooms, [3 * (4 + 6), 4 * 24, 8]);
     for list in 0..3 {
         assert_eq!(with(TWO, |q| q.rooms[list] -= 1), 9);
         assert_eq!(with(TWO, |q| q.rooms[list] += 1), 0);
@@ -186,22 +187,22 @@ fn the_order_of_the_numbers() {
     question.mesh.positions.push(f64::NAN);
     question.mesh.positions.extend([0.0; 2]);
     question.mesh.sizes[341] = 4;
-    question.mesh.corners.extend([0, MISSING, MISSING]);
-    question.mesh.corners[3] = 0;
-    question.mesh.corners.splice(9..18, [0, 3, 4].iter().flat_map(|p| [*p, MISSING, MISSING]));
+    question.mesh.corners.extend([0, MISSING, MISSING, 0]);
+    question.mesh.corners[WIDTH] = 0;
+    question.mesh.corners.splice(3 * WIDTH..6 * WIDTH, [0, 3, 4].iter().flat_map(|p| [*p, MISSING, MISSING, 0]));
     question.ones.clear();
     question.rooms = vec![0; 3];
     let mut numbers = vec![number(&question)];
     question.mesh.positions[3 * 344] = 0.0;
     numbers.push(number(&question));
     question.mesh.sizes[341] = 3;
-    question.mesh.corners.truncate(9 * 342);
+    question.mesh.corners.truncate(3 * WIDTH * 342);
     numbers.push(number(&question));
     question.mesh.positions.truncate(3 * 344);
     numbers.push(number(&question));
-    question.mesh.corners[3] = 1;
+    question.mesh.corners[WIDTH] = 1;
     numbers.push(number(&question));
-    question.mesh.corners.splice(9..18, [0, 2, 3].iter().flat_map(|p| [*p, MISSING, MISSING]));
+    question.mesh.corners.splice(3 * WIDTH..6 * WIDTH, [0, 2, 3].iter().flat_map(|p| [*p, MISSING, MISSING, 0]));
     numbers.push(number(&question));
     // Fewer neighbours: triangles that hang together in a row.
     let row: Vec<[u32; 3]> = (0..342).map(|k| if k % 2 == 0 { [k, k + 1, k + 2] } else { [k + 1, k, k + 2] }).collect();

@@ -2,14 +2,16 @@
 
 use comparer::meshes;
 use comparer::random::Random;
-use judge::mesh::Corner;
+use judge::mesh::{Corner, WIDTH};
 use judge::{Mesh, MISSING};
 
 const SEED: u64 = 13;
 
-/// The corner with this place among all corners of its faces: none is like another.
+/// The corner with this place among all corners of its faces: none is like another. One in three has no mark.
 fn corner(place: u32) -> Corner {
-    [place, if place % 4 == 1 { MISSING } else { 100 + place }, if place % 5 == 2 { MISSING } else { 200 + place }]
+    let texture = if place % 4 == 1 { MISSING } else { 100 + place };
+    let normal = if place % 5 == 2 { MISSING } else { 200 + place };
+    [place, texture, normal, if place % 3 == 0 { 0 } else { 300 + place }]
 }
 
 /// Faces of these sizes, over corners that are told apart.
@@ -18,9 +20,9 @@ fn of_sizes(sizes: &[u32]) -> Mesh {
     Mesh { corners, sizes: sizes.to_vec(), ..Mesh::default() }
 }
 
-/// So many corner numbers, all of them 0, under these sizes, which need not add up to them.
-fn dull(numbers: usize, sizes: &[u32]) -> Mesh {
-    Mesh { corners: vec![0; numbers], sizes: sizes.to_vec(), ..Mesh::default() }
+/// So many corners, all of whose numbers are 0, under these sizes, which need not add up to them.
+fn dull(corners: usize, sizes: &[u32]) -> Mesh {
+    Mesh { corners: vec![0; WIDTH * corners], sizes: sizes.to_vec(), ..Mesh::default() }
 }
 
 /// Every order of a triangle, a quadrangle and a larger face; what is dropped, at the front, between and at the end; where nothing is left.
@@ -56,15 +58,19 @@ pub fn orders() -> Vec<Mesh> {
     ];
     let mut meshes: Vec<Mesh> = rows.iter().map(|sizes| of_sizes(sizes)).collect();
     // 5 is never given: there is no list that an index could be held to.
-    meshes.push(Mesh { corners: vec![MISSING; 21], sizes: vec![4, 3], ..Mesh::default() });
-    meshes.push(Mesh { corners: vec![MISSING - 1, 0x8000_0000, 0, 1, 2, 3, 4, 5, 6], sizes: vec![3], ..Mesh::default() });
+    meshes.push(Mesh { corners: vec![MISSING; 7 * WIDTH], sizes: vec![4, 3], ..Mesh::default() });
+    meshes.push(Mesh {
+        corners: vec![MISSING - 1, 0x8000_0000, 0, MISSING, 1, 2, 3, 0x8000_0000, 4, 5, 6, 0],
+        sizes: vec![3],
+        ..Mesh::default()
+    });
     meshes
 }
 
 /// For the numbers 1, 2 and 3: faces that just earn one, or just do not.
 pub fn both_sides() -> Vec<Mesh> {
     let small = of_sizes(&[4, 3]);
-    let mut meshes = vec![full(), dull(3 * 4_096, &[32; 128]), dull(3 * 3_900, &[300; 13]), dull(0, &[0; 1_365]), small.clone()];
+    let mut meshes = vec![full(), dull(4_096, &[32; 128]), dull(3_900, &[300; 13]), dull(0, &[0; 1_365]), small.clone()];
     let mut with = |mesh: &Mesh, change: &dyn Fn(&mut Mesh)| {
         let mut changed = mesh.clone();
         change(&mut changed);
@@ -73,17 +79,17 @@ pub fn both_sides() -> Vec<Mesh> {
     // 1: a number over, or a corner, or a size, also where the sizes add up; before 2 and before 3.
     with(&full(), &|m| m.corners.push(0));
     with(&full(), &|m| m.sizes.push(0));
-    with(&dull(3 * 4_097, &[32; 128]), &|m| m.sizes.push(1));
-    with(&dull(3 * 4_097, &[32; 129]), &|_| ());
-    with(&dull(3 * 4_097, &[301; 14]), &|_| ());
-    with(&dull(3 * 4_096, &[300; 13]), &|m| m.sizes.push(196));
-    with(&dull(3 * 4_097, &[300; 13]), &|m| m.sizes.push(197));
+    with(&dull(4_097, &[32; 128]), &|m| m.sizes.push(1));
+    with(&dull(4_097, &[32; 129]), &|_| ());
+    with(&dull(4_097, &[301; 14]), &|_| ());
+    with(&dull(4_096, &[300; 13]), &|m| m.sizes.push(196));
+    with(&dull(4_097, &[300; 13]), &|m| m.sizes.push(197));
     with(&dull(0, &[0; 1_366]), &|_| ());
     // 2: no multiple of the width; sizes that don't add up, also where 32 bits would hide it; before 3.
     with(&small, &|m| m.corners.push(0));
-    with(&small, &|m| m.corners.truncate(20));
-    with(&small, &|m| m.corners.truncate(18));
-    with(&small, &|m| m.corners.extend([0; 3]));
+    with(&small, &|m| m.corners.truncate(7 * WIDTH - 1));
+    with(&small, &|m| m.corners.truncate(6 * WIDTH));
+    with(&small, &|m| m.corners.extend([0; WIDTH]));
     with(&small, &|m| m.sizes.push(1));
     with(&small, &|m| m.sizes[0] = 3);
     with(&small, &|m| m.sizes.clear());
@@ -92,10 +98,10 @@ pub fn both_sides() -> Vec<Mesh> {
     with(&small, &|m| m.sizes = vec![0x8000_0000, 0x8000_0007]);
     with(&small, &|m| m.sizes = vec![301, 7]);
     // 3: more than 300 corners, alone, first and last.
-    [32, 33, 299, 300, 301].into_iter().for_each(|n| with(&dull(3 * n as usize, &[n]), &|_| ()));
-    with(&dull(3 * 304, &[301, 3]), &|_| ());
-    with(&dull(3 * 306, &[2, 3, 301]), &|_| ());
-    with(&dull(3 * 4_096, &[4_096]), &|_| ());
+    [32, 33, 299, 300, 301].into_iter().for_each(|n| with(&dull(n as usize, &[n]), &|_| ()));
+    with(&dull(304, &[301, 3]), &|_| ());
+    with(&dull(306, &[2, 3, 301]), &|_| ());
+    with(&dull(4_096, &[4_096]), &|_| ());
     meshes
 }
 
@@ -103,7 +109,7 @@ pub fn both_sides() -> Vec<Mesh> {
 fn full() -> Mesh {
     let mut sizes = vec![3; 1_365];
     sizes[1_363] = 4;
-    let mut corners = vec![0; 3 * 4_089];
+    let mut corners = vec![0; WIDTH * 4_089];
     corners.extend((1..8).flat_map(corner));
     Mesh { corners, sizes, ..Mesh::default() }
 }
@@ -112,7 +118,7 @@ fn full() -> Mesh {
 /// earn 1, 2 and 3, which come before 9.
 pub fn for_short_rooms() -> Vec<Mesh> {
     let accepted = [of_sizes(&[4, 2, 3, 1]), of_sizes(&[5, 3, 4]), of_sizes(&[1])];
-    accepted.into_iter().chain([dull(3, &[0; 1_366]), dull(12, &[3]), dull(903, &[301])]).collect()
+    accepted.into_iter().chain([dull(1, &[0; 1_366]), dull(4, &[3]), dull(301, &[301])]).collect()
 }
 
 /// Random faces, shuffled so that some stands before one of an earlier kind. They go by no coordinate.

@@ -1,13 +1,14 @@
 //! Faces of more than 32 corners: files with kind 5 at each border of its lengths and of its count, what the writer makes of such faces, and rings of up to
 //! 300 corners that are folded in several ways.
 
-use crate::panel_files::{attribute, face, large_face, record, triangle, END};
+use crate::panel_files::{attribute, face, large_face, record, triangle, Bare, END};
 use crate::record::File;
 use crate::subjects::ring;
+use judge::mesh::WIDTH;
 use judge::{Mesh, MISSING};
 
 /// So many corners, each the first entry of each list.
-fn corners(count: usize) -> Vec<[u32; 3]> {
+fn corners(count: usize) -> Vec<Bare> {
     vec![[0; 3]; count]
 }
 
@@ -29,7 +30,7 @@ pub fn files() -> Vec<File> {
         let body = whole(count)[4..].to_vec();
         [body[..body.len() - 1].to_vec(), [&body[..], &[0]].concat()].map(|body| with(&record(5, &body)))
     }));
-    files.extend([6, 256 + 5].map(|kind| with(&record(kind, &whole(33)[4..]))));
+    files.extend([7, 256 + 5].map(|kind| with(&record(kind, &whole(33)[4..]))));
     // n unlike m: by one, in its high byte, in its low byte alone, over 300.
     files.extend(
         [(34, 33), (32, 33), (256 + 33, 33), (300 - 256, 300), (301, 300), (300, 301), (MISSING as u16, 33)]
@@ -55,7 +56,7 @@ pub fn files() -> Vec<File> {
 pub fn meshes() -> Vec<(Mesh, usize)> {
     let of_sizes = |sizes: &[usize]| {
         let lists = Mesh { positions: vec![0.5; 3], textures: vec![0.25; 2], normals: vec![-0.0; 3], ..Mesh::default() };
-        let corner = |i: usize| [0, [0, MISSING][i % 2], [MISSING, 0, 0][i % 3]];
+        let corner = |i: usize| [0, [0, MISSING][i % 2], [MISSING, 0, 0][i % 3], 0];
         lists.with_faces(&sizes.iter().map(|size| (0..*size).map(corner).collect()).collect::<Vec<_>>())
     };
     let mut asked: Vec<(Mesh, usize)> = [32, 33, 34, 255, 256, 299, 300].map(|size| (of_sizes(&[size]), 0)).into();
@@ -84,7 +85,7 @@ pub fn folded() -> Vec<Mesh> {
     ];
     let folded = |(corners, way): (usize, fn(u32) -> u32)| {
         let mut mesh = ring(corners);
-        mesh.corners.iter_mut().step_by(3).for_each(|position| *position = way(*position));
+        mesh.corners.iter_mut().step_by(WIDTH).for_each(|position| *position = way(*position));
         mesh
     };
     ways.map(folded).into()

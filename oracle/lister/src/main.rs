@@ -6,6 +6,7 @@
 mod broken;
 mod faces;
 mod large;
+mod marks;
 mod merging;
 mod panel_files;
 mod record;
@@ -23,9 +24,9 @@ use record::{File, List};
 /// The longest file that the list holds as an answer.
 const MOST_BYTES: usize = 4_096;
 
-/// The calls that the list asks: all but the sheets, of a panel file and of a scan, and merging by cell, which answers what the plain call does.
+/// The calls that the list asks: all but the sheets, of a panel file and of a scan.
 fn calls() -> impl Iterator<Item = Call> {
-    Call::ALL.into_iter().filter(|call| ![Call::Sheet, Call::ScanSheet, Call::PutTogetherByCell].contains(call))
+    Call::ALL.into_iter().filter(|call| ![Call::Sheet, Call::ScanSheet].contains(call))
 }
 
 /// Those that are asked of every mesh. Smoothing has surfaces of its own.
@@ -43,7 +44,7 @@ fn numbers(call: Call) -> &'static [u32] {
     match call {
         Call::Face => &[0],
         Call::MeshNumber | Call::ShellCondition => &[0, 1, 2, 3, 4, 5],
-        Call::PutTogetherSameAttrs => &[0, 1, 2, 3, 4, 5, 6, 7, 8, 9],
+        Call::PutTogetherSameAttrs | Call::PutTogetherByCell => &[0, 1, 2, 3, 4, 5, 6, 7, 8, 9],
         Call::HouseWires => &[0, 1, 2, 3, 4, 5, 9, 10],
         Call::ReadPanel | Call::CleanPanel => &[0, 1, 3, 5, 9, 11, 12, 13, 14],
         Call::ReadScan => &[0, 1, 9, 11, 13, 14],
@@ -148,10 +149,12 @@ impl Lister {
         }
     }
 
+    /// A mesh, put to both engines of merging.
     fn merging(&mut self, mesh: &Mesh, tolerance: f64) {
         self.list.mesh(mesh);
         let rooms = vec![mesh.corners.len()];
-        self.case(Call::PutTogetherSameAttrs, &Question { mesh: mesh.clone(), tolerance, rooms, ..Question::default() });
+        let question = Question { mesh: mesh.clone(), tolerance, rooms, ..Question::default() };
+        calls().filter(|call| call.merges()).for_each(|call| self.case(call, &question));
     }
 
     /// Faces in any order, put to `push`, with exact rooms or `more` in each.
@@ -212,10 +215,11 @@ fn list() -> Lister {
     for (i, Case { mesh, tolerance }) in subjects::at_random().iter().enumerate() {
         lister.mesh(mesh, *tolerance, i % 3);
     }
+    marks::meshes().iter().enumerate().for_each(|(i, mesh)| lister.mesh(mesh, 0.625, i % 3));
     let examples = subjects::examples();
     [&examples[10], &examples[11]].iter().for_each(|mesh| lister.short_rooms(mesh, 0.5));
     lister.short_rooms_of_removal(&examples[17]);
-    large::folded().iter().for_each(|mesh| lister.removal(mesh));
+    large::folded().iter().chain(&marks::folded()).for_each(|mesh| lister.removal(mesh));
     touching::meshes().iter().for_each(|mesh| lister.wires(mesh));
     subjects::that_merge().iter().for_each(|case| lister.merging(&case.mesh, case.tolerance));
     for asked in [merging::tolerances(), merging::coordinates(), merging::quotients(), merging::merges()] {
@@ -231,10 +235,10 @@ fn list() -> Lister {
     broken::files().iter().for_each(|file| {
         lister.file(file);
     });
-    large::files().iter().for_each(|file| {
+    large::files().iter().chain(&marks::files()).for_each(|file| {
         lister.file(file);
     });
-    broken::meshes().iter().chain(&large::meshes()).for_each(|(mesh, less)| lister.write(mesh, *less));
+    broken::meshes().iter().chain(&large::meshes()).chain(&marks::written()).for_each(|(mesh, less)| lister.write(mesh, *less));
     faces::orders().iter().chain(&faces::at_random()).enumerate().for_each(|(i, mesh)| {
         lister.faces(mesh, i % 3);
     });

@@ -1,6 +1,7 @@
 //! Questions to merging: a tolerance that is not a number, and both sides of the numbers 6, 7 and 8.
 
 use crate::subjects::furnished;
+use judge::mesh::WIDTH;
 use judge::Mesh;
 
 /// The next f64 above a positive one, and the one below it.
@@ -18,7 +19,7 @@ pub type Asked = (Mesh, f64);
 /// A triangle over three positions, three texture points and three normals, the third of these unused.
 fn triangle() -> Mesh {
     let mut mesh = furnished(&[&[0, 1, 2]]);
-    mesh.corners[8] = 1;
+    mesh.corners[2 * WIDTH + 2] = 1;
     mesh
 }
 
@@ -116,7 +117,7 @@ pub fn merges() -> Vec<Asked> {
         // The same points among the positions, with a third coordinate, and backwards among the normals.
         mesh.positions = row.chunks(2).flat_map(|p| [p[0], p[1], 0.25]).collect();
         mesh.normals = row.chunks(2).rev().flat_map(|p| [p[1], p[0], -0.5]).collect();
-        (0..count).for_each(|corner| mesh.corners[3 * corner + 2] = corner as u32);
+        (0..count).for_each(|corner| mesh.corners[WIDTH * corner + 2] = corner as u32);
         asked.push((mesh, tolerance));
     }
     asked

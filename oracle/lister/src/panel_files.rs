@@ -5,6 +5,7 @@ use crate::subjects::is_plain;
 use comparer::files;
 use comparer::meshes;
 use comparer::random::Random;
+use judge::mesh::Corner;
 use judge::reading::writing::LONGEST;
 use judge::{reading, MISSING};
 
@@ -18,17 +19,26 @@ pub fn attribute(kind: u16, numbers: &[f64]) -> Vec<u8> {
     record(kind, &numbers.iter().flat_map(|x| x.to_le_bytes()).collect::<Vec<u8>>())
 }
 
+/// A corner in kinds 4 and 5: three numbers, and no mark.
+pub type Bare = [u32; 3];
+
 /// A face of kind 4.
-pub fn face(corners: &[[u32; 3]]) -> Vec<u8> {
+pub fn face(corners: &[Bare]) -> Vec<u8> {
     record(4, &[&[corners.len() as u8][..], &indices(corners)].concat())
 }
 
 /// A face of kind 5, with a count that need not be that of its corners.
-pub fn large_face(count: u16, corners: &[[u32; 3]]) -> Vec<u8> {
+pub fn large_face(count: u16, corners: &[Bare]) -> Vec<u8> {
     record(5, &[&count.to_le_bytes()[..], &indices(corners)].concat())
 }
 
-fn indices(corners: &[[u32; 3]]) -> Vec<u8> {
+/// A face of kind 6, with a count that need not be that of its corners.
+pub fn marked_face(count: u16, corners: &[Corner]) -> Vec<u8> {
+    let numbers = corners.iter().flatten().flat_map(|number| number.to_le_bytes());
+    record(6, &count.to_le_bytes().into_iter().chain(numbers).collect::<Vec<u8>>())
+}
+
+fn indices(corners: &[Bare]) -> Vec<u8> {
     corners.iter().flatten().flat_map(|number| number.to_le_bytes()).collect()
 }
 
@@ -83,8 +93,8 @@ pub fn both_sides() -> Vec<File> {
     some.extend([1, 3, 5, 27, 28, 262, 263, 264, 266].map(|length| whole[..length].to_vec()));
     // 13: bytes after the end.
     some.extend([more(&[0]), more(&END)]);
-    // 12: an unknown kind; a length that is wrong for its kind; n unlike m. 3: n over 32 in kind 4. Kind 5 has a file of its own.
-    some.extend([vec![0, 0, 6, 0], vec![0, 0, 5, 0], vec![0, 0, 0, 1], vec![1, 0, 0, 0, 0], vec![0, 0, 4, 0]]);
+    // 12: an unknown kind; a length that is wrong for its kind; n unlike m. 3: n over 32 in kind 4. Kinds 5 and 6 have files of their own.
+    some.extend([vec![0, 0, 7, 0], vec![0, 0, 6, 0], vec![0, 0, 5, 0], vec![0, 0, 0, 1], vec![1, 0, 0, 0, 0], vec![0, 0, 4, 0]]);
     some.extend([record(1, &[0; 23]), record(1, &[0; 25]), record(2, &[0; 24]), record(3, &[0; 16])].map(|r| then_end(&r)));
     some.extend([record(4, &[0; 13]), record(4, &[1; 1]), record(4, &[2; 25]), record(4, &[0; 12])].map(|r| then_end(&r)));
     some.push(then_end(&[face(&[[MISSING; 3]; 2]), position.clone()].concat()));

@@ -113,7 +113,7 @@ fn kind(call: Call) -> u32 {
         Call::LoopSubdivision => 16,
         Call::ReadScan => 18,
         Call::Sheet | Call::ScanSheet => unreachable!("the list does not ask the sheets"),
-        Call::PutTogetherByCell => unreachable!("the list asks the plain call"),
+        Call::PutTogetherByCell => 19,
         _ => 1 + place(call) as u32,
     }
 }
@@ -122,7 +122,7 @@ fn kind(call: Call) -> u32 {
 fn given(call: Call, question: &Question) -> u64 {
     match call {
         Call::Face => question.face as u64,
-        Call::PutTogetherSameAttrs => question.tolerance.to_bits(),
+        Call::PutTogetherSameAttrs | Call::PutTogetherByCell => question.tolerance.to_bits(),
         Call::Components => question.use_normal as u64,
         _ => 0,
     }

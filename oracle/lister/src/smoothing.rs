@@ -3,7 +3,7 @@
 use crate::subjects;
 use comparer::random::Random;
 use comparer::surfaces;
-use judge::mesh::Corner;
+use judge::mesh::{Corner, WIDTH};
 use judge::reading::numbers::{stated_rooms, ATTRIBUTES, CORNERS, FACES};
 use judge::{reading, rust, Call, Mesh, Question, MISSING};
 
@@ -25,7 +25,7 @@ fn surface(triangles: &[[u32; 3]]) -> Mesh {
     let mut places = 0..corners;
     let mut corner = |position: u32| -> Corner {
         let place = places.next().unwrap();
-        [position, index(place, 4), index(place, 5)]
+        [position, index(place, 4), index(place, 5), if place % 3 == 2 { 0 } else { place + 1 }]
     };
     let faces: Vec<Vec<Corner>> = triangles.iter().map(|triangle| triangle.iter().map(|p| corner(*p)).collect()).collect();
     Mesh {
@@ -39,13 +39,13 @@ fn surface(triangles: &[[u32; 3]]) -> Mesh {
 
 /// The same with no texture, no normal and all coordinates equal: it takes few words.
 fn dull(triangles: &[[u32; 3]]) -> Mesh {
-    let faces: Vec<Vec<Corner>> = triangles.iter().map(|t| t.map(|p| [p, MISSING, MISSING]).to_vec()).collect();
+    let faces: Vec<Vec<Corner>> = triangles.iter().map(|t| t.map(|p| [p, MISSING, MISSING, 0]).to_vec()).collect();
     Mesh { positions: vec![0.25; 3 * positions(triangles)], ..Mesh::default() }.with_faces(&faces)
 }
 
 /// The stated rooms, or those of a mesh at the full limits: what needs more is refused before its rooms are looked at.
 fn rooms(mesh: &Mesh) -> Vec<usize> {
-    let full = [3 * ATTRIBUTES, 3 * CORNERS, FACES];
+    let full = [3 * ATTRIBUTES, WIDTH * CORNERS, FACES];
     stated_rooms(Call::LoopSubdivision, mesh).into_iter().zip(full).map(|(stated, full)| stated.min(full)).collect()
 }
 
@@ -177,7 +177,7 @@ fn of_sizes(sizes: &[u32]) -> Mesh {
     let corners = sizes.iter().sum::<u32>();
     Mesh {
         positions: vec![0.25; 3 * corners as usize],
-        corners: (0..corners).flat_map(|p| [p, MISSING, MISSING]).collect(),
+        corners: (0..corners).flat_map(|p| [p, MISSING, MISSING, 0]).collect(),
         sizes: sizes.to_vec(),
         ..Mesh::default()
     }
@@ -247,7 +247,7 @@ pub fn ordered() -> Vec<Question> {
         // 15 before 16 and 10.
         with(larger(), |q| q.mesh.corners[0] = 1),
         with(larger(), |q| q.mesh.positions.extend([0.25; 3])),
-        with(larger(), |q| q.mesh.corners[9..].copy_from_slice(&[0, 1, 3, 2].map(|p| [p, MISSING, MISSING]).concat())),
+        with(larger(), |q| q.mesh.corners[3 * WIDTH..].copy_from_slice(&[0, 1, 3, 2].map(|p| [p, MISSING, MISSING, 0]).concat())),
         // 16 before 10, folded and unused.
         asked(dull(&[[0, 1, 2], [0, 1, 2], [0, 0, 1]])),
         with(crossing(), |q| q.mesh.positions.extend([0.25; 3])),

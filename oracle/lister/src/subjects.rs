@@ -2,6 +2,7 @@
 
 use comparer::meshes::{self, Case};
 use comparer::random::Random;
+use judge::mesh::{Corner, WIDTH};
 use judge::reading::{self, numbers::mesh_number};
 use judge::{Call, Mesh, Question, MISSING};
 
@@ -10,7 +11,7 @@ const SEED: u64 = 8;
 /// Faces by positions alone, over as many positions as are named, all of them apart.
 pub fn by_positions(faces: &[&[u32]]) -> Mesh {
     let count = faces.iter().flat_map(|face| face.iter()).max().map_or(0, |most| most + 1);
-    let faces: Vec<Vec<[u32; 3]>> = faces.iter().map(|face| face.iter().map(|p| [*p, MISSING, MISSING]).collect()).collect();
+    let faces: Vec<Vec<Corner>> = faces.iter().map(|face| face.iter().map(|p| [*p, MISSING, MISSING, 0]).collect()).collect();
     Mesh { positions: (0..3 * count).map(|i| i as f64).collect(), ..Mesh::default() }.with_faces(&faces)
 }
 
@@ -21,8 +22,8 @@ pub fn furnished(faces: &[&[u32]]) -> Mesh {
     mesh.textures = (0..2 * corners).map(|i| i as f64 * 0.5).collect();
     mesh.normals = (0..9).map(|i| i as f64 * -0.25).collect();
     for corner in 0..corners {
-        mesh.corners[3 * corner + 1] = corner as u32;
-        mesh.corners[3 * corner + 2] = [0, 1, 2, MISSING][corner % 4];
+        mesh.corners[WIDTH * corner + 1] = corner as u32;
+        mesh.corners[WIDTH * corner + 2] = [0, 1, 2, MISSING][corner % 4];
     }
     mesh
 }
@@ -81,7 +82,7 @@ pub fn both_sides() -> Vec<Mesh> {
     with(&small, &|m| m.normals.push(0.5));
     with(&small, &|m| m.normals.truncate(8));
     with(&small, &|m| m.corners.push(0));
-    with(&small, &|m| m.corners.truncate(33));
+    with(&small, &|m| m.corners.truncate(11 * WIDTH));
     with(&small, &|m| m.sizes[2] = 6);
     with(&small, &|m| m.sizes = vec![MISSING, 13]);
     with(&small, &|m| m.sizes.clear());
@@ -104,15 +105,15 @@ pub fn both_sides() -> Vec<Mesh> {
     with(&small, &|m| m.sizes = vec![7, 5]);
     with(&small, &|m| m.sizes = vec![4, 4, 4]);
     // 5: at its list's count and one below, missing, far beyond, in the first and in the last corner.
-    with(&small, &|m| m.corners[33] = 5);
+    with(&small, &|m| m.corners[11 * WIDTH] = 5);
     with(&small, &|m| m.corners[0] = MISSING);
     with(&small, &|m| m.corners[0] = MISSING - 1);
-    with(&small, &|m| m.corners[34] = 12);
+    with(&small, &|m| m.corners[11 * WIDTH + 1] = 12);
     with(&small, &|m| m.corners[1] = 0x8000_0000);
-    with(&small, &|m| m.corners[34] = MISSING);
-    with(&small, &|m| m.corners[35] = 3);
+    with(&small, &|m| m.corners[11 * WIDTH + 1] = MISSING);
+    with(&small, &|m| m.corners[11 * WIDTH + 2] = 3);
     with(&small, &|m| m.corners[2] = MISSING - 1);
-    with(&small, &|m| m.corners[35] = 2);
+    with(&small, &|m| m.corners[11 * WIDTH + 2] = 2);
     meshes
 }
 
@@ -132,7 +133,7 @@ fn full() -> Mesh {
         positions: vec![0.0; 3 * 2_048],
         textures: vec![0.0; 2 * 2_048],
         normals: vec![0.0; 3 * 2_048],
-        corners: vec![0; 3 * 4_096],
+        corners: vec![0; WIDTH * 4_096],
         sizes,
     }
 }
@@ -140,14 +141,14 @@ fn full() -> Mesh {
 /// One face with so many corners.
 pub fn ring(corners: usize) -> Mesh {
     let positions = vec![0.25; 3 * corners];
-    let faces = [(0..corners as u32).map(|i| [i, MISSING, MISSING]).collect()];
+    let faces = [(0..corners as u32).map(|i| [i, MISSING, MISSING, 0]).collect()];
     Mesh { positions, ..Mesh::default() }.with_faces(&faces)
 }
 
 /// One face with so many corners, all of them one.
 fn folded_ring(corners: usize) -> Mesh {
     Mesh { positions: vec![0.25; 3], textures: vec![0.5; 2], normals: vec![1.5; 3], ..Mesh::default() }
-        .with_faces(&[vec![[0; 3]; corners]])
+        .with_faces(&[vec![[0; WIDTH]; corners]])
 }
 
 /// Whether a tolerance is the same on every machine: the others are made with logarithms, whose last bit is the machine's own affair, and
@@ -203,7 +204,7 @@ pub fn that_merge() -> Vec<Case> {
     cases
 }
 
-/// In which columns merging changes an index.
+/// In which columns merging changes an index. (It changes no mark.)
 fn changed_columns(case: &Case) -> [bool; 3] {
     let Case { mesh, tolerance } = case;
     let rooms = vec![mesh.corners.len()];
@@ -214,7 +215,7 @@ fn changed_columns(case: &Case) -> [bool; 3] {
     let mut columns = [false; 3];
     if let judge::Numbers::Words(corners) = &answer.lists[0] {
         for (place, (new, old)) in corners.iter().zip(&mesh.corners).enumerate() {
-            columns[place % 3] |= new != old;
+            columns[place % WIDTH % 3] |= new != old;
         }
     }
     columns

@@ -8,7 +8,7 @@
 #![no_main]
 
 use barleyhinge::{clean_panel, read_panel, read_scan, sheet, Faces, Mesh, OwnedMesh, Refusal, Rows};
-use barleyhinge::{FILE_ROOM, MAX_ENTRIES, MAX_FACES, MAX_FILE};
+use barleyhinge::{CORNER_WIDTH, FILE_ROOM, MAX_ENTRIES, MAX_FACES, MAX_FILE};
 use std::io::Read;
 use std::os::raw::{c_char, c_int};
 
@@ -60,7 +60,7 @@ fn print_more(mesh: Mesh) -> Result<(), Refusal> {
     let start = if part.is_empty() { 0 } else { mesh.corners.len() - part.len() };
     println!("last face {start} {}", part.len());
     let turned = turned(mesh)?;
-    println!("grouped {} of {}", turned.corners.len() / 3, turned.sizes.len());
+    println!("grouped {} of {}", turned.corners.len() / CORNER_WIDTH, turned.sizes.len());
     println!("hem edges {}", mesh.hem_edges()?.len());
     print_rows("ported", &mesh.extract_boundaries()?);
     for tolerance in [0.125, 2.0] {

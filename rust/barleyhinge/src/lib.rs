@@ -27,6 +27,9 @@ pub use numbers::{Refusal, Verdict};
 /// The index that means 'missing'.
 pub const MISSING: u32 = 4_294_967_295;
 
+/// How many numbers a corner has: the index of its position, of its texture point and of its normal, and its mark, 0 for none.
+pub const CORNER_WIDTH: usize = 4;
+
 /// The most positions, texture points or normals of a mesh.
 pub const MAX_ENTRIES: usize = 2_048;
 
@@ -48,11 +51,12 @@ pub const MAX_FILE: usize = 65_536;
 /// Room for every sheet, in bytes.
 pub const SHEET_ROOM: usize = 65_536;
 
-/// Room for every panel file that a mesh can make, in bytes: all of its lists are at their limits.
-pub const FILE_ROOM: usize = 211_629;
+/// Room for every panel file that a mesh can make, in bytes: all of its lists are at their limits, and every face has a mark.
+pub const FILE_ROOM: usize = 229_378;
 
-/// A mesh in five lists that are only read: 3 numbers to a position, 2 to a texture point, 3 to a normal; 3 indices to a corner
-/// (position, texture point, normal); and how many corners each face has: triangles first, then quadrangles, then larger faces.
+/// A mesh in five lists that are only read: 3 numbers to a position, 2 to a texture point, 3 to a normal; [`CORNER_WIDTH`] to a corner
+/// (the indices of position, texture point and normal, and the mark, which no rule tests and which moves with its corner); and how many corners each
+/// face has: triangles first, then quadrangles, then larger faces.
 #[derive(Clone, Copy, Debug, Default)]
 pub struct Mesh<'a> {
     pub positions: &'a [f64],
@@ -191,7 +195,7 @@ macro_rules! read {
             positions: vec![0.0; 3 * MAX_ENTRIES],
             textures: vec![0.0; 2 * MAX_ENTRIES],
             normals: vec![0.0; 3 * MAX_ENTRIES],
-            corners: vec![0; 3 * MAX_CORNERS],
+            corners: vec![0; CORNER_WIDTH * MAX_CORNERS],
             sizes: vec![0; MAX_FACES],
         };
         let (mut positions, mut textures, mut normals, mut corners, mut faces) = (0, 0, 0, 0, 0);
@@ -220,7 +224,7 @@ macro_rules! read {
         read.positions.truncate(3 * positions);
         read.textures.truncate(2 * textures);
         read.normals.truncate(3 * normals);
-        read.corners.truncate(3 * corners);
+        read.corners.truncate(CORNER_WIDTH * corners);
         read.sizes.truncate(faces);
         Ok(read)
     }};
@@ -248,7 +252,7 @@ impl Faces {
             )
         };
         Refusal::unless_done(number)?;
-        made.corners.truncate(3 * corner_count);
+        made.corners.truncate(CORNER_WIDTH * corner_count);
         made.sizes.truncate(face_count);
         Ok(made)
     }
@@ -256,12 +260,19 @@ impl Faces {
 
 impl<'a> Mesh<'a> {
     fn corner_count(self) -> usize {
-        self.corners.len() / 3
+        self.corners.len() / CORNER_WIDTH
     }
 
-    /// How many faces are of kind 5 in a panel file, whose count has a byte more.
-    fn wide_faces(self) -> usize {
-        self.sizes.iter().filter(|size| **size > 32).count()
+    /// How many bytes the faces have in a panel file. (Of lists that are no mesh, and have no file, the corners that are there.)
+    fn face_bytes(self) -> usize {
+        let (mut rest, mut bytes) = (self.corners, 0);
+        for size in self.sizes {
+            let corners = (*size as usize).min(rest.len() / CORNER_WIDTH);
+            let (face, behind) = rest.split_at(CORNER_WIDTH * corners);
+            bytes += face_length(corners, face.chunks(CORNER_WIDTH).any(|corner| corner[CORNER_WIDTH - 1] != 0));
+            rest = behind;
+        }
+        bytes
     }
 
     /// Is this a mesh? Else the first of the numbers 1 to 5 that applies.
@@ -269,7 +280,7 @@ impl<'a> Mesh<'a> {
         Refusal::unless_done(on!(self, bh_mesh_number))
     }
 
-    /// The corners of face `k`, three numbers to each: a part of the mesh's own list. Nothing where `k` is no face or the lists earn 1
+    /// The corners of face `k`, [`CORNER_WIDTH`] numbers to each: a part of the mesh's own list. Nothing where `k` is no face or the lists earn 1
     /// to 4.
     pub fn face(self, k: usize) -> &'a [u32] {
         let (mut start, mut len) = (0, 0);
@@ -328,7 +339,7 @@ impl<'a> Mesh<'a> {
             &mut faces
         );
         Refusal::unless_done(number)?;
-        made.corners.truncate(3 * corners);
+        made.corners.truncate(CORNER_WIDTH * corners);
         made.sizes.truncate(faces);
         origins.truncate(faces);
         Ok(Unfolded { faces: made, origins })
@@ -371,7 +382,7 @@ impl<'a> Mesh<'a> {
     }
 
     /// Smoothing by Loop's method: four triangles for one, old positions moved and one new position on each edge. Texture points and
-    /// normals are the mesh's own; the corners on edges have neither. Refuses 7, 15 (a face is no triangle), 16 (a face is folded, or a
+    /// normals are the mesh's own; the corners on edges have neither, and no mark. Refuses 7, 15 (a face is no triangle), 16 (a face is folded, or a
     /// position is in no face), 10, 17 and 1 (more than 341 faces), in this order.
     pub fn loop_subdivision(self, cosines: &Cosines) -> Result<OwnedMesh, Refusal> {
         let mut made = OwnedMesh {
@@ -401,7 +412,7 @@ impl<'a> Mesh<'a> {
         );
         Refusal::unless_done(number)?;
         made.positions.truncate(3 * positions);
-        made.corners.truncate(3 * corners);
+        made.corners.truncate(CORNER_WIDTH * corners);
         made.sizes.truncate(faces);
         Ok(made)
     }
@@ -439,23 +450,30 @@ impl<'a> Mesh<'a> {
         rows!(self, bh_components, self.corner_count(), use_normal)
     }
 
-    /// The mesh as a panel file: positions, texture points, normals, faces in their order, end; faces of up to 32 corners are records of kind 4, larger ones of kind 5. [`read_panel`] gives the same mesh back,
-    /// bit for bit. Refuses 14 where a coordinate is not finite.
+    /// The mesh as a panel file: positions, texture points, normals, faces in their order, end; faces with a mark are records of kind 6, others of up to 32
+    /// corners of kind 4, larger ones of kind 5. [`read_panel`] gives the same mesh back, bit for bit. Refuses 14 where a coordinate is not finite.
     pub fn to_panel(self) -> Result<Vec<u8>, Refusal> {
         let mut file = vec![
             0;
             28 * (self.positions.len() / 3)
                 + 20 * (self.textures.len() / 2)
                 + 28 * (self.normals.len() / 3)
-                + 5 * self.sizes.len()
-                + self.wide_faces()
-                + 12 * self.corner_count()
+                + self.face_bytes()
                 + 4
         ];
         let mut length = 0;
         Refusal::unless_done(on!(self, bh_write_panel, file.as_mut_ptr(), file.len(), &mut length))?;
         file.truncate(length);
         Ok(file)
+    }
+}
+
+/// How many bytes the record of a face of `n` corners has: one with a mark is of kind 6, one of more than 32 corners of kind 5, any other of kind 4.
+fn face_length(n: usize, is_marked: bool) -> usize {
+    match is_marked {
+        true => 4 + 2 + 16 * n,
+        false if n > 32 => 4 + 2 + 12 * n,
+        false => 4 + 1 + 12 * n,
     }
 }
 

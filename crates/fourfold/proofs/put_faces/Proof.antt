@@ -1,6 +1,7 @@
 -- `fourfold::put_faces` meets its contract: face after face is written behind the last. Assumes nothing.
 use Prim.Native.Nat.{_/_, _-_}
 use lib.ListN.{length}
+use Rattle.fourfold.specs.Working.{triangleNumbers}
 use Rattle.fourfold.proofs.Fours.{Folding, folding-begins, folding-long, folding-room, folding-turns, folding-ends}
 use borrow.Author.Needs.{needs}
 use native.Mathlib.Omega.{arith}
@@ -11,7 +12,7 @@ abbrev Inv-loop : tie.InvT-loop
 Inv-loop corners numbers positions out₀ count k₀ out k = Folding corners positions out₀ out k
 
 abbrev μ-loop : tie.MeasureT-loop
-μ-loop corners numbers positions out₀ count k₀ out k = length corners / 9 - k
+μ-loop corners numbers positions out₀ count k₀ out k = length corners / triangleNumbers - k
 
 loop-holds : tie.Need-loop-holds Inv-loop μ-loop
 loop-holds c =

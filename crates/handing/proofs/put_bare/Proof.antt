@@ -1,8 +1,8 @@
--- `handing::put_bare` meets its contract: three numbers, one behind the other. Assumes nothing.
+-- `handing::put_bare` meets its contract: the numbers of a corner, one behind the other. Assumes nothing.
 use denote.Ref.{now}
 use lib.ListN.{length-set}
 use Rattle.mesh.specs.Mesh.{missing}
-use Rattle.lists.proofs.Stores.{three-stores}
+use Rattle.handing.proofs.Growth.{four-stores}
 use native.Mathlib.Omega.{arith}
 use borrow.Author.Needs.{needs}
 use Rattle.handing.proofs.put_bare.Statement.{statement}
@@ -32,13 +32,22 @@ mul-corners-3 c = search needs
 slice-write-corners-3 : tie.Need-slice-write-corners-3
 slice-write-corners-3 c = simp length-set (omega arith)
 
+add-corners-3 : tie.Need-add-corners-3
+add-corners-3 c = search needs
+
+mul-corners-4 : tie.Need-mul-corners-4
+mul-corners-4 c = search needs
+
+slice-write-corners-4 : tie.Need-slice-write-corners-4
+slice-write-corners-4 c = simp length-set (omega arith)
+
 same-length : tie.Need-same-length
 same-length c = search needs
 
 returns : tie.Need-returns
 returns c =
     let a = c .args in
-    three-stores (now (a .corners)) (a .at) (a .number) missing missing
+    four-stores (now (a .corners)) (a .at) (a .number) missing missing 0
 
 pub put-bare-spec : {M : Type 1} → statement M
 put-bare-spec =
@@ -52,5 +61,8 @@ put-bare-spec =
     add-corners-2
     mul-corners-3
     slice-write-corners-3
+    add-corners-3
+    mul-corners-4
+    slice-write-corners-4
     same-length
     returns)

@@ -114,21 +114,39 @@ mul-out-5 c = let i = inside (c .before .before .before .before .before .before)
 slice-write-out-3 : tie.Need-slice-write-out-3 Inv-loop μ-loop
 slice-write-out-3 c = let i = inside (c .before .before .before .before .before .before) in simp length-set (omega (arith, i .few, i .read, i .write))
 
+add-out-3 : tie.Need-add-out-3 Inv-loop μ-loop
+add-out-3 c = let i = inside (c .before .before .before .before .before .before) in omega (arith, i .few, i .read, i .write)
+
+mul-out-6 : tie.Need-mul-out-6 Inv-loop μ-loop
+mul-out-6 c = let i = inside (c .before .before .before .before .before .before) in omega (arith, i .few, i .read, i .write)
+
+shared-slice-read-out-3 : tie.Need-shared-slice-read-out-3 Inv-loop μ-loop
+shared-slice-read-out-3 c = let i = inside (c .before .before .before .before .before .before .before) in omega (arith, i .few, i .read, i .write)
+
+add-out-4 : tie.Need-add-out-4 Inv-loop μ-loop
+add-out-4 c = let i = inside (c .before .before .before .before .before .before .before) in omega (arith, i .few, i .read, i .write)
+
+mul-out-7 : tie.Need-mul-out-7 Inv-loop μ-loop
+mul-out-7 c = let i = inside (c .before .before .before .before .before .before .before) in omega (arith, i .few, i .read, i .write)
+
+slice-write-out-4 : tie.Need-slice-write-out-4 Inv-loop μ-loop
+slice-write-out-4 c = let i = inside (c .before .before .before .before .before .before .before) in simp length-set (omega (arith, i .few, i .read, i .write))
+
 add-k : tie.Need-add-k Inv-loop μ-loop
-add-k c = let i = inside (c .before .before .before .before .before .before) in omega (arith, i .few, i .read, i .write)
+add-k c = let i = inside (c .before .before .before .before .before .before .before) in omega (arith, i .few, i .read, i .write)
 
 loop-less : tie.Need-loop-less Inv-loop μ-loop
-loop-less c = omega (arith, c .before .before .before .before .before .before .loop-test .taken)
+loop-less c = omega (arith, c .before .before .before .before .before .before .before .loop-test .taken)
 
 loop-again : tie.Need-loop-again Inv-loop μ-loop
 loop-again c =
-    let args = c .before .before .before .before .before .before .before .before .before .before .before .before .before .args in
-    let loop = c .before .before .before .before .before .before .before .loop in
-    let test = c .before .before .before .before .before .before .loop-test in
-    let sent = c .before .before .sent in
-    let sent2 = c .sent2 in
-    write-turns (now (args .corners)) (now (args .pmap)) (now (args .tmap)) (now (args .nmap)) _ (loop .out) (loop .k) (test .taken) (loop .inv) _ _ _ refl
-    (sent .ensures) (sent2 .ensures)
+    let args = c .before .before .before .before .before .before .before .before .before .before .before .before .before .before .args in
+    let loop = c .before .before .before .before .before .before .before .before .loop in
+    let test = c .before .before .before .before .before .before .before .loop-test in
+    let sent = c .before .before .before .sent in
+    let sent2 = c .before .sent2 in
+    write-turns (now (args .corners)) (now (args .pmap)) (now (args .tmap)) (now (args .nmap)) _ (loop .out) (loop .k) (test .taken) (loop .inv) _ _ _ _ refl
+    (sent .ensures) (sent2 .ensures) refl
 
 same-length : tie.Need-same-length Inv-loop μ-loop
 same-length c = c .before .loop .inv .long
@@ -169,6 +187,12 @@ send-corners-spec =
     add-out-2
     mul-out-5
     slice-write-out-3
+    add-out-3
+    mul-out-6
+    shared-slice-read-out-3
+    add-out-4
+    mul-out-7
+    slice-write-out-4
     add-k
     loop-less
     loop-again

@@ -1,4 +1,4 @@
--- `places::position_at` meets its contract: the position of corner p is the first of its three numbers. Assumes nothing.
+-- `places::position_at` meets its contract: the position of corner p is the first of its numbers. Assumes nothing.
 use borrow.Author.Needs.{needs}
 use Rattle.places.specs.Working.{positionAt}
 use Rattle.places.proofs.position_at.Statement.{statement}

@@ -2,7 +2,7 @@
 use mathlib.Core.Path.{ap, _∙_, refl}
 use Rattle.records.specs.declared.Record.the-variants.{Position, Texture, Normal}
 use Rattle.records.specs.Records.{attribute, bodyFrom, lengthFits}
-use Rattle.records.proofs.Recorded.{body-is, a-face, body-face, a-wide-face, body-wide-face}
+use Rattle.records.proofs.Recorded.{body-is, a-face, body-face, a-wide-face, body-wide-face, a-marked-face, body-marked-face}
 use native.Mathlib.Omega.{arith}
 use borrow.Author.Needs.{needs}
 use Rattle.records.proofs.body.Statement.{statement}
@@ -55,19 +55,31 @@ returns-5 c = c .face .ensures ∙ body-face _ _ _ _ (c .before .if5 .taken)
 
 wide-face-requires : tie.Need-wide-face-requires
 wide-face-requires c κs =
-    let at-if4 = c .before in
-    let at-if2 = at-if4 .before .before in
-    let start = at-if2 .before .before .before in
-    (a-wide-face _ _ (start .pre .0) (at-if2 .before .if1 .left) (at-if2 .if2 .left) (at-if4 .before .if3 .left) (at-if4 .if4 .left) (c .if5 .left) (start .pre .1 .1), start .pre .1 .0)
+    let start = c .before .before .before .before .before .before .before in
+    (a-wide-face _ _ (c .if6 .taken) (start .pre .1 .1), start .pre .1 .0)
 
 returns-6 : tie.Need-returns-6
-returns-6 c =
-    let at-if5 = c .before in
+returns-6 c = c .wide-face .ensures ∙ body-wide-face _ _ _ _ (c .before .if6 .taken)
+
+marked-face-requires : tie.Need-marked-face-requires
+marked-face-requires c κs =
+    let at-if4 = c .before .before in
+    let at-if2 = at-if4 .before .before in
+    let start = at-if2 .before .before .before in (
+      a-marked-face _ _ (start .pre .0) (at-if2 .before .if1 .left) (at-if2 .if2 .left) (at-if4 .before .if3 .left) (at-if4 .if4 .left)
+          (c .before .if5 .left) (c .if6 .left) (start .pre .1 .1),
+      start .pre .1 .0,
+    )
+
+returns-7 : tie.Need-returns-7
+returns-7 c =
+    let at-if5 = c .before .before in
     let at-if3 = at-if5 .before .before in
     let at-if1 = at-if3 .before .before in
     let start = at-if1 .before .before in
-    c .wide-face .ensures
-    ∙ body-wide-face _ _ (start .pre .0) (at-if1 .if1 .left) (at-if3 .before .if2 .left) (at-if3 .if3 .left) (at-if5 .before .if4 .left) (at-if5 .if5 .left) _ _
+    c .marked-face .ensures
+    ∙ body-marked-face _ _ (start .pre .0) (at-if1 .if1 .left) (at-if3 .before .if2 .left) (at-if3 .if3 .left) (at-if5 .before .if4 .left)
+    (at-if5 .if5 .left) (c .before .if6 .left) _ _
 
 pub body-spec : {M : Type 1} → statement M
 body-spec =
@@ -86,4 +98,6 @@ body-spec =
     face-requires
     returns-5
     wide-face-requires
-    returns-6)
+    returns-6
+    marked-face-requires
+    returns-7)

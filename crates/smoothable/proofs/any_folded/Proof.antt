@@ -1,8 +1,9 @@
 -- `smoothable::any_folded` meets its contract: a search through the triangles. Assumes nothing.
 use mathlib.Core.Path.{_∙_}
 use mathlib.Core.List.{[]}
-use Prim.Native.Nat.{_/_, _-_}
+use Prim.Native.Nat.{_*_, _/_, _-_}
 use lib.ListN.{length}
+use Rattle.mesh.specs.Limits.{width, leastRing}
 use Rattle.lists.proofs.Parts.{Searching, search-begins, search-turns, search-finds, search-ends}
 use Rattle.folding.specs.Folding.{folded}
 use Rattle.smoothed.specs.Columns.{triangles}
@@ -17,7 +18,7 @@ abbrev Inv-loop : tie.InvT-loop
 Inv-loop corners count k₀ k = Searching folded (triangles corners) k
 
 abbrev μ-loop : tie.MeasureT-loop
-μ-loop corners count k₀ k = length corners / 9 - k
+μ-loop corners count k₀ k = length corners / (width * leastRing) - k
 
 loop-holds : tie.Need-loop-holds Inv-loop μ-loop
 loop-holds c = search-begins folded [] _

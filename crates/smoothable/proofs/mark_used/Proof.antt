@@ -1,6 +1,7 @@
 -- `smoothable::mark_used` meets its contract: corner by corner. Assumes nothing.
 use Prim.Native.Nat.{_*_, _/_, _-_}
 use lib.ListN.{length}
+use Rattle.mesh.specs.Limits.{width}
 use Rattle.smoothable.proofs.Marking.{Marking, marking-begins, marking-turns, marking-ends}
 use borrow.Author.Needs.{needs}
 use native.Mathlib.Omega.{arith}
@@ -11,7 +12,7 @@ abbrev Inv-loop : tie.InvT-loop
 Inv-loop corners used₀ count k₀ used k = Marking corners used₀ used k
 
 abbrev μ-loop : tie.MeasureT-loop
-μ-loop corners used₀ count k₀ used k = length corners / 3 - k
+μ-loop corners used₀ count k₀ used k = length corners / width - k
 
 loop-holds : tie.Need-loop-holds Inv-loop μ-loop
 loop-holds c = marking-begins _ _ (c .before .before .pre)

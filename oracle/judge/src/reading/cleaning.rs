@@ -1,6 +1,6 @@
-//! 'Compaction' and 'Folded faces', with CR 3 of document 02, and the two after each other, which is cleaning.
+//! 'Compaction' and 'Folded faces', with CR 3 of document 02, and the two after each other, which is cleaning. Marks go with their corners.
 
-use crate::mesh::{Compacted, Corner, Mesh, Pushed, Unfolded, MISSING};
+use crate::mesh::{Compacted, Corner, Mesh, Pushed, Unfolded, MISSING, WIDTH};
 use std::collections::BTreeMap;
 
 /// Folded faces are removed, then unused entries.
@@ -17,14 +17,14 @@ pub fn cleaned(mesh: Mesh) -> Mesh {
     }
 }
 
-/// Each list is renumbered by first use; the new list holds the old entries in that order.
+/// Each list is renumbered by first use; the new list holds the old entries in that order. A mark is no index and stays.
 pub fn remove_unused_attrs(mesh: &Mesh) -> Compacted {
     let (positions, old_positions) = renumbered(mesh, 0);
     let (textures, old_textures) = renumbered(mesh, 1);
     let (normals, old_normals) = renumbered(mesh, 2);
-    let columns = [positions, textures, normals];
+    let columns = [positions, textures, normals, mesh.marks().collect()];
     Compacted {
-        corners: (0..mesh.corners.len()).map(|i| columns[i % 3][i / 3]).collect(),
+        corners: (0..mesh.corners.len()).map(|i| columns[i % WIDTH][i / WIDTH]).collect(),
         positions: entries(&mesh.positions, 3, &old_positions),
         textures: entries(&mesh.textures, 2, &old_textures),
         normals: entries(&mesh.normals, 3, &old_normals),
@@ -36,7 +36,7 @@ fn renumbered(mesh: &Mesh, column: usize) -> (Vec<u32>, Vec<u32>) {
     let mut new_of: BTreeMap<u32, u32> = BTreeMap::from([(MISSING, MISSING)]);
     let mut old: Vec<u32> = vec![];
     let mut new = vec![];
-    for corner in mesh.corners.chunks(3) {
+    for corner in mesh.corners.chunks(WIDTH) {
         let index = corner[column];
         if !new_of.contains_key(&index) {
             new_of.insert(index, old.len() as u32);

@@ -1,16 +1,17 @@
 //! 'Merging'.
 
-use crate::mesh::{Merged, Mesh, MISSING};
+use crate::mesh::{Merged, Mesh, INDICES, MISSING, WIDTH};
 
-/// Indices in corners become the representative's; missing stays missing.
+/// Indices in corners become the representative's; missing stays missing, and so does the mark, which is no index.
 pub fn put_together_same_attrs(mesh: &Mesh, tolerance: f64) -> Merged {
     let (positions, p) = merged(&scaled(points(&mesh.positions)), tolerance);
     let (textures, t) = merged(&points::<2>(&mesh.textures), tolerance);
     let (normals, n) = merged(&points::<3>(&mesh.normals), tolerance);
     let representatives = [positions, textures, normals];
-    let new = |(i, index): (usize, &u32)| match *index {
-        MISSING => MISSING,
-        index => representatives[i % 3][index as usize] as u32,
+    let new = |(i, number): (usize, &u32)| match (i % WIDTH, *number) {
+        (INDICES, mark) => mark,
+        (_, MISSING) => MISSING,
+        (column, index) => representatives[column][index as usize] as u32,
     };
     Merged { corners: mesh.corners.iter().enumerate().map(new).collect(), pairs: [p, t, n] }
 }

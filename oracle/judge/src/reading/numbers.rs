@@ -2,7 +2,7 @@
 
 use super::{door, edges, panel_file, scan, smoothing, writing};
 use crate::calls::{Call, Question};
-use crate::mesh::{Mesh, Verdict, MISSING};
+use crate::mesh::{Mesh, Verdict, MISSING, WIDTH};
 use std::ops::Range;
 
 /// How many numbers the table has with the rows of document 02, from 0 on.
@@ -55,7 +55,7 @@ pub fn mesh_number(mesh: &Mesh) -> u32 {
     let over = mesh.positions.len() > 3 * ATTRIBUTES
         || mesh.textures.len() > 2 * ATTRIBUTES
         || mesh.normals.len() > 3 * ATTRIBUTES
-        || mesh.corners.len() > 3 * CORNERS
+        || mesh.corners.len() > WIDTH * CORNERS
         || mesh.sizes.len() > FACES;
     if over {
         return 1;
@@ -63,7 +63,7 @@ pub fn mesh_number(mesh: &Mesh) -> u32 {
     let ragged = mesh.positions.len() % 3 != 0
         || mesh.textures.len() % 2 != 0
         || mesh.normals.len() % 3 != 0
-        || mesh.corners.len() % 3 != 0;
+        || mesh.corners.len() % WIDTH != 0;
     if ragged || mesh.sizes.iter().map(|size| *size as u64).sum::<u64>() != mesh.corner_count() as u64 {
         return 2;
     }
@@ -82,10 +82,10 @@ pub fn mesh_number(mesh: &Mesh) -> u32 {
 
 /// Numbers 0 to 3 of faces in any order: those of fewer than three corners are dropped, and no attribute list is given.
 pub fn faces_number(mesh: &Mesh) -> u32 {
-    if mesh.corners.len() > 3 * CORNERS || mesh.sizes.len() > FACES {
+    if mesh.corners.len() > WIDTH * CORNERS || mesh.sizes.len() > FACES {
         return 1;
     }
-    if 3 * mesh.sizes.iter().map(|size| *size as u64).sum::<u64>() != mesh.corners.len() as u64 {
+    if WIDTH as u64 * mesh.sizes.iter().map(|size| *size as u64).sum::<u64>() != mesh.corners.len() as u64 {
         return 2;
     }
     if mesh.sizes.iter().any(|size| *size >= FACE.end) {
@@ -97,7 +97,7 @@ pub fn faces_number(mesh: &Mesh) -> u32 {
 /// A position index, or a texture or normal index that isn't missing, is not below its list's count.
 pub fn indices_are_off(mesh: &Mesh) -> bool {
     let below = |index: u32, count: usize| (index as usize) < count;
-    mesh.corners.chunks(3).any(|corner| {
+    mesh.corners.chunks(WIDTH).any(|corner| {
         !below(corner[0], mesh.positions.len() / 3)
             || corner[1] != MISSING && !below(corner[1], mesh.textures.len() / 2)
             || corner[2] != MISSING && !below(corner[2], mesh.normals.len() / 3)
@@ -150,7 +150,7 @@ pub fn stated_rooms(call: Call, mesh: &Mesh) -> Vec<usize> {
         Call::ExtractBoundaries => vec![2 * corners, corners],
         Call::HouseWires | Call::Components => vec![corners, corners],
         // Document 02: a scan asks for room at the full limits too, in all five lists.
-        Call::ReadPanel | Call::ReadScan => vec![3 * ATTRIBUTES, 2 * ATTRIBUTES, 3 * ATTRIBUTES, 3 * CORNERS, FACES],
+        Call::ReadPanel | Call::ReadScan => vec![3 * ATTRIBUTES, 2 * ATTRIBUTES, 3 * ATTRIBUTES, WIDTH * CORNERS, FACES],
         // Document 02: the whole file. The cleaner's is not known beforehand: as for the reader, the full limits.
         Call::WritePanel => vec![writing::length(mesh)],
         Call::CleanPanel => vec![writing::LONGEST],
@@ -165,6 +165,6 @@ pub fn part_of_face(mesh: &Mesh, k: usize) -> Range<usize> {
     if (1..=4).contains(&mesh_number(mesh)) || k >= mesh.sizes.len() {
         return 0..0;
     }
-    let corners_of = |sizes: &[u32]| 3 * sizes.iter().sum::<u32>() as usize;
+    let corners_of = |sizes: &[u32]| WIDTH * sizes.iter().sum::<u32>() as usize;
     corners_of(&mesh.sizes[..k])..corners_of(&mesh.sizes[..k + 1])
 }

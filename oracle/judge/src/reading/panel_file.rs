@@ -1,23 +1,35 @@
-//! 'The panel file': its reader, with the order in which it refuses; and the second kind of face, of request 6 of document 02.
+//! 'The panel file': its reader, with the order in which it refuses; and the other kinds of face, of requests 6 and 11 of document 02.
 
 use super::cleaning::grouped;
 use super::door::is_broken;
 use super::numbers::{indices_are_off, ATTRIBUTES, CORNERS, FACE};
-use crate::mesh::{Corner, Mesh};
+use crate::mesh::{Corner, Mesh, INDICES, WIDTH};
 
-/// A kind of face record: how many bytes its n has, which numbers of corners a length may say, and the most corners that are taken.
+/// A kind of face record: how many bytes its n has, how many numbers a corner, which numbers of corners a length may say, and the most corners
+/// that are taken.
 pub struct FaceKind {
     pub kind: u16,
     pub count: usize,
+    pub numbers: usize,
     pub corners: std::ops::RangeInclusive<usize>,
     pub most: usize,
 }
 
 /// A byte n, and up to 32 corners. A length may say as many as a byte can hold.
-pub const SMALL: FaceKind = FaceKind { kind: 4, count: 1, corners: 0..=255, most: 32 };
+pub const SMALL: FaceKind = FaceKind { kind: 4, count: 1, numbers: INDICES, corners: 0..=255, most: 32 };
 
 /// Two bytes n, and 33 to 300 corners. A length may say more, up to what its own two bytes can hold, so that n over 300 gives 3: 5,461.
-pub const LARGE: FaceKind = FaceKind { kind: 5, count: 2, corners: 33..=5_461, most: FACE.end as usize - 1 };
+pub const LARGE: FaceKind = FaceKind { kind: 5, count: 2, numbers: INDICES, corners: 33..=5_461, most: FACE.end as usize - 1 };
+
+/// Two bytes n, and 3 to 300 corners with their marks, of which one at least is not 0. A length may say more, as that of kind 5 may: 4,095.
+pub const MARKED: FaceKind = FaceKind { kind: 6, count: 2, numbers: WIDTH, corners: 3..=4_095, most: FACE.end as usize - 1 };
+
+impl FaceKind {
+    /// The bytes of a corner.
+    pub const fn corner(&self) -> usize {
+        4 * self.numbers
+    }
+}
 
 /// The mesh that a file holds, or the number with which it is refused. (Number 9, of the rooms, is asked before.)
 pub fn read(file: &[u8]) -> Result<Mesh, u32> {
@@ -32,7 +44,8 @@ pub fn read(file: &[u8]) -> Result<Mesh, u32> {
             2 => entry(&mut mesh.textures, 2, body)?,
             3 => entry(&mut mesh.normals, 3, body)?,
             4 => face(&mut faces, &SMALL, body)?,
-            _ => face(&mut faces, &LARGE, body)?,
+            5 => face(&mut faces, &LARGE, body)?,
+            _ => face(&mut faces, &MARKED, body)?,
         }
     }
     if !rest.is_empty() {
@@ -58,6 +71,7 @@ fn record<'a>(rest: &mut &'a [u8]) -> Result<(usize, &'a [u8]), u32> {
         2 => length == 16,
         4 => says_corners(&SMALL, length),
         5 => says_corners(&LARGE, length),
+        6 => says_corners(&MARKED, length),
         _ => return Err(12),
     };
     if !right {
@@ -73,7 +87,7 @@ fn record<'a>(rest: &mut &'a [u8]) -> Result<(usize, &'a [u8]), u32> {
 
 /// Whether a length is right for a kind of face.
 fn says_corners(face: &FaceKind, length: usize) -> bool {
-    face.corners.clone().any(|m| length == face.count + 12 * m)
+    face.corners.clone().any(|m| length == face.count + face.corner() * m)
 }
 
 /// One more position, texture point or normal: not finite 14, limit 1.
@@ -89,11 +103,16 @@ fn entry(list: &mut Vec<f64>, width: usize, body: &[u8]) -> Result<(), u32> {
     Ok(())
 }
 
-/// One more face: n unlike m 12, n over the most of its kind gives 3, limit 1. Faces of 0, 1 or 2 corners are dropped and don't count.
+/// One more face: n unlike m 12, kind 6 with all marks 0 12, n over the most of its kind gives 3, limit 1. Faces of 0, 1 or 2 corners are dropped and
+/// don't count.
 fn face(faces: &mut Vec<Vec<Corner>>, kind: &FaceKind, body: &[u8]) -> Result<(), u32> {
     let (count, corners) = body.split_at(kind.count);
     let n = count.iter().rev().fold(0, |n, byte| 256 * n + *byte as usize);
-    if n != corners.len() / 12 {
+    if n != corners.len() / kind.corner() {
+        return Err(12);
+    }
+    let corners: Vec<Corner> = corners.chunks(kind.corner()).map(corner).collect();
+    if kind.kind == MARKED.kind && corners.iter().all(|corner| corner[INDICES] == 0) {
         return Err(12);
     }
     if n > kind.most {
@@ -105,7 +124,14 @@ fn face(faces: &mut Vec<Vec<Corner>>, kind: &FaceKind, body: &[u8]) -> Result<()
     if faces.iter().map(|face| face.len()).sum::<usize>() + n > CORNERS {
         return Err(1);
     }
-    let number = |bytes: &[u8]| u32::from_le_bytes(bytes.try_into().unwrap());
-    faces.push(corners.chunks(12).map(|c| [number(&c[..4]), number(&c[4..8]), number(&c[8..])]).collect());
+    faces.push(corners);
     Ok(())
+}
+
+/// A corner by its bytes; where they hold no mark it has none.
+fn corner(bytes: &[u8]) -> Corner {
+    let mut corner = [0; WIDTH];
+    let numbers = bytes.chunks(4).map(|four| u32::from_le_bytes(four.try_into().unwrap()));
+    corner.iter_mut().zip(numbers).for_each(|(place, number)| *place = number);
+    corner
 }

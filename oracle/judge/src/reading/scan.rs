@@ -32,7 +32,7 @@ pub fn read(file: &[u8]) -> Result<Mesh, u32> {
         if number == next {
             mesh.positions.extend(point.map(|bits| f64::from(f32::from_bits(bits))));
         }
-        mesh.corners.extend([number, MISSING, MISSING]);
+        mesh.corners.extend([number, MISSING, MISSING, 0]);
     }
     if numbers.len() > ATTRIBUTES {
         return Err(1);

@@ -3,7 +3,7 @@
 
 use super::edges;
 use super::numbers::{is_boundless, ATTRIBUTES, CORNERS, FACES};
-use crate::mesh::{Corner, Mesh, Smoothed, Verdict, MISSING};
+use crate::mesh::{Corner, Mesh, Smoothed, Verdict, MISSING, WIDTH};
 use std::collections::BTreeMap;
 
 /// How long a list of cosines is, and how many neighbours a position may have.
@@ -49,7 +49,7 @@ fn has_folded(mesh: &Mesh) -> bool {
 /// A position is in no face.
 fn has_unused(mesh: &Mesh) -> bool {
     let mut is_used = vec![false; mesh.positions.len() / 3];
-    mesh.corners.iter().step_by(3).for_each(|position| is_used[*position as usize] = true);
+    mesh.corners.iter().step_by(WIDTH).for_each(|position| is_used[*position as usize] = true);
     is_used.contains(&false)
 }
 
@@ -169,12 +169,12 @@ fn point_of_edge(edge: &Edge, surface: &Surface, points: &[Point], cosines: Cosi
     along.plus(first.minus(lower).over(8.0)).plus(second.minus(higher).over(8.0))
 }
 
-/// The four triangles of one: the three at its corners, then the middle one. New corners carry no texture and no normal.
+/// The four triangles of one: the three at its corners, then the middle one. New corners carry no texture, no normal and no mark; the old ones keep theirs.
 fn quarters(face: &[Corner], surface: &Surface) -> Vec<Vec<Corner>> {
     let old = surface.neighbours.len();
     let [a, b, c] = [face[0], face[1], face[2]];
     let middle = |one: Corner, other: Corner| -> Corner {
-        [(old + surface.edge(one[0] as usize, other[0] as usize)) as u32, MISSING, MISSING]
+        [(old + surface.edge(one[0] as usize, other[0] as usize)) as u32, MISSING, MISSING, 0]
     };
     let (across_a, across_b, across_c) = (middle(b, c), middle(c, a), middle(a, b));
     vec![

@@ -1,13 +1,13 @@
 //! 'Give the panel file back', the first request of document 02: a mesh written as a panel file, and a panel file cleaned.
 
 use super::numbers::{ATTRIBUTES, CORNERS, FACES};
-use super::panel_file::{FaceKind, LARGE, SMALL};
+use super::panel_file::{FaceKind, LARGE, MARKED, SMALL};
 use super::{cleaning, panel_file};
-use crate::mesh::{Corner, Mesh};
+use crate::mesh::{Corner, Mesh, INDICES, WIDTH};
 
-/// The length of the longest file that a mesh can make: every list at its limit. (A face of kind 5 has a byte more than one of kind 4, but the corners
-/// of one would make eleven faces of kind 4.)
-pub const LONGEST: usize = length_of([ATTRIBUTES; 3], FACES, 0, CORNERS);
+/// The length of the longest file that a mesh can make: every list at its limit, and a mark in every face. (No face is longer in another kind than in
+/// kind 6, by its header and by each of its corners.)
+pub const LONGEST: usize = entries_length([ATTRIBUTES; 3]) + FACES * face_length(&MARKED, 0) + CORNERS * MARKED.corner() + 4;
 
 /// Positions, texture points, normals, faces in their order, end.
 pub fn write(mesh: &Mesh) -> Vec<u8> {
@@ -15,7 +15,7 @@ pub fn write(mesh: &Mesh) -> Vec<u8> {
     mesh.positions.chunks(3).for_each(|point| record(&mut file, 1, &coordinates(point)));
     mesh.textures.chunks(2).for_each(|point| record(&mut file, 2, &coordinates(point)));
     mesh.normals.chunks(3).for_each(|point| record(&mut file, 3, &coordinates(point)));
-    mesh.faces().iter().for_each(|face| record(&mut file, kind_of(face.len()).kind, &face_body(face)));
+    mesh.faces().iter().for_each(|face| record(&mut file, kind_of(face).kind, &face_body(face)));
     record(&mut file, 0, &[]);
     file
 }
@@ -29,21 +29,33 @@ pub fn clean(file: &[u8]) -> Result<Vec<u8>, u32> {
     Ok(write(&cleaning::cleaned(panel_file::read(file)?)))
 }
 
-/// How long the file of a mesh is, by its counts alone: the room that the writer asks for.
+/// How long the file of a mesh is: the room that the writer asks for. It goes by the counts, and by which faces have a mark. (Of a list that is no mesh,
+/// of which nothing is written, the corners that are there.)
 pub fn length(mesh: &Mesh) -> usize {
     let entries = [mesh.positions.len() / 3, mesh.textures.len() / 2, mesh.normals.len() / 3];
-    let large = mesh.sizes.iter().filter(|size| kind_of(**size as usize).kind == LARGE.kind).count();
-    length_of(entries, mesh.sizes.len() - large, large, mesh.corner_count())
+    let corners: Vec<Corner> = mesh.corners.chunks_exact(WIDTH).map(|corner| corner.try_into().unwrap()).collect();
+    let (mut rest, mut faces) = (&corners[..], 0);
+    for size in &mesh.sizes {
+        let (face, after) = rest.split_at(rest.len().min(*size as usize));
+        (rest, faces) = (after, faces + face_length(&kind_of(face), face.len()));
+    }
+    entries_length(entries) + faces + 4
 }
 
-/// A header is four bytes; a small face has one more, a large one two, and twelve for each corner; the end is a header alone.
-const fn length_of([positions, textures, normals]: [usize; 3], small: usize, large: usize, corners: usize) -> usize {
-    (4 + 24) * positions + (4 + 16) * textures + (4 + 24) * normals + (4 + 1) * small + (4 + 2) * large + 12 * corners + 4
+/// A header is four bytes.
+const fn entries_length([positions, textures, normals]: [usize; 3]) -> usize {
+    (4 + 24) * positions + (4 + 16) * textures + (4 + 24) * normals
 }
 
-/// The writer always picks the kind by the size: up to 32 corners as before.
-fn kind_of(corners: usize) -> FaceKind {
-    if corners <= SMALL.most {
+const fn face_length(kind: &FaceKind, corners: usize) -> usize {
+    4 + kind.count + kind.corner() * corners
+}
+
+/// The writer always picks the kind: 6 where there is a mark, else by the size, up to 32 corners as before.
+fn kind_of(face: &[Corner]) -> FaceKind {
+    if face.iter().any(|corner| corner[INDICES] != 0) {
+        MARKED
+    } else if face.len() <= SMALL.most {
         SMALL
     } else {
         LARGE
@@ -61,8 +73,10 @@ fn coordinates(point: &[f64]) -> Vec<u8> {
     point.iter().flat_map(|x| x.to_le_bytes()).collect()
 }
 
-/// A byte n, or two, then n corners.
+/// A byte n, or two, then n corners, in kind 6 with their marks.
 fn face_body(face: &[Corner]) -> Vec<u8> {
-    let count = face.len().to_le_bytes().into_iter().take(kind_of(face.len()).count);
-    count.chain(face.iter().flatten().flat_map(|index| index.to_le_bytes())).collect()
+    let kind = kind_of(face);
+    let count = face.len().to_le_bytes().into_iter().take(kind.count);
+    let numbers = face.iter().flat_map(|corner| &corner[..kind.numbers]);
+    count.chain(numbers.flat_map(|number| number.to_le_bytes())).collect()
 }

@@ -9,10 +9,10 @@ is-wide-requires : tie.Need-is-wide-requires
 is-wide-requires c κs = search needs
 
 returns : tie.Need-returns
-returns c = length-wide (c .before .before .args .n) (sym (c .before .is-wide .ensures) ∙ c .if1 .taken)
+returns c = length-wide (c .before .before .args .marked) (c .before .before .args .n) (sym (c .before .is-wide .ensures) ∙ c .if1 .taken)
 
 returns-2 : tie.Need-returns-2
-returns-2 c = length-byte (c .before .before .args .n) (sym (c .before .is-wide .ensures) ∙ c .if1 .left)
+returns-2 c = length-byte (c .before .before .args .marked) (c .before .before .args .n) (sym (c .before .is-wide .ensures) ∙ c .if1 .left)
 
 pub count-length-spec : {M : Type 1} → statement M
 count-length-spec = tie.close (tie.spec is-wide-requires returns returns-2)

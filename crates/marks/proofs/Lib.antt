@@ -1,0 +1,14 @@
+pub mod Remarked
+pub mod Accepted
+pub mod Compaction
+pub mod Removal
+pub mod Merging
+pub mod Edges
+pub mod Panels
+pub mod Smoothing
+pub mod Numbers
+pub mod Sheet
+pub mod Promises
+pub mod Calls
+pub mod Order
+pub mod Examples

@@ -1,0 +1,12 @@
+-- `saving::bytes::is_wide` meets its contract: a face with a mark is. Assumes nothing.
+use Rattle.saving.proofs.bytes.is_wide.Statement.{statement}
+use Rattle.saving.proofs.bytes.is_wide.Tie as tie
+
+returns : tie.Need-returns
+returns c = rw (c .if1 .taken)
+
+returns-2 : tie.Need-returns-2
+returns-2 c = rw (c .if1 .left)
+
+pub is-wide-spec : {M : Type 1} → statement M
+is-wide-spec = tie.close (tie.spec returns returns-2)
