@@ -103,6 +103,31 @@ static void print_turned(void) {
     printf("grouped %zu of %zu\n", left.cornercount, left.facecount);
 }
 
+/* Whether a list holds the entries that are kept, and zero bits in the room behind them. */
+static bool is_compacted(const double *list, const double *kept, size_t keptlength, size_t length) {
+    static const double zeros[3 * BH_MAX_ENTRIES];
+    return memcmp(list, kept, keptlength * sizeof *list) == 0 && memcmp(list + keptlength, zeros, (length - keptlength) * sizeof *list) == 0;
+}
+
+/* What the removal left compacted once more, in its own lists: first with a number list that is one short, by which nothing may move, then with
+   one that is not. It must be the clean cover. */
+static void print_in_place(void) {
+    static struct mesh moved;
+    static uint32_t numbers[BH_MAX_ENTRIES];
+    size_t longest = left.positioncount > left.texturecount ? left.positioncount : left.texturecount, counts[3];
+    longest = left.normalcount > longest ? left.normalcount : longest;
+    moved = left;
+    bool refused = longest == 0 || bh_compact_in_place(LISTS(&moved), numbers, longest - 1, &counts[0], &counts[1], &counts[2]) == BH_ROOM;
+    bool kept = memcmp(&moved, &left, sizeof left) == 0;
+    uint32_t number = bh_compact_in_place(LISTS(&moved), numbers, longest, &counts[0], &counts[1], &counts[2]);
+    bool same = counts[0] == clean.positioncount && counts[1] == clean.texturecount && counts[2] == clean.normalcount
+        && is_compacted(moved.positions, clean.positions, 3 * counts[0], 3 * left.positioncount)
+        && is_compacted(moved.textures, clean.textures, 2 * counts[1], 2 * left.texturecount)
+        && is_compacted(moved.normals, clean.normals, 3 * counts[2], 3 * left.normalcount)
+        && memcmp(moved.corners, clean.corners, BH_CORNER_WIDTH * clean.cornercount * sizeof *clean.corners) == 0;
+    printf("in place %u%s\n", number, same && refused && kept ? ", the same" : "");
+}
+
 static void print_more(void) {
     size_t start, len, numbers, rows, pairs[3];
     printf("number %u\n", bh_mesh_number(LISTS(&clean)));
@@ -158,6 +183,7 @@ int main(int count, char **words) {
     if (number == BH_DONE) {
         print_sheet();
         print_row("drawn as", origins, clean.facecount);
+        print_in_place();
         print_more();
         print_written(file, length);
         print_broken();

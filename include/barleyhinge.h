@@ -3,7 +3,7 @@
    'rt staticlib barleyhinge' makes the archive, target/staticlib/libbarleyhinge.a, for x86-64 Linux. tools/check_declarations holds
    the declarations below to the source of the library, name by name, order by order, type by type, and each constant to its value.
 
-   A MESH is five lists that the caller keeps and the calls only read:
+   A MESH is five lists that the caller keeps and the calls only read, but for bh_compact_in_place, which changes them where they stand:
      positions  3 numbers to a position       at most BH_MAX_ENTRIES positions
      textures   2 numbers to a texture point  at most BH_MAX_ENTRIES
      normals    3 numbers to a normal         at most BH_MAX_ENTRIES
@@ -19,7 +19,7 @@
 
    WHAT A CALL ANSWERS. A number of 'enum bh_number': 0 and the whole result, or the first number of the table that applies and
    nothing: then no lent list is touched, and each count is 0. On 0 the result stands at the front of each lent list, and the room
-   behind it is as it was. Calls check in ascending order of number, but that 14 comes before 9, and that smoothing and those on a file have
+   behind it is as it was (bh_compact_in_place clears what it frees of the mesh's own lists). Calls check in ascending order of number, but that 14 comes before 9, and that smoothing and those on a file have
    an order of their own. Any call on a mesh may answer 1 to 5; what else it may answer stands with it. Coordinates that are not finite are a mesh's own
    affair until it is merged or smoothed (7) or written (14).
 
@@ -32,13 +32,13 @@
 #ifndef BARLEYHINGE_H
 #define BARLEYHINGE_H
 
-/* The version of this interface. Since 0.10.0 a corner is four numbers, where it was three: every list of corners has another length, and what was
+/* The version of this interface. 0.11.0 has one function more, bh_compact_in_place. Since 0.10.0 a corner is four numbers, where it was three: every list of corners has another length, and what was
    compiled before must not be linked with it, though no function has another signature. A panel file has a face with a mark as a record of kind 6, which
    an older reader refuses by 12. Since 0.8.0 a face may have 300 corners, where it was 32, and one of more than 32 is a record of kind 5. */
 #define BH_VERSION_MAJOR 0
-#define BH_VERSION_MINOR 10
+#define BH_VERSION_MINOR 11
 #define BH_VERSION_PATCH 0
-#define BH_VERSION "0.10.0"
+#define BH_VERSION "0.11.0"
 
 #include <stdbool.h>
 #include <stddef.h>
@@ -184,6 +184,26 @@ uint32_t bh_remove_unused_attrs(
     double *newpositions, size_t newpositions_len,
     double *newtextures, size_t newtextures_len,
     double *newnormals, size_t newnormals_len,
+    size_t *positioncount,
+    size_t *texturecount,
+    size_t *normalcount);
+
+/* Compaction in place: what bh_remove_unused_attrs gives, without a second list of coordinates. Entries move to their first-use places within the
+   list they stand in, corners are renumbered where they stand, and marks stay. This call alone changes the mesh that it is given: all lists of it
+   but 'sizes' may be written.
+   Lends 'numbers', a list of old-to-new numbers with room for one number for each entry of the longest of the three attribute lists: the greatest of
+   positions_len / 3, textures_len / 2 and normals_len / 3. BH_MAX_ENTRIES numbers are enough for every mesh.
+   On 0: 3, 2 and 3 numbers for each position, texture point and normal that '*positioncount', '*texturecount' and '*normalcount' count stand at the
+   front of their lists, as bh_remove_unused_attrs would give them, and all freed room behind them is zero bits; the corners are those that it
+   would give; and the stated room of 'numbers' is zeros, while what is longer is as it was. Numbers and NaNs are kept as there.
+   May also answer 9. On a refusal nothing has moved, in the mesh or in 'numbers'. */
+uint32_t bh_compact_in_place(
+    double *positions, size_t positions_len,
+    double *textures, size_t textures_len,
+    double *normals, size_t normals_len,
+    uint32_t *corners, size_t corners_len,
+    const uint32_t *sizes, size_t sizes_len,
+    uint32_t *numbers, size_t numbers_len,
     size_t *positioncount,
     size_t *texturecount,
     size_t *normalcount);

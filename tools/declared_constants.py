@@ -11,6 +11,7 @@ CONSTS = "crates/mesh/src/lib.rt"
 MESH = "crates/mesh/specs/Mesh.antt"
 TABLE = "crates/mesh/specs/Table.antt"
 COMPACTION = "crates/unused/specs/Compaction.antt"
+IN_PLACE = "crates/inplace/specs/InPlace.antt"
 MERGING = "crates/together/specs/Merging.antt"
 PORTED = "crates/ported/specs/Answers.antt"
 HOUSE = "crates/house/specs/Answers.antt"
@@ -38,7 +39,7 @@ REPLAY = "crates/try_replay/src/tally.rt"
 DAMAGED = "crates/try_damaged/src/main.rt"
 ORACLE = "oracle/judge/src/reading/numbers.rs"
 SOURCES = (
-    LIMITS, CONSTS, MESH, TABLE, COMPACTION, MERGING, PORTED, HOUSE, RECORDS, LENGTHS, RECORD_CONSTS, READING, PIECES, SAVING, WRITER, CLEANING, LINES, SHEET, SHEET_CONSTS, ANSWERS,
+    LIMITS, CONSTS, MESH, TABLE, COMPACTION, IN_PLACE, MERGING, PORTED, HOUSE, RECORDS, LENGTHS, RECORD_CONSTS, READING, PIECES, SAVING, WRITER, CLEANING, LINES, SHEET, SHEET_CONSTS, ANSWERS,
     FACES, FOLDED, SMOOTHED, SCAN, FOURFOLD, SMOOTHABLE, EDGES, PANELS, REPLAY, DAMAGED, ORACLE,
 )
 
@@ -99,6 +100,7 @@ OTHER_ROWS = (
     ("NOT_FINITE", SCAN, r"when \(some notFinite ps\) (\d+)"),
     ("OVER_LIMIT", SCAN, r"when \(ltb entryLimit \(length \(firstUses ps\)\)\) (\d+)"),
     ("ROOM", SCAN, r"when \(short rooms\) (\d+)"),
+    ("ROOM", IN_PLACE, r"when \(short \(lent \(length numbers\) \(longest m\) ∷ \[\]\)\) (\d+)"),
 )
 # The record of a face, which no limit of the interface has: the bytes of its header, of its count and of a corner, in each kind, and the most corners of
 # kind 4; by the rules, by the code, and by the wrapper, which has room for it.
@@ -130,6 +132,7 @@ VERDICTS = ("Irregular", "Regular", "Oriented", "Closed")
 ROOM_RULES = {
     "bh_push": (FACES, "tooShort"),
     "bh_remove_unused_attrs": (COMPACTION, "tooShort"),
+    "bh_compact_in_place": (IN_PLACE, "inPlaceNumber"),
     "bh_remove_degenerate_faces": (FOLDED, "tooShort"),
     "bh_put_together_same_attrs": (MERGING, "mergeNumber"),
     "bh_put_together_by_cell": (MERGING, "mergeNumber"),
@@ -144,6 +147,11 @@ ROOM_RULES = {
     "bh_clean_panel": (CLEANING, "cleaningNumber"),
     "bh_sheet": (SHEET, "sheetNumber"),
 }
+# The lists of the mesh itself that a call changes where they stand: each has the length that it has, and no stated room. They come first.
+CHANGED = {"bh_compact_in_place": ("positions", "textures", "normals", "corners")}
+# The most entries of a list: by the rules, and by the wrapper.
+LONGEST = r"^longest m = max \((\w+ m)\) \(max \((\w+ m)\) \((\w+ m)\)\)$"
+LONGEST_OF_WRAPPER = r"fn longest\(&self\) -> usize \{\n        \((.*?)\)\.max\((.*?)\)\.max\((.*?)\)\n    \}"
 
 
 def words_at(texts, path, pattern):
@@ -202,23 +210,25 @@ def verdicts_of(texts):
 
 
 # ---- rooms: an expression of the rules and one of the wrapper are the same where they are so on these meshes; 'facebytes' is how many bytes the faces have
-# in a file
+# in a file. Each of the three attribute lists is the longest in one of them
 
 SAMPLES = (
     {"positions": 6144, "textures": 4096, "normals": 6144, "corners": 16384, "sizes": 1365, "facebytes": 55977},
     {"positions": 33, "textures": 14, "normals": 9, "corners": 280, "sizes": 17, "facebytes": 926},
     {"positions": 3, "textures": 0, "normals": 0, "corners": 20, "sizes": 1, "facebytes": 86},
     {"positions": 900, "textures": 0, "normals": 0, "corners": 15600, "sizes": 13, "facebytes": 46878},
+    {"positions": 30, "textures": 46, "normals": 27, "corners": 48, "sizes": 4, "facebytes": 164},
+    {"positions": 12, "textures": 10, "normals": 51, "corners": 36, "sizes": 3, "facebytes": 123},
 )
 
 
 def value(words, given):
-    """An expression of names, numbers and + * / with brackets, where '/' cuts."""
+    """An expression of names, numbers, + * / and max with brackets, where '/' cuts."""
     words = " ".join(words.split())
-    if not re.fullmatch(r"[\w\s+*/()]*", words):
+    if not re.fullmatch(r"[\w\s+*/(),]*", words):
         raise Unreadable(f"a room '{words}'")
     try:
-        return eval(words.replace("/", "//"), {"__builtins__": {}}, given)
+        return eval(words.replace("/", "//"), {"__builtins__": {}, "max": max}, given)
     except (NameError, SyntaxError, TypeError) as why:
         raise Unreadable(f"a room '{words}'") from why
 
@@ -269,7 +279,10 @@ def file_length(texts):
 def rooms_in(texts):
     """Each call's stated rooms."""
     stated = {call: rooms_of_rule(texts[path], name) for call, (path, name) in ROOM_RULES.items()}
-    return {call: [room.replace("fileLength m", file_length(texts)) for room in rooms] for call, rooms in stated.items()}
+    known = {"fileLength m": file_length(texts), "longest m": f"max({counted(', '.join(words_at(texts, IN_PLACE, LONGEST)))})"}
+    for rule, room in known.items():
+        stated = {call: [words.replace(rule, room) for words in rooms] for call, rooms in stated.items()}
+    return {call: [*CHANGED.get(call, ()), *rooms] for call, rooms in stated.items()}
 
 
 # ---- what the wrapper says
@@ -339,9 +352,15 @@ def lent_rooms(text):
             rooms[call[0]] = readers
         else:
             rooms[call[0]] = dict(re.findall(r"(\w+)(?:: | = )vec!\[\s*0(?:\.0)?;\s+([^\]]*)\]", body))
+            # A list of its own that is changed where it stands.
+            rooms[call[0]] |= {list_: f"self.{list_}.len()" for list_ in re.findall(r"self\.(\w+)\.as_mut_ptr\(\),\s+self\.\1\.len\(\),", body)}
     if "fn corner_count(self) -> usize {\n        self.corners.len() / CORNER_WIDTH\n    }" not in text:
         raise Unreadable("corner_count")
-    return rooms
+    longest = re.search(LONGEST_OF_WRAPPER, text)
+    if not longest:
+        raise Unreadable("longest")
+    most = f"max({', '.join(longest.groups())})"
+    return {call: {list_: room.replace("self.longest()", most) for list_, room in lists.items()} for call, lists in rooms.items()}
 
 
 def face_records(texts):

@@ -30,8 +30,8 @@ struct mesh {
         BH_CORNER_WIDTH * mesh.counts[3], mesh.sizes, mesh.counts[4]
 #define ROOM(list) list, sizeof list / sizeof *list
 
-static struct mesh mesh, made;
-static uint32_t origins[BH_MAX_FACES], flat[2 * BH_MAX_CORNERS], lengths[BH_MAX_CORNERS], verdict;
+static struct mesh mesh, made, copied; /* copied: for a call that changes the mesh */
+static uint32_t numbers[BH_MAX_ENTRIES], origins[BH_MAX_FACES], flat[2 * BH_MAX_CORNERS], lengths[BH_MAX_CORNERS], verdict;
 static uint8_t file[LONGEST_FILE], text[BH_SHEET_ROOM], written[BH_FILE_ROOM];
 static double ones[BH_COSINES], twos[BH_COSINES];
 static size_t file_len, a, b, c;
@@ -49,6 +49,11 @@ static void face(void) { bh_face(LISTS, mesh.counts[4] - 1, &a, &b); }
 static void push(void) { bh_push(mesh.corners, BH_CORNER_WIDTH * mesh.counts[3], mesh.sizes, mesh.counts[4], ROOM(made.corners), ROOM(made.sizes), &a, &b); }
 static void compaction(void) {
     bh_remove_unused_attrs(LISTS, ROOM(made.corners), ROOM(made.positions), ROOM(made.textures), ROOM(made.normals), &a, &b, &c);
+}
+static void in_place(void) {
+    copied = mesh;
+    bh_compact_in_place(copied.positions, 3 * copied.counts[0], copied.textures, 2 * copied.counts[1], copied.normals, 3 * copied.counts[2], copied.corners,
+                        BH_CORNER_WIDTH * copied.counts[3], copied.sizes, copied.counts[4], ROOM(numbers), &a, &b, &c);
 }
 static void removal(void) { bh_remove_degenerate_faces(LISTS, ROOM(made.corners), ROOM(made.sizes), ROOM(origins), &a, &b); }
 static void merging(void) { bh_put_together_same_attrs(LISTS, 0.125, ROOM(made.corners), &a, &b, &c); }
@@ -70,6 +75,7 @@ static struct { const char *name; void (*call)(void); size_t deepest, on; } call
     {"bh_face", face, 0, 0},
     {"bh_push", push, 0, 0},
     {"bh_remove_unused_attrs", compaction, 0, 0},
+    {"bh_compact_in_place", in_place, 0, 0},
     {"bh_remove_degenerate_faces", removal, 0, 0},
     {"bh_put_together_same_attrs", merging, 0, 0},
     {"bh_put_together_by_cell", by_cell, 0, 0},

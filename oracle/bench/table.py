@@ -14,6 +14,7 @@ RATIOS = (
     ("the check of a mesh", ("mesh_number",), 1.0, ()),
     ("faces in any order", ("push",), 1.0, ()),
     ("compaction", ("remove_unused_attrs",), 1.0, ()),
+    ("compaction in place", ("compact_in_place",), 1.0, ()),
     ("removal", ("remove_degenerate_faces",), 1.0, ()),
     ("verdict", ("shell_condition",), 1.0, ()),
     ("wires", ("hem_edges", "extract_boundaries", "house_wires"), 1.0, ()),
@@ -26,6 +27,7 @@ RATIOS = (
 GROWING = ("shell_condition", "hem_edges", "extract_boundaries", "house_wires", "components")
 MOST_GROWTH = 24.0
 PLAIN, BY_CELL = "put_together_same_attrs", "put_together_by_cell"
+ORDINARY, IN_PLACE, MOST_IN_PLACE = "remove_unused_attrs", "compact_in_place", 1.5
 
 
 def least(files):
@@ -83,9 +85,20 @@ def print_ratios(times, of_sizes, ratios):
         print_goal(f"{name}: ours/Rust at most {most:.1f}", found, most)
 
 
+def print_in_place(times, of_sizes):
+    """Compaction in place beside ordinary compaction, on every mesh at every size, and how it grows."""
+    rows = {mesh: (row, times.get((ORDINARY, mesh), {})) for (call, mesh), row in times.items() if call == IN_PLACE}
+    sides = [(row.get(("ours", size)), other.get(("ours", size)), mesh, size) for mesh, (row, other) in rows.items() for size in of_sizes]
+    found = [(ours / ordinary, f"`{IN_PLACE}`", mesh, f"{size:,}") for ours, ordinary, mesh, size in sides if ours and ordinary]
+    print_goal(f"compaction in place/ordinary: at most {MOST_IN_PLACE}", found, MOST_IN_PLACE)
+    grown = [(quotient(row, ("ours", of_sizes[-1]), ("ours", of_sizes[0])), f"`{IN_PLACE}`", mesh, "") for mesh, (row, _) in rows.items()]
+    print_goal(f"compaction in place from {of_sizes[0]:,} to {of_sizes[-1]:,} corners: growth at most {MOST_GROWTH:.0f}", grown, MOST_GROWTH)
+
+
 def print_goals(times):
     print("\n## How the goals came out\n")
     print_ratios(times, SIZES, RATIOS)
+    print_in_place(times, SIZES)
     grown = [
         (quotient(row, ("ours", SIZES[-1]), ("ours", SIZES[0])), f"`{call}`", mesh, "")
         for (call, mesh), row in times.items()
@@ -146,6 +159,7 @@ if __name__ == "__main__":
         print_table(found, ROUND_SIZES)
         print()
         print_ratios(found, ROUND_SIZES, [goal for goal in RATIOS if any((call, mesh) in found for call in goal[1] for _, mesh in found)])
+        print_in_place(found, ROUND_SIZES)
     else:
         found = least(sys.argv[1:])
         print_table(found)

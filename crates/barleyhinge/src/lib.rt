@@ -10,6 +10,7 @@ ghost use Rattle.mesh.specs.Listed.{listedOf};
 ghost use Rattle.mesh.specs.Table.{meshNumber};
 ghost use Rattle.faces.specs.Faces.{facesOf, Grouped};
 ghost use Rattle.unused.specs.Compaction as compacting;
+ghost use Rattle.inplace.specs.InPlace.{InPlace};
 ghost use Rattle.removal.specs.Folded as folding;
 ghost use Rattle.edges.specs.Answers.{hemsIn, HemAnswer};
 ghost use Rattle.merging.specs.Merging.{PutTogether};
@@ -115,6 +116,29 @@ pub extern "C" fn bh_remove_unused_attrs(
         newtextures,
         newnormals,
     );
+    answers::compacted(made, positioncount, texturecount, normalcount)
+}
+
+// Compaction in place: the lists and the corners are changed where they stand, beside a list of numbers.
+#[no_mangle]
+pub extern "C" fn bh_compact_in_place(
+    positions: &mut [f64],
+    textures: &mut [f64],
+    normals: &mut [f64],
+    corners: &mut [u32],
+    sizes: &[u32],
+    numbers: &mut [u32],
+    positioncount: &mut usize,
+    texturecount: &mut usize,
+    normalcount: &mut usize,
+) -> u32
+    ensures { λ r. ⌜ InPlace
+        (meshOf (now (positions .entry)) (now (textures .entry)) (now (normals .entry)) (now (corners .entry)) (now (sizes .entry)))
+        (meshOf (now (positions .exit)) (now (textures .exit)) (now (normals .exit)) (now (corners .exit)) (now (sizes .entry)))
+        (now (numbers .entry)) (now (numbers .exit))
+        (answer.compactedBy r (now (positioncount .exit)) (now (texturecount .exit)) (now (normalcount .exit))) ⌝ }
+{
+    let made = inplace::compact_in_place(positions, textures, normals, corners, sizes, numbers);
     answers::compacted(made, positioncount, texturecount, normalcount)
 }
 

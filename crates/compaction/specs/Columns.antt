@@ -2,7 +2,7 @@
 use Prim.Native.Nat.{ℕ, zero, suc, _+_, _*_, _/_, _≤_}
 use mathlib.Core.Path.{_≡_}
 use mathlib.Core.List.{List}
-use lib.ListN.{length, take, set}
+use lib.ListN.{length, set}
 use lib.Seq.{sets}
 use lib.Ieee.{Float}
 use Rattle.mesh.specs.Limits.{width}
@@ -20,11 +20,6 @@ pub record ColumnReady (attrs : List Float) (w : ℕ) (cs : List ℕ) (q : ℕ) 
   pub pointed : Pointed attrs w cs q
   pub room : length attrs ≤ length fresh
   pub corner-room : length cs ≤ length out
-
--- the same where the entries are the first n numbers of a list
-pub record ColumnStanding (attrs : List Float) (w n : ℕ) (cs : List ℕ) (q : ℕ) (fresh : List Float) (out : List ℕ) : Type 0 where
-  pub within : n ≤ length attrs
-  pub ready : ColumnReady (take n attrs) w cs q fresh out
 
 -- the entries that the column uses are written in the order of first use, and the corners have its new numbers
 pub record ColumnDone

@@ -3,11 +3,10 @@
 // Corners are read in face order. Positions, then texture points, then normals are each renumbered by first use, from 0; the new
 // lists hold the old entries in that order, bit for bit. A missing index stays missing. The definitions that a caller cites stand
 // in unused's specs/Compaction.antt; one index of one corner is renumbered by crate oneindex.
-ghost use lib.ListN.{take};
 ghost use Rattle.mesh.specs.Mesh.{meshOf};
 ghost use Rattle.unused.specs.Compaction as want;
 ghost use Rattle.unused.specs.Working.{Ready, Done, Refused};
-ghost use Rattle.compaction.specs.Columns.{ColumnReady, ColumnDone, ColumnStanding};
+ghost use Rattle.compaction.specs.Columns.{ColumnReady, ColumnDone};
 use mesh::MISSING;
 use mesh::POINT_WIDTH;
 use mesh::TEXEL_WIDTH;
@@ -102,8 +101,8 @@ pub fn compact(
 }
 
 // One pass over the corners, for one of their columns: `out` gets its new numbers, and `fresh` the entries that it uses, w numbers wide, in
-// the order of first use. Answers how many there are. So whoever has room for one list of entries alone can compact one after the other.
-pub fn compact_column(
+// the order of first use. Answers how many there are.
+fn compact_column(
     attrs: &[f64],
     w: usize,
     corners: &[u32],
@@ -124,24 +123,4 @@ pub fn compact_column(
         k += 1;
     }
     used as usize
-}
-
-// The same within one list, whose first n numbers are the entries: those that the column uses come to its front. `fresh` is lent to work in.
-pub fn keep_used(
-    attrs: &mut [f64],
-    w: usize,
-    n: usize,
-    corners: &[u32],
-    q: usize,
-    fresh: &mut [f64],
-    out: &mut [u32],
-) -> usize
-    requires { ⌜ ColumnStanding (now attrs) w n (now corners) q (now fresh) (now out) ⌝ }
-    ensures { λ r. ⌜ ColumnDone (take n (now (attrs .entry))) w (now (corners .entry)) q
-        (now (attrs .entry)) (now (attrs .exit)) (now (out .entry)) (now (out .exit)) r ⌝ }
-{
-    let used = compact_column(&attrs[..n], w, corners, q, fresh, out);
-    let m = w * used;
-    lists::put_coordinates(&fresh[..m], attrs, 0);
-    used
 }

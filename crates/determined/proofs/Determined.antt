@@ -16,7 +16,7 @@ use Rattle.edges.specs.Answers.{answerOf, judged, hemsIn}
 use Rattle.edges.proofs.Answering.{answer-only}
 use Rattle.tracing.specs.Answers.{Answered}
 use Rattle.tracing.specs.declared.Wires.{Wires}
-use Rattle.determined.specs.Determined.{Call, Determined, _and_, done, equals, number, face, pushCall, compactionCall, removalCall}
+use Rattle.determined.specs.Determined.{Call, Determined, _and_, done, equals, number, face, pushCall, compactionCall, inPlaceCall, removalCall}
 use Rattle.determined.specs.Determined.{mergingCall, smoothingCall, verdictCall, hemCall, portedCall, houseCall, panelsCall, readCall, scanCall, writeCall, cleanCall, sheetCall, AllDetermined}
 
 -- ---- the general law
@@ -64,6 +64,19 @@ compaction-determined g r q a b =
     let y : r .1 .textures ≡ q .1 .textures = cc in
     let z : r .1 .normals ≡ q .1 .normals = cc in
     λ i. (record { number = n i; positions = p i; textures = t i; normals = u i }, compaction.resultOf (c i) (x i) (y i) (z i))
+
+in-place-determined : Determined inPlaceCall
+in-place-determined g r q a b =
+    let n : r .0 .number ≡ q .0 .number = cc in
+    let p : r .0 .positions ≡ q .0 .positions = cc in
+    let t : r .0 .textures ≡ q .0 .textures = cc in
+    let u : r .0 .normals ≡ q .0 .normals = cc in
+    let c : r .1 .0 .corners ≡ q .1 .0 .corners = cc in
+    let x : r .1 .0 .positions ≡ q .1 .0 .positions = cc in
+    let y : r .1 .0 .textures ≡ q .1 .0 .textures = cc in
+    let z : r .1 .0 .normals ≡ q .1 .0 .normals = cc in
+    let s : r .1 .1 ≡ q .1 .1 = cc in
+    λ i. (record { number = n i; positions = p i; textures = t i; normals = u i }, (compaction.resultOf (c i) (x i) (y i) (z i), s i))
 
 removal-determined : Determined removalCall
 removal-determined g r q a b =
@@ -197,6 +210,7 @@ all-determined =
     and face-determined
     and push-determined
     and compaction-determined
+    and in-place-determined
     and removal-determined
     and merging-determined
     and smoothing-determined

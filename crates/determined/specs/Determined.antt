@@ -5,12 +5,13 @@ use mathlib.Core.Path.{_≡_}
 use mathlib.Core.Bool.{Bool}
 use mathlib.Core.List.{List, [], _∷_}
 use lib.Ieee.{Float}
-use Rattle.mesh.specs.Mesh.{Mesh}
+use Rattle.mesh.specs.Mesh.{Mesh, meshOf}
 use Rattle.mesh.specs.Listed.{Listed}
 use Rattle.mesh.specs.Table.{meshNumber}
 use Rattle.mesh.specs.Face.{facePart}
 use Rattle.faces.specs.Faces.{Grouped}
-use Rattle.unused.specs.Compaction.{Compaction}
+use Rattle.unused.specs.Compaction.{Compaction, Result as Lists}
+use Rattle.inplace.specs.InPlace.{InPlace}
 use Rattle.removal.specs.Folded.{Removal}
 use Rattle.merging.specs.Merging.{PutTogether}
 use Rattle.smoothed.specs.Refusals.{Result}
@@ -79,6 +80,17 @@ pushCall = lending Grouped
 abbrev pub compactionCall : Call
 compactionCall = lending Compaction
 
+-- the mesh whose corners and attributes these lists are
+abbrev pub meshFrom : Lists → List ℕ → Mesh
+meshFrom lists sizes = meshOf (lists .positions) (lists .textures) (lists .normals) (lists .corners) sizes
+
+-- `inplace::compact_in_place`: the sizes are given; the other lists of the mesh are changed where they stand, beside the number list
+abbrev pub inPlaceCall : Call
+inPlaceCall =
+    lending
+    (λ (sizes : List ℕ) (before afterwards : Lists × List ℕ).
+    InPlace (meshFrom (before .0) sizes) (meshFrom (afterwards .0) sizes) (before .1) (afterwards .1))
+
 -- `folded::remove_degenerate_faces`
 abbrev pub removalCall : Call
 removalCall = lending Removal
@@ -135,6 +147,7 @@ calls =
     ∷ face
     ∷ pushCall
     ∷ compactionCall
+    ∷ inPlaceCall
     ∷ removalCall
     ∷ mergingCall
     ∷ smoothingCall

@@ -1,5 +1,5 @@
 -- The list of the calls is no retelling: each contract, as the source of its function has it, says what the list says. The kit hands
--- out a contract as `Post`: lifetimes, arguments, answer, arguments afterwards. A weaker `ensures` in any of the eighteen sources is
+-- out a contract as `Post`: lifetimes, arguments, answer, arguments afterwards. A weaker `ensures` in any of the nineteen sources is
 -- refused here. Assumes nothing.
 use Prim.Native.Nat.{ℕ}
 use mathlib.Core.Path.{_≡_}
@@ -13,12 +13,16 @@ use Rattle.unused.specs.Compaction as compaction
 use Rattle.removal.specs.Folded as removal
 use Rattle.smoothed.specs.Refusals as smoothed
 use Rattle.edges.specs.Answers.{HemLists, hemsIn}
-use Rattle.determined.specs.Determined.{Call, number, face, pushCall, compactionCall, removalCall, mergingCall, smoothingCall, verdictCall}
+use Rattle.unused.specs.declared.Compacted.{Compacted}
+use Rattle.inplace.specs.Promises.{AsOrdinary}
+use Rattle.determined.specs.Determined.{Call, number, face, pushCall, compactionCall, meshFrom, inPlaceCall, removalCall, mergingCall}
+use Rattle.determined.specs.Determined.{smoothingCall, verdictCall}
 use Rattle.determined.specs.Determined.{hemCall, portedCall, houseCall, panelsCall, readCall, scanCall, writeCall, cleanCall, sheetCall}
 use Rattle.mesh.proofs.number.Reads as mesh-number
 use Rattle.mesh.proofs.face.Reads as mesh-face
 use Rattle.faces.proofs.push.Reads as push
 use Rattle.compaction.proofs.remove_unused_attrs.Reads as remove-unused-attrs
+use Rattle.inplace.proofs.compact_in_place.Reads as compact-in-place
 use Rattle.folded.proofs.remove_degenerate_faces.Reads as remove-degenerate-faces
 use Rattle.merging.proofs.put_together_same_attrs.Reads as put-together-same-attrs
 use Rattle.merging.proofs.put_together_by_cell.Reads as put-together-by-cell
@@ -70,6 +74,13 @@ module _ {Rest : Type 0} where
   abbrev pub compactedLists : Lends ℕ (Lends Float (Lends Float (Lends Float Rest))) → compaction.Result
   compactedLists a = compaction.resultOf (now (a .0)) (now (a .1 .0)) (now (a .1 .1 .0)) (now (a .1 .1 .1 .0))
 
+  -- the lists that compaction in place changes where they stand, with its number list; the sizes stand between them
+  abbrev pub placedLists : LendsMesh (Lends ℕ Rest) → compaction.Result × List ℕ
+  placedLists a = (compaction.resultOf (now (a .1 .1 .1 .0)) (now (a .0)) (now (a .1 .0)) (now (a .1 .1 .0)), now (a .1 .1 .1 .1 .1 .0))
+
+  abbrev pub sizesIn : LendsMesh Rest → List ℕ
+  sizesIn a = now (a .1 .1 .1 .1 .0)
+
   abbrev pub removedLists : Lends ℕ (Lends ℕ (Lends ℕ Rest)) → removal.Result
   removedLists a = removal.resultOf (now (a .0)) (now (a .1 .0)) (now (a .1 .1 .0))
 
@@ -89,13 +100,14 @@ abbrev pub OneResult :
 OneResult {K} {A} {R} {E} Post result =
     (κs : K) (a : A) (r q : R) (e f : E) → Post κs a r e → Post κs a q f → result r e ≡ result q f
 
--- the eighteen calls: two of them, the engines of merging, have one contract
+-- the nineteen calls: two of them, the engines of merging, have one contract
 pub record AllTied : Type 0 where
   pub number-tied : Tied mesh-number.Post number meshIn (λ r e. r)
   pub face-tied : Tied mesh-face.Post face (λ a. (meshIn a, rest a .0)) (λ r e. now r)
   pub push-tied : Tied push.Post pushCall (λ a. (faceLists a, faceLists (a .1 .1))) (λ r e. (r, faceLists (e .1 .1)))
   pub compaction-tied :
       Tied remove-unused-attrs.Post compactionCall (λ a. (meshIn a, compactedLists (rest a))) (λ r e. (r, compactedLists (rest e)))
+  pub in-place-tied : Tied compact-in-place.Post inPlaceCall (λ a. (sizesIn a, placedLists a)) (λ r e. (r, placedLists e))
   pub removal-tied :
       Tied remove-degenerate-faces.Post removalCall (λ a. (meshIn a, removedLists (rest a))) (λ r e. (r, removedLists (rest e)))
   pub merging-tied :
@@ -128,3 +140,19 @@ SameResult {K} {A} {R} {E} One Other result =
 -- `put_together_same_attrs` and `put_together_by_cell`: number, counts and lent list
 abbrev pub EnginesAgree : Type 0
 EnginesAgree = SameResult {B = mergingCall .Result} put-together-same-attrs.Post put-together-by-cell.Post (λ r e. (r, list (rest e .1)))
+
+-- ---- compaction in place, and the ordinary
+
+-- where two sources are given one mesh and both answer 0, what the second leaves in its own lists is what the first hands over
+abbrev pub SameMesh :
+    {K A E K′ A′ E′ : Type 0} → (K → A → Compacted → E → Type 0) → (A → Mesh) → (E → compaction.Result)
+    → (K′ → A′ → Compacted → E′ → Type 0) → (A′ → Mesh) → (A′ → E′ → Mesh) → Type 0
+SameMesh {K} {A} {E} {K′} {A′} {E′} One given handed Other own left =
+    (κs : K) (κt : K′) (a : A) (b : A′) (r q : Compacted) (e : E) (f : E′)
+    → One κs a r e → Other κt b q f → given a ≡ own b → r .number ≡ 0 → q .number ≡ 0 → AsOrdinary (handed e) r (left b f) q
+
+-- `remove_unused_attrs` and `compact_in_place`: counts, entries and corners
+abbrev pub InPlaceAgrees : Type 0
+InPlaceAgrees =
+    SameMesh remove-unused-attrs.Post meshIn (λ e. compactedLists (rest e))
+    compact-in-place.Post meshIn (λ b f. meshFrom (placedLists f .0) (sizesIn b))

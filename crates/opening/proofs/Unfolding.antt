@@ -1,10 +1,10 @@
 -- Removal within lists at the full limits: on an accepted mesh it can be done, and what it leaves stands at the front of the lists, an
 -- accepted mesh again. Assumes nothing.
 use mathlib.Core.Path.{_≡_, _∙_, refl, sym, ap}
-use mathlib.Core.List.{List}
+use mathlib.Core.List.{List, _++_}
 use Prim.Native.Nat.{ℕ, _*_, _/_, _≤_}
 use native.Mathlib.Omega.{arith}
-use lib.ListN.{length, take, length-map}
+use lib.ListN.{length, take, drop, length-map}
 use lib.Seq.{sets}
 use lib.Ieee.{Float}
 use Rattle.lists.specs.Putting.{Front}
@@ -24,7 +24,7 @@ use Rattle.reading.specs.declared.MeshRead.{MeshRead}
 use Rattle.cleaning.specs.Cleaning.{cleaned}
 use Rattle.opening.specs.Opening.{frontOf, Fronts, Kept}
 use Rattle.opening.specs.Working.{unfoldedFront, FaceRoom, Unfolded}
-use Rattle.opening.proofs.Fronts.{front-length, copied}
+use Rattle.opening.proofs.Fronts.{front-length, goes-on}
 
 module _ {l : Mesh} {d : MeshRead} {us ss os : List ℕ} (room : FaceRoom l d us ss os) where
   abbrev m : Mesh
@@ -84,60 +84,47 @@ module _ {l : Mesh} {d : MeshRead} {us ss os c′ s′ : List ℕ} {k f : ℕ} (
       front-sizes unfolded unfolded-accepted (l .sizes) (room .standing .room .sizes) (removal .sizes)
       (removal .face-count ∙ sym (length-map (removed (faces drawn)) length))
 
-  pub corners-fit : {n : ℕ} → length us ≡ n → width * k ≤ n
-  corners-fit e =
-      omega (arith, front-length unfolded-corners, accepted unfolded unfolded-accepted .limits .corners, room .corners, e)
+  -- what compaction is given, with the list in which the faces' pieces stood for the new numbers
+  abbrev lists : Mesh
+  lists = meshOf (l .positions) (l .textures) (l .normals) (take (width * k) c′) (take f s′)
 
-  -- the corners in the list from which compaction reads
-  module _ (us₁ us′ : List ℕ) (long : length us₁ ≡ length us) (copy : us′ ≡ sets us₁ 0 (take (width * k) c′)) (still : length c′ ≡ length (l .corners)) where
-    pub moved-corners : Front us′ (unfolded .corners) (width * k)
-    moved-corners = copied us₁ unfolded-corners copy (corners-fit (sym long))
+  abbrev handed : Mesh
+  handed = unfoldedFront lists d
 
-    -- what compaction is given
-    abbrev lists : Mesh
-    lists = meshOf (l .positions) (l .textures) (l .normals) c′ (take f s′)
+  handed-is : handed ≡ unfolded
+  unfolding unfoldedMesh
+  handed-is = rw (unfolded-corners .is, unfolded-sizes .is)
 
-    abbrev handed : Mesh
-    handed = unfoldedFront lists d (take (width * k) us′)
+  pub unfolded-ready : (numbers : List ℕ) → length numbers ≡ length us → Unfolded lists d numbers
+  unfolded-ready numbers long = record {
+    accepted = ap meshNumber handed-is ∙ unfolded-accepted;
+    position-front = room .standing .fronts .positions;
+    texture-front = room .standing .fronts .textures;
+    normal-front = room .standing .fronts .normals;
+    room = omega (arith, long, room .corners);
+  }
 
-    handed-is : handed ≡ unfolded
-    unfolding unfoldedMesh
-    handed-is = rw (moved-corners .is, unfolded-sizes .is)
+  -- what it leaves, with the sizes that stand there, and in front of the rest of the corners' list
+  module _ {p′ t′ n′ : List Float} {c″ : List ℕ} {r : MeshRead} (left : Kept (compacted handed) (meshOf p′ t′ n′ c″ (take f s′)) r) where
+    faces-are : f ≡ r .faces
+    unfolding compacted
+    faces-are = unfolded-sizes .long ∙ front-length (left .fronts .sizes)
 
-    pub unfolded-ready : Unfolded lists d (take (width * k) us′)
-    unfolded-ready = record {
-      accepted = ap meshNumber handed-is ∙ unfolded-accepted;
-      position-front = room .standing .fronts .positions;
-      texture-front = room .standing .fronts .textures;
-      normal-front = room .standing .fronts .normals;
-      positions = room .standing .room .positions;
-      textures = room .standing .room .textures;
-      normals = room .standing .room .normals;
-      corners = still ∙ room .standing .room .corners;
-      corner-front = ap (λ (n : ℕ). take n c′) (sym (moved-corners .long)) ∙ unfolded-corners .is ∙ sym (moved-corners .is);
-    }
+    size-front : Front s′ (cleaned drawn .sizes) (r .faces)
+    unfolding cleaned compacted
+    size-front = rw faces-are at unfolded-sizes
 
-    -- what it leaves, with the sizes that stand there
-    module _ {p′ t′ n′ : List Float} {c″ : List ℕ} {r : MeshRead} (left : Kept (compacted handed) (meshOf p′ t′ n′ c″ (take f s′)) r) where
-      faces-are : f ≡ r .faces
-      unfolding compacted
-      faces-are = unfolded-sizes .long ∙ front-length (left .fronts .sizes)
-
-      size-front : Front s′ (cleaned drawn .sizes) (r .faces)
-      unfolding cleaned compacted
-      size-front = rw faces-are at unfolded-sizes
-
-      pub cleaned-kept : Kept (cleaned drawn) (meshOf p′ t′ n′ c″ s′) r
-      unfolding cleaned
-      cleaned-kept =
-          let same : Kept (cleaned drawn) (meshOf p′ t′ n′ c″ (take f s′)) r = rw handed-is at left in
-          record {
-            number = left .number;
-            fronts = record {
-              positions = same .fronts .positions;
-              textures = same .fronts .textures;
-              normals = same .fronts .normals;
-              corners = same .fronts .corners;
-              sizes = size-front;
-            };
-          }
+    pub cleaned-kept : Kept (cleaned drawn) (meshOf p′ t′ n′ (c″ ++ drop (width * k) c′) s′) r
+    unfolding cleaned
+    cleaned-kept =
+        let same : Kept (cleaned drawn) (meshOf p′ t′ n′ c″ (take f s′)) r = rw handed-is at left in
+        record {
+          number = left .number;
+          fronts = record {
+            positions = same .fronts .positions;
+            textures = same .fronts .textures;
+            normals = same .fronts .normals;
+            corners = goes-on (drop (width * k) c′) (same .fronts .corners);
+            sizes = size-front;
+          };
+        }

@@ -1,14 +1,14 @@
 // A panel file opened and cleaned: bytes in, the mesh that is left of it out, in lists that the caller lends.
 //
-// The file is drawn into the lent lists. Folded faces are removed there, by way of lists for their pieces, and what no face uses goes, one
-// list of entries after the other; what is left stands at the front of the lent lists. So there is never more beside the caller's mesh than
-// its faces and one list of entries. Where a step needs lists, one function makes them and `.._in` fills them. The definitions that a caller cites
-// stand in specs/Opening.antt.
+// The file is drawn into the lent lists. Folded faces are removed there, by way of lists for their pieces, and what no face uses goes within
+// the list that it stands in; what is left stands at the front of the lent lists. So there is never more beside the caller's mesh than its
+// faces. Where a step needs lists, one function makes them and `.._in` fills them. The definitions that a caller cites stand in
+// specs/Opening.antt.
 ghost use Rattle.mesh.specs.Mesh.{meshOf};
 ghost use Rattle.unused.specs.Compaction.{compacted};
 ghost use Rattle.cleaning.specs.Cleaning.{cleaned};
 ghost use Rattle.opening.specs.Opening.{FullRoom, frontOf, Standing, Kept, Opened};
-ghost use Rattle.opening.specs.Working.{unfoldedFront, FaceRoom, Unfolded, EntryRoom};
+ghost use Rattle.opening.specs.Working.{unfoldedFront, FaceRoom, Unfolded};
 use mesh::POINT_WIDTH;
 use mesh::TEXEL_WIDTH;
 use mesh::WIDTH;
@@ -67,8 +67,8 @@ pub fn clean(
     )
 }
 
-// Folded faces are removed; which face each came from is not needed further. Compaction reads the corners in one list and writes them to
-// another, so they go there first; they stand in both then, and each has its mark where it is.
+// Folded faces are removed; which face each came from is not needed further, nor are their pieces: that list holds the new numbers of entries
+// from here on.
 fn remove_in(
     drawn: MeshRead,
     unfolded: &mut [u32],
@@ -91,76 +91,49 @@ fn remove_in(
     let left = allfaces::remove_within(corners, sizes, c, f, unfolded, newsizes, origins);
     let k = WIDTH * left.corners;
     let g = left.faces;
-    lists::put(&corners[..k], unfolded, 0);
     compact(
         drawn,
-        &unfolded[..k],
         &sizes[..g],
+        unfolded,
         positions,
         textures,
         normals,
-        corners,
+        &mut corners[..k],
     )
 }
 
-// A mesh without folded faces, whose entries are at the front of their lists: one list for the entries that its faces use.
+// A mesh without folded faces, whose entries are at the front of their lists: what no face uses goes, where it stands.
 fn compact(
     drawn: MeshRead,
-    unfolded: &[u32],
-    newsizes: &[u32],
+    sizes: &[u32],
+    numbers: &mut [u32],
     positions: &mut [f64],
     textures: &mut [f64],
     normals: &mut [f64],
     corners: &mut [u32],
 ) -> MeshRead
-    requires { ⌜ Unfolded (meshOf (now positions) (now textures) (now normals) (now corners) (now newsizes)) drawn (now unfolded) ⌝ }
+    requires { ⌜ Unfolded (meshOf (now positions) (now textures) (now normals) (now corners) (now sizes)) drawn (now numbers) ⌝ }
     ensures { λ r. ⌜ Kept
-        (compacted (unfoldedFront (meshOf (now (positions .entry)) (now (textures .entry)) (now (normals .entry)) (now (corners .entry)) (now (newsizes .entry)))
-        drawn (now (unfolded .entry))))
-        (meshOf (now (positions .exit)) (now (textures .exit)) (now (normals .exit)) (now (corners .exit)) (now (newsizes .entry))) r ⌝ }
-{
-    let mut fresh = [0.0f64; mesh::POINT_NUMBERS];
-    compact_in(
-        drawn,
-        unfolded,
-        newsizes,
-        &mut fresh[..],
-        positions,
-        textures,
-        normals,
-        corners,
-    )
-}
-
-// What no face uses goes, column by column, each by way of the same list.
-fn compact_in(
-    drawn: MeshRead,
-    unfolded: &[u32],
-    newsizes: &[u32],
-    fresh: &mut [f64],
-    positions: &mut [f64],
-    textures: &mut [f64],
-    normals: &mut [f64],
-    corners: &mut [u32],
-) -> MeshRead
-    requires { ⌜ EntryRoom (meshOf (now positions) (now textures) (now normals) (now corners) (now newsizes)) drawn (now unfolded) (now fresh) ⌝ }
-    ensures { λ r. ⌜ Kept
-        (compacted (unfoldedFront (meshOf (now (positions .entry)) (now (textures .entry)) (now (normals .entry)) (now (corners .entry)) (now (newsizes .entry)))
-        drawn (now (unfolded .entry))))
-        (meshOf (now (positions .exit)) (now (textures .exit)) (now (normals .exit)) (now (corners .exit)) (now (newsizes .entry))) r ⌝ }
+        (compacted (unfoldedFront (meshOf (now (positions .entry)) (now (textures .entry)) (now (normals .entry)) (now (corners .entry)) (now (sizes .entry))) drawn))
+        (meshOf (now (positions .exit)) (now (textures .exit)) (now (normals .exit)) (now (corners .exit)) (now (sizes .entry))) r ⌝ }
 {
     let p = POINT_WIDTH * drawn.positions;
     let t = TEXEL_WIDTH * drawn.textures;
     let n = POINT_WIDTH * drawn.normals;
-    let i = compaction::keep_used(positions, POINT_WIDTH, p, unfolded, 0, fresh, corners);
-    let j = compaction::keep_used(textures, TEXEL_WIDTH, t, unfolded, 1, fresh, corners);
-    let k = compaction::keep_used(normals, POINT_WIDTH, n, unfolded, 2, fresh, corners);
+    let kept = inplace::compact(
+        &mut positions[..p],
+        &mut textures[..t],
+        &mut normals[..n],
+        corners,
+        sizes,
+        numbers,
+    );
     MeshRead {
         number: 0,
-        positions: i,
-        textures: j,
-        normals: k,
-        corners: unfolded.len() / WIDTH,
-        faces: newsizes.len(),
+        positions: kept.positions,
+        textures: kept.textures,
+        normals: kept.normals,
+        corners: corners.len() / WIDTH,
+        faces: sizes.len(),
     }
 }

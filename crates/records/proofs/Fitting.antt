@@ -15,7 +15,7 @@ use Rattle.mesh.proofs.Numbers.{first-head, first-tail, when-not}
 use Rattle.records.specs.declared.Record.{Record}
 use Rattle.records.specs.declared.Record.the-variants.{Position, Texture, Normal, Face, Refused}
 use Rattle.little.specs.Little.{half}
-use Rattle.records.specs.Lengths.{headerLength, cornerSize, pointLength, texelLength, byteCount, wideCount, byteFaceLimit, lastKind}
+use Rattle.records.specs.Lengths.{headerLength, cornerSize, pointLength, texelLength, byteCount, wideCount, lastKind}
 use Rattle.records.specs.Records.{valuesOf, endOf, Placed, lengthFits, unless, pointFrom, texelFrom, attribute, ringFrom}
 use Rattle.records.specs.Records.{lacksMarks, counted, faceFrom, wideFaceFrom, markedFaceFrom, bodyFrom, recordFrom}
 
@@ -66,11 +66,11 @@ body-fits s at n (suc (suc zero)) h l e =
 body-fits s at n (suc (suc (suc zero))) h l e =
     attribute-fits (length s) at (Normal (pointFrom s (at + headerLength))) h (let i : n ≡ pointLength = eqb-true n pointLength e in omega arith) tt
 body-fits s at n (suc (suc (suc (suc zero)))) h l e =
-    counted-fits false s (length s) at byteCount byteFaceLimit _ n (omega arith) (omega arith) h l
+    counted-fits false s (length s) at byteCount _ _ n (omega arith) (omega arith) h l
 body-fits s at n (suc (suc (suc (suc (suc zero))))) h l e =
-    counted-fits false s (length s) at wideCount ringLimit _ n (omega arith) (omega arith) h l
+    counted-fits false s (length s) at wideCount _ _ n (omega arith) (omega arith) h l
 body-fits s at n (suc (suc (suc (suc (suc (suc k)))))) h l e =
-    counted-fits true s (length s) at wideCount ringLimit _ n (omega arith) (omega arith) h l
+    counted-fits true s (length s) at wideCount _ _ n (omega arith) (omega arith) h l
 
 pub record-fits : (s : List ℕ) (at : ℕ) → at ≤ length s → Fitted (length s) at (recordFrom s at)
 unfolding recordFrom

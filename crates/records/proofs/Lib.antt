@@ -3,3 +3,4 @@ pub mod Fitting
 pub mod Values
 pub mod Ringing
 pub mod Numbered
+pub mod Kind6

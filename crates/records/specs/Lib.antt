@@ -3,3 +3,4 @@ pub mod Lengths
 pub mod Records
 -- what they come to, by the numbers of the requests
 pub mod Promises
+pub mod Kind6

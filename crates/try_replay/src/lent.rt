@@ -130,13 +130,19 @@ fn fill_bytes(out: &mut [u8], n: usize) {
 
 // The outcome so far, with the list that was lent next: `all` is what its room was taken from, and the list has its words where the outcome ends.
 pub(crate) fn hold(found: Outcome, all: &[u32], list: &[u8]) -> Outcome {
-    let differs = words_differ(all, list, found.end);
-    cases::also(found, differs, cases::after_words(list, found.end))
+    let room = found.end;
+    let at = list::plus(room, 1);
+    let differs = words_differ(all, list, at, list::count(list, room), with(PATTERN, 0));
+    let same = cases::also(found, differs, cases::after_words(list, room));
+    cases::also(same, is_unlike(all.len(), list, room), same.end)
 }
 
 pub(crate) fn hold_floats(found: Outcome, all: &[f64], list: &[u8]) -> Outcome {
-    let differs = floats_differ(all, list, found.end);
-    cases::also(found, differs, cases::after_floats(list, found.end))
+    let room = found.end;
+    let at = list::plus(room, 1);
+    let differs = floats_differ(all, list, at, list::count(list, room), with(PATTERN, 0));
+    let same = cases::also(found, differs, cases::after_floats(list, room));
+    cases::also(same, is_unlike(all.len(), list, room), same.end)
 }
 
 pub(crate) fn hold_bytes(found: Outcome, all: &[u8], list: &[u8]) -> Outcome {
@@ -144,17 +150,38 @@ pub(crate) fn hold_bytes(found: Outcome, all: &[u8], list: &[u8]) -> Outcome {
     cases::also(found, differs, cases::after_bytes(list, found.end))
 }
 
-// Whether a lent list is not as the list says at `room`: its room, what stands at its front, and the pattern behind that up to the room's end.
-fn words_differ(got: &[u32], list: &[u8], room: usize) -> bool {
-    if is_unlike(got.len(), list, room) {
-        return true;
+// What must stand behind an answer: the pattern, zeros, or what stood there before, in the list whose words begin at `place`.
+pub const PATTERN: u32 = 0;
+
+pub const ZEROS: u32 = 1;
+
+pub const BEFORE: u32 = 2;
+
+pub struct Behind {
+    pub what: u32,
+    pub place: usize,
+}
+
+pub(crate) fn with(what: u32, place: usize) -> Behind {
+    Behind {
+        what: what,
+        place: place,
     }
-    let end = list::lesser(list::count(list, room), got.len());
-    let at = list::plus(room, 1);
+}
+
+// Whether the first `end` numbers are not as the list says: the answer whose words begin at `at`, and what must stand behind it.
+pub(crate) fn words_differ(
+    got: &[u32],
+    list: &[u8],
+    at: usize,
+    end: usize,
+    behind: Behind,
+) -> bool {
+    let last = list::lesser(end, got.len());
     let n = list::count(list, at);
     let mut i = 0;
-    while i < end {
-        if got[i] != word_wanted(list, at, n, i) {
+    while i < last {
+        if got[i] != word_wanted(list, at, n, behind, i) {
             return true;
         }
         i += 1;
@@ -162,16 +189,18 @@ fn words_differ(got: &[u32], list: &[u8], room: usize) -> bool {
     false
 }
 
-fn floats_differ(got: &[f64], list: &[u8], room: usize) -> bool {
-    if is_unlike(got.len(), list, room) {
-        return true;
-    }
-    let end = list::lesser(list::count(list, room), got.len());
-    let at = list::plus(room, 1);
+pub(crate) fn floats_differ(
+    got: &[f64],
+    list: &[u8],
+    at: usize,
+    end: usize,
+    behind: Behind,
+) -> bool {
+    let last = list::lesser(end, got.len());
     let n = list::count(list, at);
     let mut i = 0;
-    while i < end {
-        if !is_same(got[i], float_wanted(list, at, n, i)) {
+    while i < last {
+        if !is_same(got[i], float_wanted(list, at, n, behind, i)) {
             return true;
         }
         i += 1;
@@ -179,6 +208,8 @@ fn floats_differ(got: &[f64], list: &[u8], room: usize) -> bool {
     false
 }
 
+// Whether a lent list of bytes is not as the list says at `room`: its room, what stands at its front, and the pattern behind that up to the
+// room's end.
 fn bytes_differ(got: &[u8], list: &[u8], room: usize) -> bool {
     if is_unlike_bytes(got.len(), list, room) {
         return true;
@@ -212,19 +243,31 @@ fn is_unlike_bytes(len: usize, list: &[u8], room: usize) -> bool {
     lent < list::count(list, list::plus(room, 1))
 }
 
-// What must stand at place i of a lent list: number i of the answer, or the pattern behind the answer's n.
-fn word_wanted(list: &[u8], at: usize, n: usize, i: usize) -> u32 {
+// What must stand at place i of a list: number i of the answer, or what is behind the answer's n.
+fn word_wanted(list: &[u8], at: usize, n: usize, behind: Behind, i: usize) -> u32 {
     if i < n {
         return list::word_in(list, at, i);
     }
-    pattern(i)
+    if behind.what == PATTERN {
+        return pattern(i);
+    }
+    if behind.what == ZEROS {
+        return 0;
+    }
+    list::word_in(list, behind.place, i)
 }
 
-fn float_wanted(list: &[u8], at: usize, n: usize, i: usize) -> f64 {
+fn float_wanted(list: &[u8], at: usize, n: usize, behind: Behind, i: usize) -> f64 {
     if i < n {
         return list::float_in(list, at, i);
     }
-    pattern_float(i)
+    if behind.what == PATTERN {
+        return pattern_float(i);
+    }
+    if behind.what == ZEROS {
+        return 0.0;
+    }
+    list::float_in(list, behind.place, i)
 }
 
 fn byte_wanted(list: &[u8], at: usize, n: usize, i: usize) -> u8 {

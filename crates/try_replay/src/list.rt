@@ -7,6 +7,9 @@ ghost use Prim.Native.Nat.{_≤_};
 // No list has so many words.
 const BEYOND: usize = 1000000;
 
+// So this is no word's place, and a list there has no numbers.
+pub const NOWHERE: usize = BEYOND;
+
 // A word, as an index.
 fn index(w: u32) -> usize {
     w as usize

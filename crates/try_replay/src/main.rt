@@ -5,12 +5,13 @@
 // The list was made by the oracle, from the Rust itself and from a second reading of document 01 (oracle/README.md); README.md has
 // its format, and how this program was seen to fail. Here the records are gone through; `list` reads the list, `lent` fills a list that is lent
 // and holds it to the answer afterwards, `cases` has what the cases of all calls share, `questions` puts a case to its call, by `by_faces`,
-// `attributes`, `surfaces` and `files`, and `tally` counts how the cases came out.
+// `attributes`, `in_place`, `surfaces` and `files`, and `tally` counts how the cases came out.
 mod attributes;
 mod by_faces;
 mod bytes;
 mod cases;
 mod files;
+mod in_place;
 mod lent;
 mod list;
 mod pairs;
@@ -62,7 +63,7 @@ fn replay(list: &[u8], counts: &mut [u32]) -> bool {
     list.len() % 4 == 0
 }
 
-// One record: a mesh, a file or cosines, which the cases after it are about, or a case. Answers what the next record is about.
+// One record: a mesh, a file or cosines, which the cases after it are about, or a case; one of compaction is put to compaction in place too. Answers what the next record is about.
 fn record(list: &[u8], at: usize, next: usize, about: About, counts: &mut [u32]) -> About {
     let kind = list::word(list, list::plus(at, 1));
     let place = list::plus(at, 2);
@@ -78,7 +79,10 @@ fn record(list: &[u8], at: usize, next: usize, about: About, counts: &mut [u32])
             cosines: place,
         };
     }
-    tally::add(counts, kind, outcome(list, place, next, about, kind));
+    ask(list, place, next, about, kind, counts);
+    if kind == attributes::COMPACTION {
+        ask(list, place, next, about, in_place::IN_PLACE, counts);
+    }
     about
 }
 
@@ -87,6 +91,11 @@ fn is_subject(kind: u32) -> bool {
         return true;
     }
     kind == questions::FILE
+}
+
+// Asks a case of a call, and counts how it came out.
+fn ask(list: &[u8], at: usize, next: usize, about: About, kind: u32, counts: &mut [u32]) {
+    tally::add(counts, kind, outcome(list, at, next, about, kind));
 }
 
 // How a case came out whose own words begin at `at`; it must end where the next record begins.

@@ -5,6 +5,7 @@ use crate::bytes;
 use crate::cases::About;
 use crate::cases::Outcome;
 use crate::files;
+use crate::in_place;
 use crate::list;
 use crate::reader;
 use crate::surfaces;
@@ -26,6 +27,9 @@ struct Case {
 pub(crate) fn ask(list: &[u8], about: About, kind: u32, at: usize) -> Outcome {
     if is_of_files(kind) {
         return files::ask(list, about.subject, kind, at);
+    }
+    if kind == in_place::IN_PLACE {
+        return in_place::ask(list, about.subject, at);
     }
     let case = Case {
         kind: kind,

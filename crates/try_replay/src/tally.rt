@@ -5,9 +5,9 @@ use crate::cases::Outcome;
 // How many numbers the table has, from 0 on.
 const NUMBERS: u32 = 18;
 
-// A row for each kind of record up to the last call's; those of a mesh, of a file and of cosines are no calls, so row 0 is for all of them,
-// and rows 12 and 17 stay empty.
-const ROWS: u32 = 20;
+// A row for each kind of record up to the last call's, and one for compaction in place; those of a mesh, of a file and of cosines are no calls,
+// so row 0 is for all of them, and rows 12 and 17 stay empty.
+const ROWS: u32 = 21;
 
 // In a row stand the numbers, then the cases, then those that differed; and there it ends.
 const CASES: u32 = NUMBERS;
@@ -108,6 +108,7 @@ fn print_last(tally: &[u32]) {
     line(tally, 16, b"loop_subdivision");
     line(tally, 18, b"read_scan");
     line(tally, 19, b"put_together_by_cell");
+    line(tally, 20, b"compact_in_place");
     line(tally, 0, b"all");
 }
 

@@ -36,5 +36,13 @@ pub fn time(library: &Library, call: Call, case: &Case) -> Option<Duration> {
         let read = Answer::read(scan::read(&question.file).unwrap());
         assert_eq!(difference(&asked, &read), None);
     }
+    if call.changes_its_mesh() {
+        // A mesh that was compacted has nothing left to move: each run has one of its own, which is made before the clock starts.
+        let compacted = |mut fresh: Asked| {
+            library.put(call, &question, &mut fresh);
+            fresh
+        };
+        return Some(fastest(|| Asked::before(call, &question), compacted));
+    }
     Some(fastest(|| (), |()| library.put(call, &question, &mut asked)))
 }

@@ -26,7 +26,7 @@ pub fn time(call: Call, case: &Case) -> Option<Duration> {
             || (attributes(&mesh), mesh.faces().clone()),
             |(attributes, faces)| PolygonMesh::try_new(attributes, faces).is_ok(),
         ),
-        Call::RemoveUnusedAttrs => changed(&|mesh| {
+        Call::RemoveUnusedAttrs | Call::CompactInPlace => changed(&|mesh| {
             mesh.remove_unused_attrs();
         }),
         Call::RemoveDegenerateFaces => changed(&|mesh| {

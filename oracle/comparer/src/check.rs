@@ -1,7 +1,7 @@
 //! Holds what the product answered to what the judge answers, and the judge's parts to each other.
 
 use crate::library::{Asked, Product, UNTOUCHED};
-use crate::{orders, round_trip};
+use crate::{in_place, orders, round_trip};
 use judge::{reading, rust, Answer, Call, Count, Numbers, Question};
 
 /// A change to what the product answered, before it is compared: see `slips`.
@@ -17,6 +17,8 @@ pub struct Compared {
     pub with_way_back: bool,
     /// Whether the mesh was cleaned in every order, or the cleaned file again.
     pub with_orders: bool,
+    /// Whether the product's ordinary compaction was asked of the same mesh.
+    pub with_ordinary: bool,
     /// What is wrong, in words; none where all agree.
     pub difference: Option<String>,
 }
@@ -27,7 +29,8 @@ pub fn compare(product: &dyn Product, call: Call, question: &Question, slip: Opt
     let with_rust = rust_knows(call, question, &right) && has_turn(call, question, &right);
     if with_rust {
         if let Some(difference) = rust_differs(call, question, &right) {
-            return Compared { right, with_rust, with_way_back: false, with_orders: false, difference: Some(difference) };
+            let difference = Some(difference);
+            return Compared { right, with_rust, with_way_back: false, with_orders: false, with_ordinary: false, difference };
         }
     }
     let mut asked = product.ask(call, question);
@@ -36,14 +39,16 @@ pub fn compare(product: &dyn Product, call: Call, question: &Question, slip: Opt
     }
     let with_way_back = call == Call::WritePanel && right.number == 0 && product.has(Call::ReadPanel);
     let with_orders = right.number == 0 && has_orders(product, call);
+    let with_ordinary = call == Call::CompactInPlace && right.number == 0 && product.has(Call::RemoveUnusedAttrs);
     let difference = difference(&asked, &right).or_else(|| match call {
         Call::WritePanel if with_way_back => round_trip::differs(product, &question.mesh, &asked),
         Call::RemoveDegenerateFaces if with_orders => orders::differ(product, &question.mesh, None),
         Call::CleanPanel if with_orders => orders::files_differ(product, &question.file, &asked),
+        Call::CompactInPlace if with_ordinary => in_place::differs(product, &question.mesh, &asked),
         _ => None,
     });
     let difference = difference.map(|difference| format!("the product differs: {difference}"));
-    Compared { right, with_rust, with_way_back, with_orders, difference }
+    Compared { right, with_rust, with_way_back, with_orders, with_ordinary, difference }
 }
 
 /// Whether the product can clean in another order what this call is asked of.
@@ -78,6 +83,8 @@ pub fn rust_knows(call: Call, question: &Question, right: &Answer) -> bool {
         Call::ReadScan | Call::ScanSheet => false,
         // It has one merging, and is asked it with the plain engine's question, which is this one's too.
         Call::PutTogetherByCell => false,
+        // It has one compaction, which the product's ordinary one is held to, and this one to that.
+        Call::CompactInPlace => false,
         Call::LoopSubdivision => right.number == 0 && rust::has_its_cosines(question),
         _ => right.number == 0,
     }

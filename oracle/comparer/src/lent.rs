@@ -1,4 +1,4 @@
-//! Lent lists: room that is filled with a pattern before it is lent, with a guarded strip on both sides of it.
+//! Lent lists: room that is filled with a pattern before it is lent, or with the mesh's own numbers where a call changes these, with a guarded strip on both sides of it.
 
 use judge::Numbers;
 
@@ -104,6 +104,18 @@ impl Lent {
             Numbers::Words(_) => Lent::Words(List::of_room(room)),
             Numbers::Bytes(_) => Lent::Bytes(List::of_room(room)),
         }
+    }
+
+    /// A list that holds just these numbers, between its guarded strips.
+    pub fn holding(numbers: &Numbers) -> Lent {
+        let length = match numbers {
+            Numbers::Floats(list) => list.len(),
+            Numbers::Words(list) => list.len(),
+            Numbers::Bytes(list) => list.len(),
+        };
+        let mut lent = Lent::like(numbers, length);
+        lent.overwrite(numbers);
+        lent
     }
 
     pub fn difference(&self, expected: &Numbers) -> Option<String> {

@@ -2,8 +2,9 @@
 //!
 //! `library` asks the product, with lent lists that are filled with a pattern (`lent`); `check` holds what came back to the judge's
 //! answer. `meshes`, `shapes`, `pinched`, `round`, `surfaces`, `coordinates`, `marks`, `damage`, `files`, `faults` and `scans` make what is asked. A difference is made small by
-//! `shrink` and printed by `show`. What was written is read back by `round_trip`, and what was cleaned is cleaned in every other order by `orders`.
-//! `slips`, `wrong`, `wrong_broken` (over `one_by_one`), `wrong_files`, `wrong_house`, `wrong_large`, `wrong_marks`, `wrong_merging`, `wrong_removal`, `wrong_scans`
+//! `shrink` and printed by `show`. What was written is read back by `round_trip`, what was cleaned is cleaned in every other order by `orders`, and what was compacted
+//! in place is held to ordinary compaction by `in_place`.
+//! `slips`, `wrong`, `wrong_broken` (over `one_by_one`), `wrong_files`, `wrong_house`, `wrong_in_place`, `wrong_large`, `wrong_marks`, `wrong_merging`, `wrong_removal`, `wrong_scans`
 //! (over `wrong_scan`) and `wrong_smoothing` (over `wrong_points`) show that the comparer can fail. What is public
 //! serves the lister too.
 
@@ -12,6 +13,7 @@ mod coordinates;
 mod damage;
 mod faults;
 pub mod files;
+mod in_place;
 mod lent;
 mod library;
 mod marks;
@@ -40,6 +42,7 @@ mod wrong_broken;
 mod wrong_by_cell;
 mod wrong_files;
 mod wrong_house;
+mod wrong_in_place;
 mod wrong_large;
 mod wrong_marks;
 mod wrong_merging;

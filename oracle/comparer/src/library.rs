@@ -2,6 +2,7 @@
 //! document 01's reading.
 
 use crate::lent::Lent;
+use judge::calls::OWN_LISTS;
 use judge::{reading, Answer, Call, Count, Mesh, Question};
 use std::os::raw::c_char;
 
@@ -42,6 +43,27 @@ pub type Reader = Option<
 /// One that makes of a file another, or a sheet.
 pub type Writer = Option<unsafe extern "C" fn(*const u8, usize, *mut u8, usize, *mut u64) -> u32>;
 
+/// One that changes the lists of its mesh, but for the sizes, and is lent a list of numbers.
+pub type InPlace = Option<
+    unsafe extern "C" fn(
+        *mut f64,
+        usize,
+        *mut f64,
+        usize,
+        *mut f64,
+        usize,
+        *mut u32,
+        usize,
+        *const u32,
+        usize,
+        *mut u32,
+        usize,
+        *mut u64,
+        *mut u64,
+        *mut u64,
+    ) -> u32,
+>;
+
 /// Where each function of the product is; none where the library does not have it yet.
 #[repr(C)]
 #[derive(Clone, Copy)]
@@ -69,6 +91,7 @@ pub struct Library {
     pub read_scan: Reader,
     pub scan_sheet: Writer,
     pub put_together_by_cell: on_mesh!(f64, *mut u32, usize, *mut u64, *mut u64, *mut u64 => u32),
+    pub compact_in_place: InPlace,
 }
 
 /// What came back from the product.
@@ -86,15 +109,16 @@ pub const UNTOUCHED: u64 = 0x5a5a_5a5a_5a5a_5a5a;
 const UNTOUCHED_VERDICT: u32 = 0x5a5a_5a5a;
 
 impl Asked {
-    /// The lists and counts of a question before it is asked.
+    /// The lists and counts of a question before it is asked. Those that a call changes hold the mesh's numbers.
     pub fn before(call: Call, question: &Question) -> Asked {
         let shape = Answer::refused(call, 0);
-        Asked {
-            number: 0,
-            lists: shape.lists.iter().zip(&question.rooms).map(|(list, room)| Lent::like(list, *room)).collect(),
-            counts: vec![UNTOUCHED; shape.counts.len()],
-            input_kept: true,
+        let mut lists: Vec<Lent> = vec![];
+        if call.changes_its_mesh() {
+            lists.extend(Answer::unmoved(0, &question.mesh).lists[..OWN_LISTS].iter().map(Lent::holding));
         }
+        let lent = shape.lists.iter().skip(lists.len()).zip(&question.rooms).map(|(list, room)| Lent::like(list, *room));
+        lists.extend(lent);
+        Asked { number: 0, lists, counts: vec![UNTOUCHED; shape.counts.len()], input_kept: true }
     }
 
     /// What a product would give back that answers so.
@@ -154,6 +178,7 @@ impl Product for Library {
             Call::ReadScan => self.read_scan.is_some(),
             Call::ScanSheet => self.scan_sheet.is_some(),
             Call::PutTogetherByCell => self.put_together_by_cell.is_some(),
+            Call::CompactInPlace => self.compact_in_place.is_some(),
         }
     }
 
@@ -246,6 +271,30 @@ impl Library {
                     origins_room,
                     counts,
                     counts.add(1)
+                );
+            }
+            Call::CompactInPlace => {
+                let (positions, positions_len) = asked.lists[0].floats();
+                let (textures, textures_len) = asked.lists[1].floats();
+                let (normals, normals_len) = asked.lists[2].floats();
+                let (corners, corners_len) = asked.lists[3].words();
+                let (numbers, room) = asked.lists[OWN_LISTS].words();
+                asked.number = self.compact_in_place.unwrap()(
+                    positions,
+                    positions_len,
+                    textures,
+                    textures_len,
+                    normals,
+                    normals_len,
+                    corners,
+                    corners_len,
+                    mesh.sizes.as_ptr(),
+                    mesh.sizes.len(),
+                    numbers,
+                    room,
+                    counts,
+                    counts.add(1),
+                    counts.add(2),
                 );
             }
             Call::PutTogetherSameAttrs => merge!(put_together_same_attrs),

@@ -16,6 +16,8 @@ struct Asked {
     telling: u64,
     /// Questions whose mesh was cleaned in every order, or whose cleaned file was cleaned again.
     with_orders: u64,
+    /// Questions whose answer was held to the product's ordinary compaction.
+    with_ordinary: u64,
     /// Accepted questions with a mark in their mesh, or in the mesh of their file.
     with_marks: u64,
     /// The most corners and the most points of a mesh that the Rust was asked about, and the most corners of a face.
@@ -40,6 +42,7 @@ impl Tally {
         asked.by_number[compared.right.number as usize] += 1;
         asked.with_rust += compared.with_rust as u64;
         asked.with_orders += compared.with_orders as u64;
+        asked.with_ordinary += compared.with_ordinary as u64;
         if compared.with_rust {
             asked.corners = asked.corners.max(mesh.corner_count());
             asked.face = asked.face.max(mesh.sizes.iter().max().map_or(0, |size| *size as usize));
@@ -86,6 +89,9 @@ impl Tally {
                 let what = if call.reads_a_file() { "cleaned again" } else { "cleaned in every order" };
                 println!("  {:<26}{what}: {}", "", grouped(asked.with_orders));
             }
+            if asked.with_ordinary > 0 {
+                println!("  {:<26}held to ordinary compaction, bit for bit: {}", "", grouped(asked.with_ordinary));
+            }
             if *call == Call::ShellCondition {
                 let [irregular, regular, oriented, closed] = self.verdicts.map(grouped);
                 println!("  {:<26}Irregular {irregular}, Regular {regular}, Oriented {oriented}, Closed {closed}", "");
@@ -104,7 +110,7 @@ fn count(compared: &Compared, i: usize) -> u64 {
 /// What an answer may show, in words.
 fn shows(call: Call) -> Option<&'static str> {
     match call {
-        Call::RemoveUnusedAttrs => Some("renumbered"),
+        Call::RemoveUnusedAttrs | Call::CompactInPlace => Some("renumbered"),
         Call::RemoveDegenerateFaces => Some("removed or split"),
         Call::Push => Some("grouped anew"),
         Call::PutTogetherSameAttrs | Call::PutTogetherByCell => Some("merged"),
@@ -128,6 +134,7 @@ fn is_telling(call: Call, question: &Question, compared: &Compared) -> bool {
         | Call::Push => {
             matches!(&compared.right.lists[0], Numbers::Words(corners) if *corners != question.mesh.corners)
         }
+        Call::CompactInPlace => matches!(&compared.right.lists[3], Numbers::Words(corners) if *corners != question.mesh.corners),
         Call::ExtractBoundaries | Call::Components => count(compared, 1) > 1,
         Call::WritePanel => compared.with_way_back,
         Call::CleanPanel => matches!(&compared.right.lists[0], Numbers::Bytes(file) if *file != question.file),

@@ -8,10 +8,11 @@ use crate::run::{run, Subject};
 use crate::shrink::shrink;
 use crate::wrong::answers;
 use crate::wrong_by_cell::by_cell;
+use crate::wrong_in_place::in_place;
 use crate::{scans, surfaces, wrong_points, wrong_scan, wrong_smoothing};
 use judge::mesh::{Corner, WIDTH};
 use judge::reading::numbers::mesh_number;
-use judge::{reading, rust, Answer, Call, Mesh, Numbers, Question, MISSING};
+use judge::{reading, rust, Answer, Call, Count, Mesh, Numbers, Question, MISSING};
 use std::collections::{BTreeMap, BTreeSet};
 
 fn words(words: &str) -> Vec<String> {
@@ -168,6 +169,49 @@ fn the_runs_of_an_order_have_what_is_compared() {
         at_reach[1] += apart(3.0) as u32;
     }
     assert!(at_reach[0] > 100 && at_reach[1] > 100, "{at_reach:?}");
+}
+
+/// Without a slip the rounds leave what the reading says; meshes whose entries stand in rounds of three and more are among them, and such with entries
+/// that no corner uses.
+#[test]
+fn the_rounds_leave_what_is_compacted() {
+    let (mut turned, mut freed) = (0, 0);
+    for (mesh, _) in accepted() {
+        let question = Question { rooms: vec![reading::in_place::longest(&mesh)], mesh, ..Question::default() };
+        let right = reading::answer(Call::CompactInPlace, &question);
+        assert_eq!(format!("{:?}", in_place(&question, None)), format!("{right:?}"));
+        turned += matches!(&right.lists[3], Numbers::Words(corners) if *corners != question.mesh.corners) as u32;
+        freed += (right.counts[0] != Count::Is(question.mesh.positions.len() as u64 / 3)) as u32;
+    }
+    assert!(turned > 100 && freed > 100, "{turned} {freed}");
+}
+
+/// A product whose compaction in place is right and whose ordinary compaction misreads something.
+struct RightInPlace(Misreading);
+
+impl Product for RightInPlace {
+    fn has(&self, call: Call) -> bool {
+        [Call::CompactInPlace, Call::RemoveUnusedAttrs].contains(&call)
+    }
+
+    fn ask(&self, call: Call, question: &Question) -> Asked {
+        match call {
+            Call::CompactInPlace => Asked::answering(call, question, &reading::answer(call, question)),
+            _ => self.0.ask(call, question),
+        }
+    }
+}
+
+#[test]
+fn what_is_not_ordinary_compaction_is_found() {
+    let positions = (0..9).map(f64::from).collect();
+    let corners = [2, 1, 0].iter().flat_map(|position| [*position, MISSING, MISSING, 0]).collect();
+    let mesh = Mesh { positions, corners, sizes: vec![3], ..Mesh::default() };
+    let question = Question { mesh, rooms: vec![3], ..Question::default() };
+    let differs = |product: &dyn Product| compare(product, Call::CompactInPlace, &question, None).difference;
+    assert_eq!(differs(&Reading), None);
+    let old_order = RightInPlace(Misreading(Call::RemoveUnusedAttrs, "entries kept in their old order"));
+    assert_eq!(differs(&old_order).unwrap(), "the product differs: the corners are other ones than ordinary compaction gives");
 }
 
 /// The steps of wires that close, each a pair of positions.

@@ -22,6 +22,7 @@ pub fn answers(call: Call) -> &'static [(&'static str, Wrong)] {
         Call::MeshNumber => LOOKED_AT,
         Call::Face => &[("three numbers to a corner", |_, right| Some(in_threes(right)))],
         Call::RemoveUnusedAttrs => COMPACTION,
+        Call::CompactInPlace => IN_PLACE,
         Call::RemoveDegenerateFaces => REMOVAL,
         Call::PutTogetherSameAttrs | Call::PutTogetherByCell => MERGING,
         Call::ShellCondition => &[("edges between unlike marks told apart", |q, right| {
@@ -53,6 +54,11 @@ const LOOKED_AT: &[(&str, Wrong)] = &[("a mark held to the count of positions", 
 const COMPACTION: &[(&str, Wrong)] = &[
     ("marks cleared", |_, right| with_marks(right, 0, |marks| marks.fill(0))),
     ("marks renumbered by first use", |_, right| with_marks(right, 0, by_first_use)),
+];
+
+const IN_PLACE: &[(&str, Wrong)] = &[
+    ("marks cleared", |_, right| with_marks(right, 3, |marks| marks.fill(0))),
+    ("marks renumbered by first use", |_, right| with_marks(right, 3, by_first_use)),
 ];
 
 const MERGING: &[(&str, Wrong)] = &[

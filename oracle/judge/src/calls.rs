@@ -1,6 +1,6 @@
 //! The calls of the product's C interface, what can be asked of each, and the one shape of all their answers.
 
-use crate::mesh::{Compacted, Merged, Mesh, Pushed, Smoothed, Unfolded, Verdict, WIDTH};
+use crate::mesh::{Compacted, Merged, Mesh, Moved, Pushed, Smoothed, Unfolded, Verdict, WIDTH};
 use crate::reading::smoothing::Cosines;
 
 #[derive(Clone, Copy, Debug, PartialEq, Eq)]
@@ -24,11 +24,12 @@ pub enum Call {
     ReadScan,
     ScanSheet,
     PutTogetherByCell,
+    CompactInPlace,
 }
 
 impl Call {
     /// In the order in which they came to be compared.
-    pub const ALL: [Call; 19] = [
+    pub const ALL: [Call; 20] = [
         Call::MeshNumber,
         Call::Face,
         Call::RemoveUnusedAttrs,
@@ -48,6 +49,7 @@ impl Call {
         Call::ReadScan,
         Call::ScanSheet,
         Call::PutTogetherByCell,
+        Call::CompactInPlace,
     ];
 
     /// The name in the C interface, without its prefix.
@@ -72,6 +74,7 @@ impl Call {
             Call::ReadScan => "read_scan",
             Call::ScanSheet => "scan_sheet",
             Call::PutTogetherByCell => "put_together_by_cell",
+            Call::CompactInPlace => "compact_in_place",
         }
     }
 
@@ -88,11 +91,19 @@ impl Call {
         [Call::PutTogetherSameAttrs, Call::PutTogetherByCell].contains(&self)
     }
 
+    /// Whether the call changes the lists of its mesh where they stand: `OWN_LISTS` of them, which come first among those that it may write.
+    pub fn changes_its_mesh(self) -> bool {
+        self == Call::CompactInPlace
+    }
+
     /// Whether the call reads a file in the place of a mesh.
     pub fn reads_a_file(self) -> bool {
         self.about() != About::Mesh
     }
 }
+
+/// The lists of a mesh that are changed where they stand: all but the sizes.
+pub const OWN_LISTS: usize = 4;
 
 /// What a call is asked about.
 #[derive(Clone, Copy, Debug, PartialEq, Eq)]
@@ -103,7 +114,8 @@ pub enum About {
 }
 
 /// All that a call can be given. A call looks at its own part: `face`, `use_normal` and the cosines belong to one call each, `tolerance` to the two that merge, `file` to
-/// those that read a panel file or a scan, of the mesh only the faces to `push`, `rooms` holds the length of each lent result list, in the order of the C interface.
+/// those that read a panel file or a scan, of the mesh only the faces to `push`, `rooms` holds the length of each lent result list, in the order of the C interface; a list
+/// of the mesh that is changed where it stands is none of these.
 #[derive(Clone, Debug, Default)]
 pub struct Question {
     pub mesh: Mesh,
@@ -122,7 +134,7 @@ impl Question {
     }
 }
 
-/// The numbers at the front of one lent list; the room past them stays as it was.
+/// The numbers at the front of one list that may be written; the room past them stays as it was.
 #[derive(Clone, Debug)]
 pub enum Numbers {
     Floats(Vec<f64>),
@@ -137,7 +149,7 @@ pub enum Count {
     Untouched,
 }
 
-/// The number of the table, what stands in each lent list, and each count, in the order of the C interface.
+/// The number of the table, what stands in each list that may be written, and each count, in the order of the C interface.
 #[derive(Clone, Debug)]
 pub struct Answer {
     pub number: u32,
@@ -146,7 +158,7 @@ pub struct Answer {
 }
 
 impl Answer {
-    /// A refusal: nothing is written to any list, each count is 0, and a verdict is not answered.
+    /// A refusal: nothing is written to any list, each count is 0, and a verdict is not answered. (`unmoved` has the lists too that are the mesh's own.)
     pub fn refused(call: Call, number: u32) -> Answer {
         use Numbers::{Bytes, Floats, Words};
         let (floats, words) = (|| Floats(vec![]), || Words(vec![]));
@@ -156,6 +168,7 @@ impl Answer {
             Call::RemoveUnusedAttrs => (vec![words(), floats(), floats(), floats()], 3),
             Call::RemoveDegenerateFaces => (vec![words(), words(), words()], 2),
             Call::PutTogetherSameAttrs | Call::PutTogetherByCell => (vec![words()], 3),
+            Call::CompactInPlace => (vec![floats(), floats(), floats(), words(), words()], 3),
             Call::ShellCondition => return Answer { number, lists: vec![], counts: vec![Count::Untouched] },
             Call::HemEdges => (vec![words(), words()], 1),
             Call::Push | Call::ExtractBoundaries | Call::HouseWires | Call::Components => (vec![words(), words()], 2),
@@ -187,6 +200,23 @@ impl Answer {
             Numbers::Floats(made.normals),
         ];
         Answer::done(lists, &counts)
+    }
+
+    /// A mesh that was changed where it stands, how many entries of each list count, and the front of the number list.
+    pub fn in_place(moved: Moved) -> Answer {
+        let counts = moved.counts;
+        Answer::done(Answer::own_lists(moved.mesh, moved.numbers), &counts)
+    }
+
+    /// A refusal of a call that would change its mesh: the lists are as they were.
+    pub fn unmoved(number: u32, mesh: &Mesh) -> Answer {
+        Answer { number, lists: Answer::own_lists(mesh.clone(), vec![]), counts: vec![Count::Is(0); 3] }
+    }
+
+    fn own_lists(mesh: Mesh, numbers: Vec<u32>) -> Vec<Numbers> {
+        let Mesh { positions, textures, normals, corners, .. } = mesh;
+        let attributes = [positions, textures, normals].map(Numbers::Floats);
+        attributes.into_iter().chain([Numbers::Words(corners), Numbers::Words(numbers)]).collect()
     }
 
     pub fn pushed(made: Pushed) -> Answer {

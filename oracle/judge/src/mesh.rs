@@ -31,9 +31,9 @@ impl Mesh {
         self.sizes.iter().map(|size| corners.by_ref().take(*size as usize).collect()).collect()
     }
 
-    /// The mark of each corner.
+    /// The mark of each corner; a list that is cut in its last corner, which is refused, has none there.
     pub fn marks(&self) -> impl Iterator<Item = u32> + '_ {
-        self.corners.chunks(WIDTH).map(|corner| corner[INDICES])
+        self.corners.chunks_exact(WIDTH).map(|corner| corner[INDICES])
     }
 
     /// The same attribute lists with other faces, in the order given.
@@ -61,6 +61,14 @@ pub struct Compacted {
     pub positions: Vec<f64>,
     pub textures: Vec<f64>,
     pub normals: Vec<f64>,
+}
+
+/// What compaction in place leaves: the mesh's own lists, each as long as it was, how many positions, texture points and normals of them count, and the
+/// stated entries of the number list.
+pub struct Moved {
+    pub mesh: Mesh,
+    pub counts: [usize; 3],
+    pub numbers: Vec<u32>,
 }
 
 /// Faces that were given in any order, grouped.

@@ -24,9 +24,10 @@ use record::{File, List};
 /// The longest file that the list holds as an answer.
 const MOST_BYTES: usize = 4_096;
 
-/// The calls that the list asks: all but the sheets, of a panel file and of a scan.
+/// The calls that the list asks: all but the sheets, of a panel file and of a scan, and compaction in place, which the replay asks of every case of ordinary
+/// compaction.
 fn calls() -> impl Iterator<Item = Call> {
-    Call::ALL.into_iter().filter(|call| ![Call::Sheet, Call::ScanSheet].contains(call))
+    Call::ALL.into_iter().filter(|call| ![Call::Sheet, Call::ScanSheet, Call::CompactInPlace].contains(call))
 }
 
 /// Those that are asked of every mesh. Smoothing has surfaces of its own.

@@ -112,7 +112,7 @@ fn kind(call: Call) -> u32 {
         Call::CleanPanel => 15,
         Call::LoopSubdivision => 16,
         Call::ReadScan => 18,
-        Call::Sheet | Call::ScanSheet => unreachable!("the list does not ask the sheets"),
+        Call::Sheet | Call::ScanSheet | Call::CompactInPlace => unreachable!("the list does not ask these"),
         Call::PutTogetherByCell => 19,
         _ => 1 + place(call) as u32,
     }

@@ -12,15 +12,16 @@ use barleyhinge::{CORNER_WIDTH, FILE_ROOM, MAX_ENTRIES, MAX_FACES, MAX_FILE};
 use std::io::Read;
 use std::os::raw::{c_char, c_int};
 
-/// Reads, removes folded faces, compacts: the clean cover, and for each of its faces the number of the drawn face it came from.
-fn draw(file: &[u8]) -> Result<(OwnedMesh, Vec<u32>), Refusal> {
+/// Reads, removes folded faces, compacts: what the removal left, the clean cover, and for each face the number of the drawn face it came from.
+fn draw(file: &[u8]) -> Result<(OwnedMesh, OwnedMesh, Vec<u32>), Refusal> {
     if file.len() > MAX_FILE {
         return Err(Refusal::OverLimit);
     }
     let drawn = read_panel(file)?;
-    let left = drawn.mesh().remove_degenerate_faces()?;
-    let clean = Mesh { corners: &left.faces.corners, sizes: &left.faces.sizes, ..drawn.mesh() }.remove_unused_attrs()?;
-    Ok((clean, left.origins))
+    let unfolded = drawn.mesh().remove_degenerate_faces()?;
+    let left = OwnedMesh { corners: unfolded.faces.corners, sizes: unfolded.faces.sizes, ..drawn };
+    let clean = left.mesh().remove_unused_attrs()?;
+    Ok((left, clean, unfolded.origins))
 }
 
 fn print_row(name: &str, row: &[u32]) {
@@ -52,6 +53,14 @@ fn turned(mesh: Mesh) -> Result<Faces, Refusal> {
         sizes.push(0);
     }
     Faces::push(&faces.concat(), &sizes)
+}
+
+/// What the removal left compacted once more, in its own lists: it must be the clean cover. (The number list is never too short here;
+/// examples/cover.c tries that.)
+fn print_in_place(mut left: OwnedMesh, clean: &OwnedMesh) -> Result<(), Refusal> {
+    left.compact_in_place()?;
+    println!("in place 0{}", if left == *clean { ", the same" } else { "" });
+    Ok(())
 }
 
 fn print_more(mesh: Mesh) -> Result<(), Refusal> {
@@ -116,9 +125,10 @@ pub extern "C" fn main(count: c_int, _: *const *const c_char) -> c_int {
             return 0;
         }
     };
-    let done = draw(&file).and_then(|(clean, origins)| {
+    let done = draw(&file).and_then(|(left, clean, origins)| {
         print_sheet(clean.mesh())?;
         print_row("drawn as", &origins);
+        print_in_place(left, &clean)?;
         print_more(clean.mesh())?;
         print_written(&clean, &file)?;
         print_broken(clean);

@@ -1,7 +1,7 @@
 //! The verified mesh library of Barleyhinge, for Rust.
 //!
 //! Each method passes on to the library's function of the same name (`include/barleyhinge.h` says what it promises), lends it the room
-//! that is stated for it, and gives back what was written, as lists of its own. A number other than 0 comes back as a [`Refusal`].
+//! that is stated for it, and gives back what was written, as lists of its own, but for [`OwnedMesh::compact_in_place`], which changes the mesh's own lists. A number other than 0 comes back as a [`Refusal`].
 //!
 //! The library itself allocates nothing and has no statics, so calls may run side by side. It needs stack: the most for
 //! [`sheet`] and for cleaning a file, less than 400 KB (`include/barleyhinge.h` has the figure of each call); a Rust thread has 2 MB unless it is asked for less.
@@ -87,6 +87,43 @@ impl OwnedMesh {
             sizes: &self.sizes,
         }
     }
+
+    /// How many entries the longest of the three attribute lists has.
+    fn longest(&self) -> usize {
+        (self.positions.len() / 3).max(self.textures.len() / 2).max(self.normals.len() / 3)
+    }
+
+    /// Compaction in place: what [`Mesh::remove_unused_attrs`] gives, without a second list of coordinates. Entries move to their first-use places
+    /// within the list they stand in, corners are renumbered where they stand, and each list is cut behind its last entry; its memory stays its own.
+    /// Beside them there is only a list of old-to-new numbers, one for each entry of the longest list. On a refusal nothing has moved.
+    pub fn compact_in_place(&mut self) -> Result<(), Refusal> {
+        let mut numbers = vec![0; self.longest()];
+        let (mut positions, mut textures, mut normals) = (0, 0, 0);
+        let number = unsafe {
+            library::bh_compact_in_place(
+                self.positions.as_mut_ptr(),
+                self.positions.len(),
+                self.textures.as_mut_ptr(),
+                self.textures.len(),
+                self.normals.as_mut_ptr(),
+                self.normals.len(),
+                self.corners.as_mut_ptr(),
+                self.corners.len(),
+                self.sizes.as_ptr(),
+                self.sizes.len(),
+                numbers.as_mut_ptr(),
+                numbers.len(),
+                &mut positions,
+                &mut textures,
+                &mut normals,
+            )
+        };
+        Refusal::unless_done(number)?;
+        self.positions.truncate(3 * positions);
+        self.textures.truncate(2 * textures);
+        self.normals.truncate(3 * normals);
+        Ok(())
+    }
 }
 
 /// Faces that a call gives, grouped: their corners and their sizes.
@@ -152,7 +189,7 @@ impl Rows {
     }
 }
 
-// Safety, here and below: each list is a live slice that passes as its pointer, which is never null, and its length; what may be
+// Safety, above and below: each list is a live slice that passes as its pointer, which is never null, and its length; what may be
 // written is lent as `&mut` and so overlaps nothing. The library asks nothing else (no function of it has a `requires`).
 
 /// A call on the five lists of a mesh, with what follows them.
@@ -288,7 +325,8 @@ impl<'a> Mesh<'a> {
         &self.corners[start..start + len]
     }
 
-    /// Compaction: entries that no corner uses go, the others are renumbered by first use.
+    /// Compaction: entries that no corner uses go, the others are renumbered by first use. [`OwnedMesh::compact_in_place`] does it without a second
+    /// list.
     pub fn remove_unused_attrs(self) -> Result<OwnedMesh, Refusal> {
         let mut made = OwnedMesh {
             positions: vec![0.0; self.positions.len()],

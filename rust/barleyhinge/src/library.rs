@@ -46,6 +46,18 @@ extern "C" {
         normalcount: *mut usize,
     ) -> u32;
 
+    pub fn bh_compact_in_place(
+        positions: *mut f64, positions_len: usize,
+        textures: *mut f64, textures_len: usize,
+        normals: *mut f64, normals_len: usize,
+        corners: *mut u32, corners_len: usize,
+        sizes: *const u32, sizes_len: usize,
+        numbers: *mut u32, numbers_len: usize,
+        positioncount: *mut usize,
+        texturecount: *mut usize,
+        normalcount: *mut usize,
+    ) -> u32;
+
     pub fn bh_remove_degenerate_faces(
         positions: *const f64, positions_len: usize,
         textures: *const f64, textures_len: usize,

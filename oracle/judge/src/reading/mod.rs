@@ -5,6 +5,7 @@ pub mod cleaning;
 pub mod door;
 pub mod edges;
 pub mod house;
+pub mod in_place;
 pub mod merging;
 pub mod numbers;
 pub mod panel_file;
@@ -20,6 +21,9 @@ use crate::calls::{Answer, Call, Question};
 pub fn answer(call: Call, question: &Question) -> Answer {
     let (mesh, file) = (&question.mesh, &question.file);
     let number = numbers::number(call, question);
+    if number != 0 && call.changes_its_mesh() {
+        return Answer::unmoved(number, mesh);
+    }
     if number != 0 && call != Call::MeshNumber {
         return Answer::refused(call, number);
     }
@@ -30,6 +34,7 @@ pub fn answer(call: Call, question: &Question) -> Answer {
             Answer::face(part.start, part.len())
         }
         Call::RemoveUnusedAttrs => Answer::compacted(cleaning::remove_unused_attrs(mesh)),
+        Call::CompactInPlace => Answer::in_place(in_place::compact(mesh)),
         Call::RemoveDegenerateFaces => Answer::unfolded(cleaning::remove_degenerate_faces(mesh)),
         // Two engines, one meaning: request 9 of document 02 asks for the same representatives and the same pairs.
         Call::PutTogetherSameAttrs | Call::PutTogetherByCell => {

@@ -1,6 +1,6 @@
 //! 'The mesh' and 'Numbers returned'.
 
-use super::{door, edges, panel_file, scan, smoothing, writing};
+use super::{door, edges, in_place, panel_file, scan, smoothing, writing};
 use crate::calls::{Call, Question};
 use crate::mesh::{Mesh, Verdict, MISSING, WIDTH};
 use std::ops::Range;
@@ -141,6 +141,8 @@ pub fn stated_rooms(call: Call, mesh: &Mesh) -> Vec<usize> {
     match call {
         Call::MeshNumber | Call::Face | Call::ShellCondition => vec![],
         Call::RemoveUnusedAttrs => vec![mesh.corners.len(), mesh.positions.len(), mesh.textures.len(), mesh.normals.len()],
+        // Document 02: one entry for each of the longest list. The mesh's own lists are as long as they are.
+        Call::CompactInPlace => vec![in_place::longest(mesh)],
         Call::RemoveDegenerateFaces => vec![mesh.corners.len(), corners / 3, corners / 3],
         Call::PutTogetherSameAttrs | Call::PutTogetherByCell => vec![mesh.corners.len()],
         // Document 01 names no call for `push`: as for compaction, the input's own lengths.

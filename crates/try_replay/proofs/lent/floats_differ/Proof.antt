@@ -5,28 +5,16 @@ use Rattle.try_replay.proofs.lent.floats_differ.Statement.{statement}
 use Rattle.try_replay.proofs.lent.floats_differ.Tie as tie
 
 abbrev Inv-loop : tie.InvT-loop
-Inv-loop got list room end at n i₀ i = Unit {0}
+Inv-loop got list at end behind last n i₀ i = Unit {0}
 
 abbrev μ-loop : tie.MeasureT-loop
-μ-loop got list room end at n i₀ i = end - i
-
-is-unlike-requires : tie.Need-is-unlike-requires Inv-loop μ-loop
-is-unlike-requires c κs = search needs
-
-returns : tie.Need-returns Inv-loop μ-loop
-returns c = search needs
-
-count-requires : tie.Need-count-requires Inv-loop μ-loop
-count-requires c κs = search needs
+μ-loop got list at end behind last n i₀ i = last - i
 
 lesser-requires : tie.Need-lesser-requires Inv-loop μ-loop
 lesser-requires c κs = search needs
 
-plus-requires : tie.Need-plus-requires Inv-loop μ-loop
-plus-requires c κs = search needs
-
-count-requires-2 : tie.Need-count-requires-2 Inv-loop μ-loop
-count-requires-2 c κs = search needs
+count-requires : tie.Need-count-requires Inv-loop μ-loop
+count-requires c κs = search needs
 
 loop-holds : tie.Need-loop-holds Inv-loop μ-loop
 loop-holds c = search needs
@@ -43,8 +31,8 @@ float-wanted-requires c κs = search needs
 is-same-requires : tie.Need-is-same-requires Inv-loop μ-loop
 is-same-requires c κs = search needs
 
-returns-2 : tie.Need-returns-2 Inv-loop μ-loop
-returns-2 c = search needs
+returns : tie.Need-returns Inv-loop μ-loop
+returns c = search needs
 
 add-i : tie.Need-add-i Inv-loop μ-loop
 add-i c = search needs
@@ -55,8 +43,8 @@ loop-less c = search needs
 loop-again : tie.Need-loop-again Inv-loop μ-loop
 loop-again c = search needs
 
-returns-3 : tie.Need-returns-3 Inv-loop μ-loop
-returns-3 c = search needs
+returns-2 : tie.Need-returns-2 Inv-loop μ-loop
+returns-2 c = search needs
 
 pub floats-differ-spec : {M : Type 1} → statement M
 floats-differ-spec =
@@ -64,19 +52,15 @@ floats-differ-spec =
     (tie.spec
     Inv-loop
     μ-loop
-    is-unlike-requires
-    returns
-    count-requires
     lesser-requires
-    plus-requires
-    count-requires-2
+    count-requires
     loop-holds
     mul-is-same
     shared-slice-read-is-same
     float-wanted-requires
     is-same-requires
-    returns-2
+    returns
     add-i
     loop-less
     loop-again
-    returns-3)
+    returns-2)

@@ -1,47 +1,35 @@
--- `try_replay::lent::words_differ` is safe and ends: the room's end does not pass what it was taken from; the measure is what is left up to it. Assumes nothing.
+-- `try_replay::lent::words_differ` is safe and ends: what is looked at does not pass the list's end; the measure is what is left up to it. Assumes nothing.
 use Prim.Native.Nat.{_-_}
 use borrow.Author.Needs.{needs}
 use Rattle.try_replay.proofs.lent.words_differ.Statement.{statement}
 use Rattle.try_replay.proofs.lent.words_differ.Tie as tie
 
 abbrev Inv-loop : tie.InvT-loop
-Inv-loop got list room end at n i₀ i = Unit {0}
+Inv-loop got list at end behind last n i₀ i = Unit {0}
 
 abbrev μ-loop : tie.MeasureT-loop
-μ-loop got list room end at n i₀ i = end - i
-
-is-unlike-requires : tie.Need-is-unlike-requires Inv-loop μ-loop
-is-unlike-requires c κs = search needs
-
-returns : tie.Need-returns Inv-loop μ-loop
-returns c = search needs
-
-count-requires : tie.Need-count-requires Inv-loop μ-loop
-count-requires c κs = search needs
+μ-loop got list at end behind last n i₀ i = last - i
 
 lesser-requires : tie.Need-lesser-requires Inv-loop μ-loop
 lesser-requires c κs = search needs
 
-plus-requires : tie.Need-plus-requires Inv-loop μ-loop
-plus-requires c κs = search needs
-
-count-requires-2 : tie.Need-count-requires-2 Inv-loop μ-loop
-count-requires-2 c κs = search needs
+count-requires : tie.Need-count-requires Inv-loop μ-loop
+count-requires c κs = search needs
 
 loop-holds : tie.Need-loop-holds Inv-loop μ-loop
 loop-holds c = search needs
 
-mul-if2 : tie.Need-mul-if2 Inv-loop μ-loop
-mul-if2 c = search needs
+mul-if1 : tie.Need-mul-if1 Inv-loop μ-loop
+mul-if1 c = search needs
 
-shared-slice-read-if2 : tie.Need-shared-slice-read-if2 Inv-loop μ-loop
-shared-slice-read-if2 c = search needs
+shared-slice-read-if1 : tie.Need-shared-slice-read-if1 Inv-loop μ-loop
+shared-slice-read-if1 c = search needs
 
 word-wanted-requires : tie.Need-word-wanted-requires Inv-loop μ-loop
 word-wanted-requires c κs = search needs
 
-returns-2 : tie.Need-returns-2 Inv-loop μ-loop
-returns-2 c = search needs
+returns : tie.Need-returns Inv-loop μ-loop
+returns c = search needs
 
 add-i : tie.Need-add-i Inv-loop μ-loop
 add-i c = search needs
@@ -52,8 +40,8 @@ loop-less c = search needs
 loop-again : tie.Need-loop-again Inv-loop μ-loop
 loop-again c = search needs
 
-returns-3 : tie.Need-returns-3 Inv-loop μ-loop
-returns-3 c = search needs
+returns-2 : tie.Need-returns-2 Inv-loop μ-loop
+returns-2 c = search needs
 
 pub words-differ-spec : {M : Type 1} → statement M
 words-differ-spec =
@@ -61,18 +49,14 @@ words-differ-spec =
     (tie.spec
     Inv-loop
     μ-loop
-    is-unlike-requires
-    returns
-    count-requires
     lesser-requires
-    plus-requires
-    count-requires-2
+    count-requires
     loop-holds
-    mul-if2
-    shared-slice-read-if2
+    mul-if1
+    shared-slice-read-if1
     word-wanted-requires
-    returns-2
+    returns
     add-i
     loop-less
     loop-again
-    returns-3)
+    returns-2)
