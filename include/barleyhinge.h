@@ -3,7 +3,7 @@
    'rt staticlib barleyhinge' makes the archive, target/staticlib/libbarleyhinge.a, for x86-64 Linux. tools/check_declarations holds
    the declarations below to the source of the library, name by name, order by order, type by type, and each constant to its value.
 
-   A MESH is five lists that the caller keeps and the calls only read, but for bh_compact_in_place, which changes them where they stand:
+   A MESH is five lists that the caller keeps and the calls only read, but for bh_compact_in_place, which changes all but the sizes where they stand:
      positions  3 numbers to a position       at most BH_MAX_ENTRIES positions
      textures   2 numbers to a texture point  at most BH_MAX_ENTRIES
      normals    3 numbers to a normal         at most BH_MAX_ENTRIES
@@ -109,7 +109,7 @@ static inline const char *bh_text(uint32_t number) {
     case BH_ROOM: return "a lent list is too short";
     case BH_NO_HOUSE_WIRES: return "the verdict is neither Oriented nor Closed";
     case BH_FILE_CUT: return "the file stops too early";
-    case BH_RECORD: return "a record's kind is unknown, or its length is wrong";
+    case BH_RECORD: return "a record's kind is unknown, or its length is wrong, or a face for marks has none";
     case BH_AFTER_END: return "bytes follow the end record, or the last triangle of a scan";
     case BH_NOT_FINITE: return "a coordinate in a file is not finite";
     case BH_NOT_TRIANGLE: return "a face isn't a triangle";

@@ -27,7 +27,7 @@ pub enum Refusal {
     NoHouseWires = 10,
     /// The file stops inside a record, or before its end record; a scan stops before the last triangle of its count.
     FileCut = 11,
-    /// A record's kind is unknown, or its length is wrong for its kind.
+    /// A record's kind is unknown, or its length is wrong for its kind, or it is a face with marks of which all are 0.
     Record = 12,
     /// Bytes follow the end record, or the last triangle of a scan.
     AfterEnd = 13,
@@ -92,7 +92,7 @@ impl Refusal {
             Refusal::Room => "a lent list is too short",
             Refusal::NoHouseWires => "the verdict is neither Oriented nor Closed",
             Refusal::FileCut => "the file stops too early",
-            Refusal::Record => "a record's kind is unknown, or its length is wrong",
+            Refusal::Record => "a record's kind is unknown, or its length is wrong, or a face for marks has none",
             Refusal::AfterEnd => "bytes follow the end record, or the last triangle of a scan",
             Refusal::NotFinite => "a coordinate in a file is not finite",
             Refusal::NotTriangle => "a face isn't a triangle",
