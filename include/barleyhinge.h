@@ -196,7 +196,8 @@ uint32_t bh_remove_unused_attrs(
    On 0: 3, 2 and 3 numbers for each position, texture point and normal that '*positioncount', '*texturecount' and '*normalcount' count stand at the
    front of their lists, as bh_remove_unused_attrs would give them, and all freed room behind them is zero bits; the corners are those that it
    would give; and the stated room of 'numbers' is zeros, while what is longer is as it was. Numbers and NaNs are kept as there.
-   May also answer 9. On a refusal nothing has moved, in the mesh or in 'numbers'. */
+   May also answer 9. On a refusal nothing has moved, in the mesh or in 'numbers'.
+   Stack: 1 KB. */
 uint32_t bh_compact_in_place(
     double *positions, size_t positions_len,
     double *textures, size_t textures_len,
@@ -215,7 +216,7 @@ uint32_t bh_compact_in_place(
    came from face origins[k]. Where nothing is folded they are 0, 1, 2, .. . bh_remove_unused_attrs changes no face's number, so they
    hold after it too.
    May also answer 9.
-   Stack: 133 KB. */
+   Stack: 149 KB. */
 uint32_t bh_remove_degenerate_faces(
     const double *positions, size_t positions_len,
     const double *textures, size_t textures_len,
@@ -374,7 +375,7 @@ uint32_t bh_components(
    coordinate is finite. Corners of a face of kind 6 have its marks, those of kinds 4 and 5 marks of 0.
    Answers, in this order: 9; record by record 11 header cut, 12 kind, 12 length, 11 body cut, 12 a face's own count is not that of its
    length, 12 a face of kind 6 whose marks are all 0, 3 a face of more than 32 corners in kind 4 or of more than 300 in kinds 5 and 6, 14 a coordinate that is not finite, 1 limit; then 13; then 5.
-   Stack: 182 KB. */
+   Stack: 198 KB. */
 uint32_t bh_read_panel(
     const uint8_t *file, size_t file_len,
     double *positions, size_t positions_len,
@@ -433,7 +434,7 @@ uint32_t bh_write_panel(
    Lends 'cleaned', with room for BH_FILE_ROOM bytes, whatever the file holds.
    On 0: '*length' bytes in 'cleaned'.
    Answers 9; then 1 for a file of more than BH_FILE_ROOM bytes; then what bh_read_panel answers to a file.
-   Stack: 370 KB. */
+   Stack: 346 KB. */
 uint32_t bh_clean_panel(
     const uint8_t *file, size_t file_len,
     uint8_t *cleaned, size_t cleaned_len,
@@ -443,7 +444,7 @@ uint32_t bh_clean_panel(
    every sheet.
    On 0: '*length' bytes in 'text'. A refused file has a sheet too: the line 'refused' and its number, which comes with 0.
    May also answer 9, and nothing else.
-   Stack: 375 KB. */
+   Stack: 391 KB. */
 uint32_t bh_sheet(
     const uint8_t *file, size_t file_len,
     uint8_t *text, size_t text_len,
