@@ -99,7 +99,7 @@ fn walk_all(
 }
 
 // What is found of the points of a list: how many groups there are, and how many pairs were compared.
-#[derive(Drop)]
+#[derive(Clone, Copy)]
 pub struct Found {
     pub groups: usize,
     pub pairs: usize,

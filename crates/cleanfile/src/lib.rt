@@ -10,7 +10,7 @@ ghost use Rattle.cleanfile.specs.Cleaning.{mesh_left, PanelCleaned};
 ghost use Rattle.cleanfile.specs.Working.{FileRoom, refused_by, Answered};
 
 // The number returned, and how many bytes the cleaned file has.
-#[derive(Drop)]
+#[derive(Clone, Copy)]
 pub struct Cleaned {
     pub number: u32,
     pub length: usize,

@@ -18,7 +18,7 @@ ghost use Rattle.edges.specs.Runs.{named, JudgedUses, HemRows};
 use scans::Tally;
 
 // The four verdicts.
-#[derive(Drop)]
+#[derive(Clone, Copy)]
 pub enum ShellCondition {
     Irregular,
     Regular,
@@ -27,21 +27,21 @@ pub enum ShellCondition {
 }
 
 // What `shell_condition` answers: the verdict, or the number of the refusal.
-#[derive(Drop)]
+#[derive(Clone, Copy)]
 pub enum Judged {
     Found(ShellCondition),
     Refused(u32),
 }
 
 // What `hem_edges` answers: its number, and how many hem edges there are.
-#[derive(Drop)]
+#[derive(Clone, Copy)]
 pub struct HemEdges {
     pub number: u32,
     pub count: usize,
 }
 
 // What `hems_of` answers: how many hem edges there are, and the verdict.
-#[derive(Drop)]
+#[derive(Clone, Copy)]
 pub struct Hems {
     pub count: usize,
     pub verdict: ShellCondition,

@@ -9,7 +9,7 @@ ghost use Rattle.mesh.specs.Table as table;
 ghost use Rattle.faces.specs.Faces as want;
 
 // The number returned, and how many corners and faces are written.
-#[derive(Drop)]
+#[derive(Clone, Copy)]
 pub struct Pushed {
     pub number: u32,
     pub corners: usize,

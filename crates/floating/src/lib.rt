@@ -14,20 +14,20 @@ ghost use Rattle.floating.specs.Near.{squared};
 ghost use Rattle.floating.specs.Bits.{whole_of};
 
 // A position or a normal; a texture point; the box of some positions.
-#[derive(Drop)]
+#[derive(Clone, Copy)]
 pub struct Point {
     pub x: f64,
     pub y: f64,
     pub z: f64,
 }
 
-#[derive(Drop)]
+#[derive(Clone, Copy)]
 pub struct Texel {
     pub u: f64,
     pub v: f64,
 }
 
-#[derive(Drop)]
+#[derive(Clone, Copy)]
 pub struct Bounds {
     pub least: Point,
     pub greatest: Point,

@@ -10,7 +10,7 @@ use grouping::Filled;
 use mesh::WIDTH;
 
 // What becomes of a quadrangle q0..q3.
-#[derive(Drop)]
+#[derive(Clone, Copy)]
 pub enum Fold {
     Goes,
     WithoutQ1,

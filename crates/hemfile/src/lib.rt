@@ -23,7 +23,7 @@ const COUNT_BYTES: usize = 4;
 const TRIPLE_BYTES: usize = mesh::POINT_WIDTH * triples::COORDINATE_BYTES;
 
 // The number returned, and how many bytes the sheet has.
-#[derive(Drop)]
+#[derive(Clone, Copy)]
 pub struct Answer {
     pub number: u32,
     pub length: usize,

@@ -2,7 +2,7 @@
 // (document 02, CR 13). There is no code here but the answer's type; the code stands in crates measured, ofpanel and listing.
 
 // The number returned, and how many hems the lists hold.
-#[derive(Drop)]
+#[derive(Clone, Copy)]
 pub struct Listed {
     pub number: u32,
     pub hems: usize,

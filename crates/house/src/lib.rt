@@ -15,7 +15,7 @@ use edges::ShellCondition;
 use tracing::Wires;
 
 // What `house_of` answers: the verdict, and what `house_wires` answers.
-#[derive(Drop)]
+#[derive(Clone, Copy)]
 pub struct Housed {
     pub verdict: ShellCondition,
     pub wires: Wires,

@@ -14,7 +14,7 @@ use edges::ShellCondition;
 
 // What was found in a mesh, but for its wires: how many positions, texture points, normals, faces and panels there are, the verdict,
 // and the number that house wires answered.
-#[derive(Drop)]
+#[derive(Clone, Copy)]
 pub struct Findings {
     pub positions: u32,
     pub textures: u32,

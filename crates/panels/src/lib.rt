@@ -19,7 +19,7 @@ mod joins;
 
 // What `components` answers: its number, how many faces it listed and in how many panels; both counts are 0 beside another number
 // than 0.
-#[derive(Drop)]
+#[derive(Clone, Copy)]
 pub struct Answer {
     pub number: u32,
     pub faces: usize,

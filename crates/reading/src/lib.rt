@@ -3,7 +3,7 @@
 // and panelfile.
 
 // The reader's answer: its number, and how many positions, texture points, normals, corners and faces the mesh has.
-#[derive(Drop)]
+#[derive(Clone, Copy)]
 pub struct MeshRead {
     pub number: u32,
     pub positions: usize,

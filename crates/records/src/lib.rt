@@ -64,7 +64,7 @@ pub const MARKED_KIND: u32 = 6;
 const LAST_KIND: u32 = MARKED_KIND;
 
 // What one record answers.
-#[derive(Drop)]
+#[derive(Clone, Copy)]
 pub enum Record {
     Position(Point),
     Texture(Texel),

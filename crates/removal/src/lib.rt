@@ -3,7 +3,7 @@
 // and folded.
 
 // The number returned, and how many corners and faces are left.
-#[derive(Drop)]
+#[derive(Clone, Copy)]
 pub struct Removed {
     pub number: u32,
     pub corners: usize,

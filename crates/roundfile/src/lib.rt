@@ -11,7 +11,7 @@ ghost use Rattle.roundfile.specs.Rounding.{mesh_rounded, smoothed_number, opened
 ghost use Rattle.roundfile.specs.Working.{FileRoom, SmoothRoom, refused_by, Answered};
 
 // The number returned, and how many bytes the rounded file has.
-#[derive(Drop)]
+#[derive(Clone, Copy)]
 pub struct Rounded {
     pub number: u32,
     pub length: usize,

@@ -12,7 +12,7 @@ mod search;
 pub const JOIN_NUMBERS: usize = 2 * mesh::CORNERS;
 
 // How many faces are listed, in how many panels.
-#[derive(Drop)]
+#[derive(Clone, Copy)]
 pub struct Counts {
     pub faces: usize,
     pub panels: usize,

@@ -69,7 +69,7 @@ fn list_panel(
 }
 
 // How many faces are on the stack, and how many are listed.
-#[derive(Drop)]
+#[derive(Clone, Copy)]
 pub struct Marks {
     pub top: usize,
     pub n: usize,

@@ -18,7 +18,7 @@ pub const FILE: usize = 65536;
 pub const ROOM: usize = 65536;
 
 // The number returned, and how many bytes the sheet has.
-#[derive(Drop)]
+#[derive(Clone, Copy)]
 pub struct Answer {
     pub number: u32,
     pub length: usize,

@@ -17,7 +17,7 @@ use mesh::{POINT_WIDTH, WIDTH};
 const MOST_FACES: usize = mesh::FACES / FOLD;
 
 // The number returned, and how many positions, corners and faces there are then.
-#[derive(Drop)]
+#[derive(Clone, Copy)]
 pub struct Smoothed {
     pub number: u32,
     pub positions: usize,

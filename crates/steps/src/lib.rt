@@ -10,7 +10,7 @@ use records::Record;
 
 // How far the reading is: the next record's place, the number of a refusal, whether the end record was met, and how many
 // positions, texture points, normals, corners and faces are drawn.
-#[derive(Drop)]
+#[derive(Clone, Copy)]
 pub struct Progress {
     pub at: usize,
     pub number: u32,

@@ -2,7 +2,7 @@
 // 'Merging'). There is no code here but the answer's type; the code stands in crate merging.
 
 // The number, and how many pairs were compared among positions, texture points and normals.
-#[derive(Drop)]
+#[derive(Clone, Copy)]
 pub struct Merged {
     pub number: u32,
     pub positions: usize,

@@ -9,7 +9,7 @@ ghost use Rattle.tracing.specs.Hems.{Written};
 ghost use Rattle.tracing.specs.Answers.{refused_by};
 
 // What a call answers: its number, how many numbers the flat list holds, and how many wires there are.
-#[derive(Drop)]
+#[derive(Clone, Copy)]
 pub struct Wires {
     pub number: u32,
     pub flat: usize,
@@ -17,7 +17,7 @@ pub struct Wires {
 }
 
 // How many numbers and how many wires are written.
-#[derive(Drop)]
+#[derive(Clone, Copy)]
 pub struct Traced {
     pub flat: usize,
     pub wires: usize,

@@ -9,14 +9,14 @@ use crate::list;
 pub const ROOM: usize = 16400;
 
 // What a case is about: where the words of its mesh or of its panel file begin, and where those of the cosines do.
-#[derive(Drop)]
+#[derive(Clone, Copy)]
 pub struct About {
     pub subject: usize,
     pub cosines: usize,
 }
 
 // What a call said: its number, and up to five counts; 0 for those that it has not.
-#[derive(Drop)]
+#[derive(Clone, Copy)]
 pub struct Said {
     pub number: u32,
     pub first: usize,
@@ -28,7 +28,7 @@ pub struct Said {
 
 // How a case came out: the number that the product answered, whether anything was not as in the list, and up to where the case's words were
 // looked at.
-#[derive(Drop)]
+#[derive(Clone, Copy)]
 pub struct Outcome {
     pub number: u32,
     pub differs: bool,

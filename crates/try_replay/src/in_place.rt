@@ -14,7 +14,7 @@ pub const IN_PLACE: u32 = 20;
 const COUNTS: usize = 3;
 
 // Where the words of the case begin, and those of the five lists of its mesh.
-#[derive(Drop)]
+#[derive(Clone, Copy)]
 struct Places {
     at: usize,
     positions: usize,

@@ -3,7 +3,7 @@ use crate::cases::Outcome;
 use crate::{cases, list};
 
 // The rooms of the lists that a call is lent.
-#[derive(Drop)]
+#[derive(Clone, Copy)]
 pub struct Rooms {
     pub first: usize,
     pub second: usize,
@@ -157,7 +157,7 @@ pub const ZEROS: u32 = 1;
 
 pub const BEFORE: u32 = 2;
 
-#[derive(Drop)]
+#[derive(Clone, Copy)]
 pub struct Behind {
     pub what: u32,
     pub place: usize,

@@ -8,7 +8,7 @@ pub const MESH: u32 = 0;
 pub const FILE: u32 = 12;
 
 // A case that is about a mesh: the kind of its record, where its own words begin, and where those of the cosines do.
-#[derive(Drop)]
+#[derive(Clone, Copy)]
 struct Case {
     kind: u32,
     at: usize,

@@ -2,7 +2,7 @@
 // (document 01, 'Compaction'). There is no code here but the answer's type; the code stands in crates oneindex and compaction.
 
 // The number returned, and how many positions, texture points and normals the new lists hold.
-#[derive(Drop)]
+#[derive(Clone, Copy)]
 pub struct Compacted {
     pub number: u32,
     pub positions: usize,

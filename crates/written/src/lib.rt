@@ -3,7 +3,7 @@
 // answer's type; it stands in crate saving.
 
 // The writer's answer: its number, and how many bytes the file has.
-#[derive(Drop)]
+#[derive(Clone, Copy)]
 pub struct Saved {
     pub number: u32,
     pub length: usize,

@@ -11,45 +11,45 @@ use Rattle.floating.proofs.Boxes.{Boxing, point_in, box_begins, box_turns, box_e
 use Rattle.floating.proofs.box_of.Statement.{statement}
 use Rattle.floating.proofs.box_of.Tie as tie
 
-abbrev invariant-loop : tie.invariant-loop
+abbrev invariant-loop : tie.invariant-loop-i
 invariant-loop positions b₀ i₀ b i = Boxing positions b i
 
-abbrev decreases-loop : tie.decreases-loop
+abbrev decreases-loop : tie.decreases-loop-i
 decreases-loop positions b₀ i₀ b i = length positions / 3 - i
 
-point-at-requires : tie.Need-point-at-requires invariant-loop decreases-loop
-point-at-requires c κs = omega (arith, c.before.requires.some)
+point-at-requires : tie.Need-point_at-first-requires invariant-loop decreases-loop
+point-at-requires c κs = omega (arith, c.requires.some)
 
-loop-holds : tie.Need-loop-init invariant-loop decreases-loop
-loop-holds c = subst (λ (p : Point). Boxing c.before.before.args.positions.now (around p) 1) (sym c.point_at.ensures) (box_begins _ c.before.before.requires)
+loop-holds : tie.Need-loop-i-init invariant-loop decreases-loop
+loop-holds c = subst (λ (p : Point). Boxing c.args.positions.now (around p) 1) (sym c.point_at-first.ensures) (box_begins _ c.requires)
 
-point-at-requires-2 : tie.Need-point-at-requires-2 invariant-loop decreases-loop
-point-at-requires-2 c κs = point_in c.before.before.before.before.args.positions.now _ c.loop-test.true
+point-at-requires-2 : tie.Need-point_at-requires invariant-loop decreases-loop
+point-at-requires-2 c κs = point_in c.args.positions.now _ c.loop-i-test.true
 
-with-point-requires : tie.Need-with-point-requires invariant-loop decreases-loop
+with-point-requires : tie.Need-with_point-b-requires invariant-loop decreases-loop
 with-point-requires c κs = search rules
 
-add-i : tie.Need-overflow-add-i invariant-loop decreases-loop
+add-i : tie.Need-overflow_add-i invariant-loop decreases-loop
 add-i c = search rules
 
-loop-less : tie.Need-loop-smaller invariant-loop decreases-loop
+loop-less : tie.Need-loop-i-smaller invariant-loop decreases-loop
 loop-less c = search rules
 
-loop-again : tie.Need-loop-preserved invariant-loop decreases-loop
+loop-again : tie.Need-loop-i-preserved invariant-loop decreases-loop
 loop-again c =
-    let args = c.before.before.before.before.before.before.args in
-    let loop = c.before.before.before.loop in
-    let test = c.before.before.loop-test in
-    let point-at2 = c.before.point-at2 in
-    let with-point = c.with-point in
+    let args = c.args in
+    let loop = c.loop-i in
+    let test = c.loop-i-test in
+    let point-at2 = c.point_at in
+    let with-point = c.with_point-b in
     subst (λ (b : Bounds). Boxing args.positions.now b (loop.i + 1)) (sym (with-point.ensures ∙ ap (box_with loop.b) point-at2.ensures))
     (box_turns _ _ loop.i test.true loop.invariant)
 
 returns : tie.Need-returns invariant-loop decreases-loop
-returns c = box_ends _ _ _ c.loop-test.false c.before.loop.invariant
+returns c = box_ends _ _ _ c.loop-i-test.false c.loop-i.invariant
 
-pub box-of-spec : {M : Type 1} → statement M
-box-of-spec =
+pub box_of_spec : {M : Type 1} → statement M
+box_of_spec =
     tie.close
     (tie.spec
     invariant-loop

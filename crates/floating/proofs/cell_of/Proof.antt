@@ -10,30 +10,30 @@ use Rattle.floating.proofs.cell_of.Statement.{statement}
 use Rattle.floating.proofs.cell_of.Tie as tie
 
 good : (c : tie.Start) → T (fits binary64 c.args.q)
-good c = subst T (sym c.well-formed.0.1) tt
+good c = subst T (sym c.well_formed.0.1) tt
 
-whole : (c : tie.After-whole-of-bits) → c.whole-of-bits.result ≡ whole_of c.before.args.q
-whole c = c.whole-of-bits.ensures ∙ ap whole_of (held _ (good c.before) c.before.requires)
+whole : (c : tie.After-whole_of_bits-n) → c.whole_of_bits-n.result ≡ whole_of c.args.q
+whole c = c.whole_of_bits-n.ensures ∙ ap whole_of (held _ (good c.before) c.requires)
 
-float-to-bits-b : tie.Need-float-to-bits-b
+float-to-bits-b : tie.Need-float_to_bits-b
 float-to-bits-b c = far_number _ c.requires
 
-whole-of-bits-requires : tie.Need-whole-of-bits-requires
+whole-of-bits-requires : tie.Need-whole_of_bits-n-requires
 whole-of-bits-requires c κs = plain_bits _ (good c) c.requires
 
-add-result : tie.Need-overflow-add-result
-add-result c = let w = whole c.before in let l = whole_le c.before.before.args.q in omega arith
+add-result : tie.Need-overflow_add-result
+add-result c = let w = whole c.before in let l = whole_le c.args.q in omega arith
 
-sub-result : tie.Need-overflow-sub-result
-sub-result c = let w = whole c.before in let l = whole_le c.before.before.args.q in omega arith
+sub-result : tie.Need-overflow_sub-result
+sub-result c = let w = whole c.before in let l = whole_le c.args.q in omega arith
 
-returns : tie.Need-returns
-returns c = ap (λ (n : ℕ). 2 ^ 53 + n) (whole c.before) ∙ cell_plus _ (good c.before.before) c.before.before.requires c.if1.true
+returns : tie.Need-returns-then-b-lt-SIGN
+returns c = ap (λ (n : ℕ). 2 ^ 53 + n) (whole c.before) ∙ cell_plus _ (good c.before.before) c.requires c.if-b-lt-SIGN.true
 
-returns-2 : tie.Need-returns-2
-returns-2 c = ap (λ (n : ℕ). 2 ^ 53 - n) (whole c.before) ∙ cell_minus _ (good c.before.before) c.before.before.requires c.if1.false
+returns-2 : tie.Need-returns-else-b-lt-SIGN
+returns-2 c = ap (λ (n : ℕ). 2 ^ 53 - n) (whole c.before) ∙ cell_minus _ (good c.before.before) c.requires c.if-b-lt-SIGN.false
 
-pub cell-of-spec : {M : Type 1} → statement M
-cell-of-spec =
+pub cell_of_spec : {M : Type 1} → statement M
+cell_of_spec =
     tie.close
     (tie.spec float-to-bits-b whole-of-bits-requires add-result sub-result returns returns-2)

@@ -8,5 +8,5 @@ returns : tie.Need-returns
 unfolding centre_of
 returns c = cc two_is
 
-pub centre-of-spec : {M : Type 1} → statement M
-centre-of-spec = tie.close (tie.spec returns)
+pub centre_of_spec : {M : Type 1} → statement M
+centre_of_spec = tie.close (tie.spec returns)

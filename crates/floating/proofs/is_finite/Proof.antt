@@ -3,11 +3,11 @@ use Rattle.floating.proofs.Finite.{most_made, least_made, above_least, not_above
 use Rattle.floating.proofs.is_finite.Statement.{statement}
 use Rattle.floating.proofs.is_finite.Tie as tie
 
-returns : tie.Need-returns
-returns c = rw most_made (above_least c.before.args.x (rw least_made at c.if1.true))
+returns : tie.Need-returns-then-x
+returns c = rw most_made (above_least c.args.x (rw least_made at c.if-x.true))
 
-returns-2 : tie.Need-returns-2
-returns-2 c = not_above_least c.before.args.x (rw least_made at c.if1.false)
+returns-2 : tie.Need-returns
+returns-2 c = not_above_least c.args.x (rw least_made at c.if-x.false)
 
-pub is-finite-spec : {M : Type 1} → statement M
-is-finite-spec = tie.close (tie.spec returns returns-2)
+pub is_finite_spec : {M : Type 1} → statement M
+is_finite_spec = tie.close (tie.spec returns returns-2)

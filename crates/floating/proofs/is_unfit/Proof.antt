@@ -3,14 +3,14 @@ use Rattle.floating.proofs.Ranges.{fit_tests, both_hold, first_fails, second_fai
 use Rattle.floating.proofs.is_unfit.Statement.{statement}
 use Rattle.floating.proofs.is_unfit.Tie as tie
 
-returns : tie.Need-returns
-returns c = both_hold (fit_tests c.before.before.args.t) c.before.if1.true c.if2.true
+returns : tie.Need-returns-then-t-2
+returns c = both_hold (fit_tests c.args.t) c.if-t.true c.if-t-2.true
 
-returns-2 : tie.Need-returns-2
-returns-2 c = second_fails (fit_tests c.before.before.args.t) c.before.if1.true c.if2.false
+returns-2 : tie.Need-returns-else-t-2
+returns-2 c = second_fails (fit_tests c.args.t) c.if-t.true c.if-t-2.false
 
-returns-3 : tie.Need-returns-3
-returns-3 c = first_fails (fit_tests c.before.args.t) c.if1.false
+returns-3 : tie.Need-returns-else-t
+returns-3 c = first_fails (fit_tests c.args.t) c.if-t.false
 
-pub is-unfit-spec : {M : Type 1} → statement M
-is-unfit-spec = tie.close (tie.spec returns returns-2 returns-3)
+pub is_unfit_spec : {M : Type 1} → statement M
+is_unfit_spec = tie.close (tie.spec returns returns-2 returns-3)

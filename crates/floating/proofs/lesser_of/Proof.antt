@@ -3,13 +3,13 @@ use Rattle.floating.specs.Scaling.{lesser}
 use Rattle.floating.proofs.lesser_of.Statement.{statement}
 use Rattle.floating.proofs.lesser_of.Tie as tie
 
-returns : tie.Need-returns
+returns : tie.Need-returns-then-b-a
 unfolding lesser
-returns c = simp c.if1.true
+returns c = simp c.if-b-a.true
 
-returns-2 : tie.Need-returns-2
+returns-2 : tie.Need-returns-else-b-a
 unfolding lesser
-returns-2 c = simp c.if1.false
+returns-2 c = simp c.if-b-a.false
 
-pub lesser-of-spec : {M : Type 1} → statement M
-lesser-of-spec = tie.close (tie.spec returns returns-2)
+pub lesser_of_spec : {M : Type 1} → statement M
+lesser_of_spec = tie.close (tie.spec returns returns-2)

@@ -5,14 +5,14 @@ use Rattle.floating.proofs.Nans.{plain, special, nan_made}
 use Rattle.floating.proofs.of_bits.Statement.{statement}
 use Rattle.floating.proofs.of_bits.Tie as tie
 
-float-from-bits-result : tie.Need-float-from-bits-result
-float-from-bits-result c = plain c.before.args.n c.if1.false
+float-from-bits-result : tie.Need-float_from_bits-result
+float-from-bits-result c = plain c.args.n c.if-n-gt-INFINITY.false
 
-returns : tie.Need-returns
-returns c = nan_made ∙ sym (special c.before.args.n c.if1.true)
+returns : tie.Need-returns-then-n-gt-INFINITY
+returns c = nan_made ∙ sym (special c.args.n c.if-n-gt-INFINITY.true)
 
-returns-2 : tie.Need-returns-2
+returns-2 : tie.Need-returns-else-n-gt-INFINITY
 returns-2 c = search rules
 
-pub of-bits-spec : {M : Type 1} → statement M
-of-bits-spec = tie.close (tie.spec float-from-bits-result returns returns-2)
+pub of_bits_spec : {M : Type 1} → statement M
+of_bits_spec = tie.close (tie.spec float-from-bits-result returns returns-2)

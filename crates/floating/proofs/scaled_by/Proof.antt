@@ -8,5 +8,5 @@ returns : tie.Need-returns
 unfolding scaled_of
 returns c = cc two_is
 
-pub scaled-by-spec : {M : Type 1} → statement M
-scaled-by-spec = tie.close (tie.spec returns)
+pub scaled_by_spec : {M : Type 1} → statement M
+scaled_by_spec = tie.close (tie.spec returns)

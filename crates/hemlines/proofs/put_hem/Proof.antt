@@ -6,86 +6,82 @@ use borrow.Author.Rules.{rules}
 use Rattle.hemlines.proofs.put_hem.Statement.{statement}
 use Rattle.hemlines.proofs.put_hem.Tie as tie
 
-slice-aggregate-put-bytes : tie.Need-slice-aggregate-put-bytes
-slice-aggregate-put-bytes c = search rules
+put-bytes-requires : tie.Need-put_bytes-a-requires
+put-bytes-requires c κs = word_room _ _ _ _ _ c.requires
 
-put-bytes-requires : tie.Need-put-bytes-requires
-put-bytes-requires c κs = word_room _ _ _ _ _ c.before.before.before.requires
-
-put-number-requires : tie.Need-put-number-requires
+put-number-requires : tie.Need-put_number-b-requires
 put-number-requires c κs =
-    let word = c.before.before.before in
-    let start = word.before.before.before.before in
-    panel_room _ _ _ _ _ start.requires _ _ word.put-bytes.ensures
+    let word = c in
+    let start = c in
+    panel_room _ _ _ _ _ start.requires _ _ word.put_bytes-a.ensures
 
-put-number-requires-2 : tie.Need-put-number-requires-2
+put-number-requires-2 : tie.Need-put_number-c-requires
 put-number-requires-2 c κs =
-    let panel = c.before.before.before in
-    let word = panel.before.before.before.before in
-    let start = word.before.before.before.before in
-    edges_room _ _ _ _ _ start.requires _ _ _ _ word.put-bytes.ensures panel.put-number.ensures
+    let panel = c in
+    let word = c in
+    let start = c in
+    edges_room _ _ _ _ _ start.requires _ _ _ _ word.put_bytes-a.ensures panel.put_number-b.ensures
 
-put-number-requires-3 : tie.Need-put-number-requires-3
+put-number-requires-3 : tie.Need-put_number-d-requires
 put-number-requires-3 c κs =
-    let edges = c.before.before.before in
-    let panel = edges.before.before.before.before in
-    let word = panel.before.before.before.before in
-    let start = word.before.before.before.before in
-    length_room _ _ _ _ _ start.requires _ _ _ _ _ _ word.put-bytes.ensures panel.put-number.ensures edges.put-number2.ensures
+    let edges = c in
+    let panel = c in
+    let word = c in
+    let start = c in
+    length_room _ _ _ _ _ start.requires _ _ _ _ _ _ word.put_bytes-a.ensures panel.put_number-b.ensures edges.put_number-c.ensures
 
-slice-write-out : tie.Need-slice-write-out
+slice-write-out : tie.Need-bounds-out-d
 slice-write-out c =
-    let length = c.before.before in
-    let edges = length.before.before.before.before in
-    let panel = edges.before.before.before.before in
-    let word = panel.before.before.before.before in
-    let start = word.before.before.before.before in
+    let length = c in
+    let edges = c in
+    let panel = c in
+    let word = c in
+    let start = c in
     omega (
       arith,
-      feed_room _ _ _ _ _ start.requires _ _ _ _ _ _ _ _ word.put-bytes.ensures panel.put-number.ensures edges.put-number2.ensures
-          length.put-number3.ensures,
+      feed_room _ _ _ _ _ start.requires _ _ _ _ _ _ _ _ word.put_bytes-a.ensures panel.put_number-b.ensures edges.put_number-c.ensures
+          length.put_number-d.ensures,
     )
 
-add-result : tie.Need-overflow-add-result
+add-result : tie.Need-overflow_add-result
 add-result c =
-    let length = c.before.before in
-    let edges = length.before.before.before.before in
-    let panel = edges.before.before.before.before in
-    let word = panel.before.before.before.before in
-    let start = word.before.before.before.before in
+    let length = c in
+    let edges = c in
+    let panel = c in
+    let word = c in
+    let start = c in
     omega (
       arith,
-      feed_room _ _ _ _ _ start.requires _ _ _ _ _ _ _ _ word.put-bytes.ensures panel.put-number.ensures edges.put-number2.ensures
-          length.put-number3.ensures,
-      start.well-formed,
+      feed_room _ _ _ _ _ start.requires _ _ _ _ _ _ _ _ word.put_bytes-a.ensures panel.put_number-b.ensures edges.put_number-c.ensures
+          length.put_number-d.ensures,
+      start.well_formed,
     )
 
-same_length : tie.Need-same-length
+same_length : tie.Need-shape_of-out
 same_length c =
-    let length = c.before.before in
-    let edges = length.before.before.before.before in
-    let panel = edges.before.before.before.before in
-    let word = panel.before.before.before.before in
-    let start = word.before.before.before.before in
+    let length = c in
+    let edges = c in
+    let panel = c in
+    let word = c in
+    let start = c in
     simp length-set
-    (feed_room _ _ _ _ _ start.requires _ _ _ _ _ _ _ _ word.put-bytes.ensures panel.put-number.ensures edges.put-number2.ensures
-    length.put-number3.ensures).1
+    (feed_room _ _ _ _ _ start.requires _ _ _ _ _ _ _ _ word.put_bytes-a.ensures panel.put_number-b.ensures edges.put_number-c.ensures
+    length.put_number-d.ensures).1
 
 returns : tie.Need-returns
 returns c =
-    let length = c.before.before in
-    let edges = length.before.before.before.before in
-    let panel = edges.before.before.before.before in
-    let word = panel.before.before.before.before in
-    let start = word.before.before.before.before in
-    line_written _ _ _ _ _ start.requires _ _ _ _ _ _ _ _ word.put-bytes.ensures panel.put-number.ensures edges.put-number2.ensures
-    length.put-number3.ensures
+    let length = c in
+    let edges = c in
+    let panel = c in
+    let word = c in
+    let start = c in
+    line_written _ _ _ _ _ start.requires _ _ _ _ _ _ _ _ word.put_bytes-a.ensures panel.put_number-b.ensures edges.put_number-c.ensures
+    length.put_number-d.ensures
 
-pub put-hem-spec : {M : Type 1} → statement M
-put-hem-spec =
+pub put_hem_spec : {M : Type 1} → statement M
+put_hem_spec =
     tie.close
     (tie.spec
-    slice-aggregate-put-bytes
     put-bytes-requires
     put-number-requires
     put-number-requires-2

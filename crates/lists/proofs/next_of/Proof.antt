@@ -6,19 +6,19 @@ use borrow.Author.Rules.{rules}
 use Rattle.lists.proofs.next_of.Statement.{statement}
 use Rattle.lists.proofs.next_of.Tie as tie
 
-add-if1 : tie.Need-overflow-add-if1
+add-if1 : tie.Need-overflow_add-i
 add-if1 c = search rules
 
-add-result : tie.Need-overflow-add-result
+add-result : tie.Need-overflow_add-result
 add-result c = search rules
 
-returns : tie.Need-returns
+returns : tie.Need-returns-then-i-n
 unfolding next_of
-returns c = (rw (lt-ltb _ _ c.if1.true), c.if1.true)
+returns c = (rw (lt-ltb _ _ c.if-i-n.true), c.if-i-n.true)
 
-returns-2 : tie.Need-returns-2
+returns-2 : tie.Need-returns-else-i-n
 unfolding next_of
-returns-2 c = (rw (le-ltb _ _ c.if1.false), omega arith)
+returns-2 c = (rw (le-ltb _ _ c.if-i-n.false), omega arith)
 
-pub next-of-spec : {M : Type 1} → statement M
-next-of-spec = tie.close (tie.spec add-if1 add-result returns returns-2)
+pub next_of_spec : {M : Type 1} → statement M
+next_of_spec = tie.close (tie.spec add-if1 add-result returns returns-2)

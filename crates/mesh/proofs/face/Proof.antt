@@ -6,38 +6,38 @@ use Rattle.mesh.proofs.Faces.{no_face, no_shape, a_face}
 use Rattle.mesh.proofs.face.Statement.{statement}
 use Rattle.mesh.proofs.face.Tie as tie
 
-slice-aggregate-result : tie.Need-slice-aggregate-result
+slice-aggregate-result : tie.Need-slice_bounds-result-end
 slice-aggregate-result c = search rules
 
-returns : tie.Need-returns
-returns c = no_face _ _ c.before.if1.true
+returns : tie.Need-returns-then-sizes-k
+returns c = no_face _ _ c.if-sizes-k.true
 
-shape-number-requires : tie.Need-shape-number-requires
+shape-number-requires : tie.Need-shape_number-requires
 shape-number-requires c κs = search rules
 
-slice-aggregate-result-2 : tie.Need-slice-aggregate-result-2
+slice-aggregate-result-2 : tie.Need-slice_bounds-result-end-then-shape_number-ne0
 slice-aggregate-result-2 c = search rules
 
-returns-2 : tie.Need-returns-2
+returns-2 : tie.Need-returns-then-shape_number-ne0
 returns-2 c =
-    no_shape _ _ c.before.before.before.if1.false
-    (λ e. c.before.if2.true (omega (arith, c.before.before.shape-number.ensures, e)))
+    no_shape _ _ c.if-sizes-k.false
+    (λ e. c.if-shape_number-ne0.true (omega (arith, c.shape_number.ensures, e)))
 
 offset-requires : tie.Need-offset-requires
-offset-requires c κs = (omega arith, (sound _ (shaped _ (sym c.before.shape-number.ensures ∙ omega (arith, c.if2.false)))).few)
+offset-requires c κs = (omega arith, (sound _ (shaped _ (sym c.shape_number.ensures ∙ omega (arith, c.if-shape_number-ne0.false)))).few)
 
-face-at-requires : tie.Need-face-at-requires
+face-at-requires : tie.Need-face_at-requires
 face-at-requires c κs =
-    let shape = sym c.before.before.shape-number.ensures ∙ c.before.if2.false in
-    record { sound = sound _ (shaped _ shape); is_face = c.before.before.before.if1.false; offset = c.offset.ensures.0 }
+    let shape = sym c.shape_number.ensures ∙ c.if-shape_number-ne0.false in
+    record { sound = sound _ (shaped _ shape); is_face = c.if-sizes-k.false; offset = c.offset.ensures.0 }
 
-returns-3 : tie.Need-returns-3
+returns-3 : tie.Need-returns
 returns-3 c =
-    let shape = sym c.before.before.before.shape-number.ensures ∙ c.before.before.if2.false in
-    c.face-at.ensures ∙ a_face _ _ c.before.before.before.before.if1.false shape
+    let shape = sym c.shape_number.ensures ∙ c.if-shape_number-ne0.false in
+    c.face_at.ensures ∙ a_face _ _ c.if-sizes-k.false shape
 
-pub face-spec : {M : Type 1} → statement M
-face-spec =
+pub face_spec : {M : Type 1} → statement M
+face_spec =
     tie.close
     (tie.spec
     slice-aggregate-result

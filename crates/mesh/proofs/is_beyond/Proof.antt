@@ -4,11 +4,11 @@ use Rattle.std.proofs.Common.{arith, rules}
 use Rattle.mesh.proofs.is_beyond.Statement.{statement}
 use Rattle.mesh.proofs.is_beyond.Tie as tie
 
-wrapping-add-u32-requires : tie.Need-wrapping-add-u32-requires
+wrapping-add-u32-requires : tie.Need-wrapping_add_u32-requires
 wrapping-add-u32-requires c κs = search rules
 
 returns : tie.Need-returns
-returns c = rw c.wrapping-add-u32.ensures (beyond_next c.before.args.count c.before.args.i (omega arith))
+returns c = rw c.wrapping_add_u32.ensures (beyond_next c.args.count c.args.i (omega arith))
 
-pub is-beyond-spec : {M : Type 1} → statement M
-is-beyond-spec = tie.close (tie.spec wrapping-add-u32-requires returns)
+pub is_beyond_spec : {M : Type 1} → statement M
+is_beyond_spec = tie.close (tie.spec wrapping-add-u32-requires returns)

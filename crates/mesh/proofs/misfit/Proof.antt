@@ -5,38 +5,38 @@ use Rattle.mesh.specs.Table.{outside}
 use Rattle.mesh.proofs.misfit.Statement.{statement}
 use Rattle.mesh.proofs.misfit.Tie as tie
 
-abbrev invariant-loop : tie.invariant-loop
+abbrev invariant-loop : tie.invariant-loop-k
 invariant-loop sizes found₀ k₀ found k = Gathering outside sizes found k
 
-abbrev decreases-loop : tie.decreases-loop
+abbrev decreases-loop : tie.decreases-loop-k
 decreases-loop sizes found₀ k₀ found k = length sizes - k
 
-loop-holds : tie.Need-loop-init invariant-loop decreases-loop
+loop-holds : tie.Need-loop-k-init invariant-loop decreases-loop
 loop-holds c = gather_begins outside 0 _
 
-mul-is-outside : tie.Need-overflow-mul-is-outside invariant-loop decreases-loop
+mul-is-outside : tie.Need-offset_bounds-sizes-k invariant-loop decreases-loop
 mul-is-outside c = search rules
 
-shared-slice-read-is-outside : tie.Need-shared-slice-read-is-outside invariant-loop decreases-loop
+shared-slice-read-is-outside : tie.Need-bounds-sizes-k invariant-loop decreases-loop
 shared-slice-read-is-outside c = search rules
 
-is-outside-requires : tie.Need-is-outside-requires invariant-loop decreases-loop
+is-outside-requires : tie.Need-is_outside-here-requires invariant-loop decreases-loop
 is-outside-requires c κs = search rules
 
-add-k : tie.Need-overflow-add-k invariant-loop decreases-loop
+add-k : tie.Need-overflow_add-k invariant-loop decreases-loop
 add-k c = search rules
 
-loop-less : tie.Need-loop-smaller invariant-loop decreases-loop
+loop-less : tie.Need-loop-k-smaller invariant-loop decreases-loop
 loop-less c = search rules
 
-loop-again : tie.Need-loop-preserved invariant-loop decreases-loop
-loop-again c = rw c.is-outside.ensures (gather_turns outside 0 _ _ _ (omega arith) c.before.before.before.loop.invariant)
+loop-again : tie.Need-loop-k-preserved invariant-loop decreases-loop
+loop-again c = rw c.is_outside-here.ensures (gather_turns outside 0 _ _ _ (omega arith) c.loop-k.invariant)
 
 returns : tie.Need-returns invariant-loop decreases-loop
-returns c = gather_ends outside 0 _ _ _ (omega arith) c.before.loop.invariant
+returns c = gather_ends outside 0 _ _ _ (omega arith) c.loop-k.invariant
 
-pub misfit-spec : {M : Type 1} → statement M
-misfit-spec =
+pub misfit_spec : {M : Type 1} → statement M
+misfit_spec =
     tie.close
     (tie.spec
     invariant-loop

@@ -4,41 +4,41 @@ use Rattle.mesh.proofs.Rows.{Adding, adding_turns, adding_ends}
 use Rattle.mesh.proofs.offset.Statement.{statement}
 use Rattle.mesh.proofs.offset.Tie as tie
 
-abbrev invariant-loop : tie.invariant-loop
+abbrev invariant-loop : tie.invariant-loop-i
 invariant-loop sizes k t₀ i₀ t i = Adding sizes k t i
 
-abbrev decreases-loop : tie.decreases-loop
+abbrev decreases-loop : tie.decreases-loop-i
 decreases-loop sizes k t₀ i₀ t i = k - i
 
-loop-holds : tie.Need-loop-init invariant-loop decreases-loop
+loop-holds : tie.Need-loop-i-init invariant-loop decreases-loop
 loop-holds c = record { within = search rules; adds = search rules; small = search rules }
 
-mul-t : tie.Need-overflow-mul-t invariant-loop decreases-loop
+mul-t : tie.Need-offset_bounds-sizes-i invariant-loop decreases-loop
 mul-t c = search rules
 
-shared-slice-read-t : tie.Need-shared-slice-read-t invariant-loop decreases-loop
+shared-slice-read-t : tie.Need-bounds-sizes-i invariant-loop decreases-loop
 shared-slice-read-t c = search rules
 
-cast_t : tie.Need-overflow-cast-t invariant-loop decreases-loop
-cast_t c = omega (arith, c.shared-slice-known.given c.before.before.loop.i)
+cast_t : tie.Need-overflow_cast-t invariant-loop decreases-loop
+cast_t c = omega (arith, c.shared_slice_known-1.given c.loop-i.i)
 
-add-t : tie.Need-overflow-add-t invariant-loop decreases-loop
-add-t c = omega (arith, c.shared-slice-known.given c.before.before.loop.i)
+add-t : tie.Need-overflow_add-t invariant-loop decreases-loop
+add-t c = omega (arith, c.shared_slice_known-1.given c.loop-i.i)
 
-add-i : tie.Need-overflow-add-i invariant-loop decreases-loop
+add-i : tie.Need-overflow_add-i invariant-loop decreases-loop
 add-i c = search rules
 
-loop-less : tie.Need-loop-smaller invariant-loop decreases-loop
+loop-less : tie.Need-loop-i-smaller invariant-loop decreases-loop
 loop-less c = search rules
 
-loop-again : tie.Need-loop-preserved invariant-loop decreases-loop
-loop-again c = adding_turns _ _ _ _ (omega arith) (omega arith) (omega (arith, c.shared-slice-known.given c.before.before.loop.i)) c.before.before.loop.invariant
+loop-again : tie.Need-loop-i-preserved invariant-loop decreases-loop
+loop-again c = adding_turns _ _ _ _ (omega arith) (omega arith) (omega (arith, c.shared_slice_known-1.given c.loop-i.i)) c.loop-i.invariant
 
 returns : tie.Need-returns invariant-loop decreases-loop
-returns c = (adding_ends _ _ _ _ (omega arith) c.before.loop.invariant, omega arith)
+returns c = (adding_ends _ _ _ _ (omega arith) c.loop-i.invariant, omega arith)
 
-pub offset-spec : {M : Type 1} → statement M
-offset-spec =
+pub offset_spec : {M : Type 1} → statement M
+offset_spec =
     tie.close
     (tie.spec
     invariant-loop

@@ -5,29 +5,29 @@ use Rattle.mesh.specs.Table.{over_limits}
 use Rattle.mesh.proofs.over_limits.Statement.{statement}
 use Rattle.mesh.proofs.over_limits.Tie as tie
 
-returns : tie.Need-returns
+returns : tie.Need-returns-then-positions-gt-POINT_NUMBERS
 unfolding over_limits
-returns c = rw (lt-ltb _ _ c.if1.true)
+returns c = rw (lt-ltb _ _ c.if-positions-gt-POINT_NUMBERS.true)
 
-returns-2 : tie.Need-returns-2
+returns-2 : tie.Need-returns-then-textures-gt-TEXEL_NUMBERS
 unfolding over_limits
-returns-2 c = rw (le-ltb _ _ c.before.if1.false, lt-ltb _ _ c.if2.true)
+returns-2 c = rw (le-ltb _ _ c.if-positions-gt-POINT_NUMBERS.false, lt-ltb _ _ c.if-textures-gt-TEXEL_NUMBERS.true)
 
-returns-3 : tie.Need-returns-3
+returns-3 : tie.Need-returns-then-normals-gt-POINT_NUMBERS
 unfolding over_limits
-returns-3 c = rw (le-ltb _ _ c.before.before.if1.false, le-ltb _ _ c.before.if2.false, lt-ltb _ _ c.if3.true)
+returns-3 c = rw (le-ltb _ _ c.if-positions-gt-POINT_NUMBERS.false, le-ltb _ _ c.if-textures-gt-TEXEL_NUMBERS.false, lt-ltb _ _ c.if-normals-gt-POINT_NUMBERS.true)
 
-returns-4 : tie.Need-returns-4
+returns-4 : tie.Need-returns-then-corners-gt-CORNER_NUMBERS
 unfolding over_limits
 returns-4 c =
-    let corners = length c.before.before.before.before.args.corners.now in
-    rw (le-ltb _ _ c.before.before.before.if1.false, le-ltb _ _ c.before.before.if2.false, le-ltb _ _ c.before.if3.false, lt-ltb corner_numbers corners (omega (arith, c.if4.true)))
+    let corners = length c.args.corners.now in
+    rw (le-ltb _ _ c.if-positions-gt-POINT_NUMBERS.false, le-ltb _ _ c.if-textures-gt-TEXEL_NUMBERS.false, le-ltb _ _ c.if-normals-gt-POINT_NUMBERS.false, lt-ltb corner_numbers corners (omega (arith, c.if-corners-gt-CORNER_NUMBERS.true)))
 
-returns-5 : tie.Need-returns-5
+returns-5 : tie.Need-returns
 unfolding over_limits
 returns-5 c =
-    let corners = length c.before.before.before.before.args.corners.now in
-    rw (le-ltb _ _ c.before.before.before.if1.false, le-ltb _ _ c.before.before.if2.false, le-ltb _ _ c.before.if3.false, le-ltb corner_numbers corners (omega (arith, c.if4.false)))
+    let corners = length c.args.corners.now in
+    rw (le-ltb _ _ c.if-positions-gt-POINT_NUMBERS.false, le-ltb _ _ c.if-textures-gt-TEXEL_NUMBERS.false, le-ltb _ _ c.if-normals-gt-POINT_NUMBERS.false, le-ltb corner_numbers corners (omega (arith, c.if-corners-gt-CORNER_NUMBERS.false)))
 
-pub over-limits-spec : {M : Type 1} → statement M
-over-limits-spec = tie.close (tie.spec returns returns-2 returns-3 returns-4 returns-5)
+pub over_limits_spec : {M : Type 1} → statement M
+over_limits_spec = tie.close (tie.spec returns returns-2 returns-3 returns-4 returns-5)

@@ -4,38 +4,38 @@ use Rattle.mesh.proofs.Rows.{Grouping, grouping_begins, grouping_turns, grouping
 use Rattle.mesh.proofs.ungrouped.Statement.{statement}
 use Rattle.mesh.proofs.ungrouped.Tie as tie
 
-abbrev invariant-loop : tie.invariant-loop
+abbrev invariant-loop : tie.invariant-loop-k
 invariant-loop sizes fallen₀ last₀ k₀ fallen last k = Grouping sizes fallen last k
 
-abbrev decreases-loop : tie.decreases-loop
+abbrev decreases-loop : tie.decreases-loop-k
 decreases-loop sizes fallen₀ last₀ k₀ fallen last k = length sizes - k
 
-loop-holds : tie.Need-loop-init invariant-loop decreases-loop
+loop-holds : tie.Need-loop-k-init invariant-loop decreases-loop
 loop-holds c = grouping_begins _
 
-mul-kind-of : tie.Need-overflow-mul-kind-of invariant-loop decreases-loop
+mul-kind-of : tie.Need-offset_bounds-sizes-k invariant-loop decreases-loop
 mul-kind-of c = search rules
 
-shared-slice-read-kind-of : tie.Need-shared-slice-read-kind-of invariant-loop decreases-loop
+shared-slice-read-kind-of : tie.Need-bounds-sizes-k invariant-loop decreases-loop
 shared-slice-read-kind-of c = search rules
 
-kind-of-requires : tie.Need-kind-of-requires invariant-loop decreases-loop
+kind-of-requires : tie.Need-kind_of-kind-requires invariant-loop decreases-loop
 kind-of-requires c κs = search rules
 
-add-k : tie.Need-overflow-add-k invariant-loop decreases-loop
+add-k : tie.Need-overflow_add-k invariant-loop decreases-loop
 add-k c = search rules
 
-loop-less : tie.Need-loop-smaller invariant-loop decreases-loop
+loop-less : tie.Need-loop-k-smaller invariant-loop decreases-loop
 loop-less c = search rules
 
-loop-again : tie.Need-loop-preserved invariant-loop decreases-loop
-loop-again c = rw c.kind-of.ensures (grouping_turns _ _ _ _ (omega arith) c.before.before.before.loop.invariant)
+loop-again : tie.Need-loop-k-preserved invariant-loop decreases-loop
+loop-again c = rw c.kind_of-kind.ensures (grouping_turns _ _ _ _ (omega arith) c.loop-k.invariant)
 
 returns : tie.Need-returns invariant-loop decreases-loop
-returns c = grouping_ends _ _ _ _ (omega arith) c.before.loop.invariant
+returns c = grouping_ends _ _ _ _ (omega arith) c.loop-k.invariant
 
-pub ungrouped-spec : {M : Type 1} → statement M
-ungrouped-spec =
+pub ungrouped_spec : {M : Type 1} → statement M
+ungrouped_spec =
     tie.close
     (tie.spec
     invariant-loop

@@ -10,38 +10,38 @@ use Rattle.roots.proofs.Signs.{biased_read}
 use Rattle.roots.proofs.apart.Statement.{statement}
 use Rattle.roots.proofs.apart.Tie as tie
 
-biased-requires : tie.Need-biased-requires
+biased-requires : tie.Need-biased-p-requires
 biased-requires c κs = search rules
 
-biased-requires-2 : tie.Need-biased-requires-2
+biased-requires-2 : tie.Need-biased-q-requires
 biased-requires-2 c κs = search rules
 
-sub-result : tie.Need-overflow-sub-result
+sub-result : tie.Need-overflow_sub-result
 sub-result c = search rules
 
-returns : tie.Need-returns
+returns : tie.Need-returns-then-p-q
 returns c =
-    let g = c.before.before.before.args in
-    let f = c.before.before.before.ranges in
-    let p = c.before.before.biased.result in
-    let q = c.before.biased2.result in
-    let t : p < q = c.if1.true in
+    let g = c.args in
+    let f = c.ranges in
+    let p = c.biased-p.result in
+    let q = c.biased-q.result in
+    let t : p < q = c.if-p-q.true in
     let e : apart_by g.a g.b ≡ (p - q) + (q - p) =
     apart_shifted g.a g.b (pos bias) p q
-    (c.before.before.biased.ensures ∙ biased_read g.a f.a) (c.before.biased2.ensures ∙ biased_read g.b f.b) in
+    (c.biased-p.ensures ∙ biased_read g.a f.a) (c.biased-q.ensures ∙ biased_read g.b f.b) in
     omega arith
 
-returns-2 : tie.Need-returns-2
+returns-2 : tie.Need-returns
 returns-2 c =
-    let g = c.before.before.before.args in
-    let f = c.before.before.before.ranges in
-    let p = c.before.before.biased.result in
-    let q = c.before.biased2.result in
-    let t : q ≤ p = c.if1.false in
+    let g = c.args in
+    let f = c.ranges in
+    let p = c.biased-p.result in
+    let q = c.biased-q.result in
+    let t : q ≤ p = c.if-p-q.false in
     let e : apart_by g.a g.b ≡ (p - q) + (q - p) =
     apart_shifted g.a g.b (pos bias) p q
-    (c.before.before.biased.ensures ∙ biased_read g.a f.a) (c.before.biased2.ensures ∙ biased_read g.b f.b) in
+    (c.biased-p.ensures ∙ biased_read g.a f.a) (c.biased-q.ensures ∙ biased_read g.b f.b) in
     omega arith
 
-pub apart-spec : {M : Type 1} → statement M
-apart-spec = tie.close (tie.spec biased-requires biased-requires-2 sub-result returns returns-2)
+pub apart_spec : {M : Type 1} → statement M
+apart_spec = tie.close (tie.spec biased-requires biased-requires-2 sub-result returns returns-2)

@@ -12,83 +12,83 @@ use Rattle.roots.proofs.length_between.Statement.{statement}
 use Rattle.roots.proofs.length_between.Tie as tie
 
 -- the two points, and the three differences that are found
-module _ (c : tie.After-larger2) where
+module _ (c : tie.After-larger-least) where
   abbrev a : Point
-  a = let g = c.before.before.before.before.before.args in (g.ax, g.ay, g.az)
+  a = let g = c.args in (g.ax, g.ay, g.az)
 
   abbrev b : Point
-  b = let g = c.before.before.before.before.before.args in (g.bx, g.by, g.bz)
+  b = let g = c.args in (g.bx, g.by, g.bz)
 
   abbrev x : ℕ
-  x = c.before.before.before.before.apart.result
+  x = c.apart-x.result
 
   abbrev y : ℕ
-  y = c.before.before.before.apart2.result
+  y = c.apart-y.result
 
   abbrev z : ℕ
-  z = c.before.before.apart3.result
+  z = c.apart-z.result
 
   x-is : x ≡ apart_by a.0 b.0
   x-is =
-      let f = c.before.before.before.before.before.ranges in
-      c.before.before.before.before.apart.ensures ∙ apart_read a.0 b.0 f.ax f.bx
+      let f = c.ranges in
+      c.apart-x.ensures ∙ apart_read a.0 b.0 f.ax f.bx
 
   y-is : y ≡ apart_by a.1 b.1
   y-is =
-      let f = c.before.before.before.before.before.ranges in
-      c.before.before.before.apart2.ensures ∙ apart_read a.1 b.1 f.ay f.by
+      let f = c.ranges in
+      c.apart-y.ensures ∙ apart_read a.1 b.1 f.ay f.by
 
   z-is : z ≡ apart_by a.2 b.2
   z-is =
-      let f = c.before.before.before.before.before.ranges in
-      c.before.before.apart3.ensures ∙ apart_read a.2 b.2 f.az f.bz
+      let f = c.ranges in
+      c.apart-z.ensures ∙ apart_read a.2 b.2 f.az f.bz
 
   spanned : Spanned x y z
   spanned =
-      let pre = c.before.before.before.before.before.requires in
+      let pre = c.requires in
       spanned_by a b x y z x-is y-is z-is pre.0 pre.1
 
   -- the bounds at which the halving begins
-  begun : Within (squares x y z) c.larger2.result (c.larger2.result + c.larger2.result + 1)
-  begun = within_all x y z c.larger2.result spanned (c.larger2.ensures ∙ ap (λ k. max k z) c.before.larger.ensures)
+  begun : Within (squares x y z) c.larger-least.result (c.larger-least.result + c.larger-least.result + 1)
+  begun = within_all x y z c.larger-least.result spanned (c.larger-least.ensures ∙ ap (λ k. max k z) c.larger.ensures)
 
   distance : squares x y z ≡ squared_distance a b
   distance = squares_by a b x y z x-is y-is z-is
 
-apart-requires : tie.Need-apart-requires
+apart-requires : tie.Need-apart-x-requires
 apart-requires c κs = search rules
 
-apart-requires-2 : tie.Need-apart-requires-2
+apart-requires-2 : tie.Need-apart-y-requires
 apart-requires-2 c κs = search rules
 
-apart-requires-3 : tie.Need-apart-requires-3
+apart-requires-3 : tie.Need-apart-z-requires
 apart-requires-3 c κs = search rules
 
 larger-requires : tie.Need-larger-requires
 larger-requires c κs = search rules
 
-larger-requires-2 : tie.Need-larger-requires-2
+larger-requires-2 : tie.Need-larger-least-requires
 larger-requires-2 c κs = search rules
 
 squared-requires : tie.Need-squared-requires
 squared-requires c κs = spanned c
 
-add-root-between : tie.Need-overflow-add-root-between
+add-root-between : tie.Need-overflow_add-least
 add-root-between c = record { fits = omega (arith, (begun c.before).few) }
 
-add-root-between-2 : tie.Need-overflow-add-root-between-2
+add-root-between-2 : tie.Need-overflow_add-least-2
 add-root-between-2 c = record { fits = omega (arith, (begun c.before).few) }
 
-root-between-requires : tie.Need-root-between-requires
+root-between-requires : tie.Need-root_between-requires
 root-between-requires c κs =
-    let m = c.before.larger2.result in subst (λ n. Within n m (m + m + 1)) (sym c.squared.ensures) (begun c.before)
+    let m = c.larger-least.result in subst (λ n. Within n m (m + m + 1)) (sym c.squared.ensures) (begun c.before)
 
 returns : tie.Need-returns
 returns c =
-    subst (λ n. Root n c.root-between.result) (c.before.squared.ensures ∙ distance c.before.before) c.root-between.ensures
+    subst (λ n. Root n c.root_between.result) (c.squared.ensures ∙ distance c.before.before) c.root_between.ensures
 
-pub length-between-spec : {M : Type 1} → statement M
-length-between-spec =
+pub length_between_spec : {M : Type 1} → statement M
+length_between_spec =
     tie.close
     (tie.spec
     apart-requires

@@ -32,49 +32,49 @@ module _ (t : ℕ) where
   digit-requires : lts.Need-digit-requires claims (at t) reads.Post
   digit-requires c κs = search rules
 
-  slice-write-out : lts.Need-slice-write-out claims (at t) reads.Post
-  slice-write-out c = room_digit _ _ _ c.before.if1.true c.before.before.before.requires.1
+  slice-write-out : lts.Need-bounds-out-at claims (at t) reads.Post
+  slice-write-out c = room_digit _ _ _ c.if-n-lt10.true c.requires.1
 
-  add-result : lts.Need-overflow-add-result claims (at t) reads.Post
+  add-result : lts.Need-overflow_add-result claims (at t) reads.Post
   add-result c = search rules
 
-  same_length : lts.Need-same-length claims (at t) reads.Post
+  same_length : lts.Need-shape_of-out-then-n-lt10 claims (at t) reads.Post
   same_length c = search rules
 
-  returns : lts.Need-returns claims (at t) reads.Post
-  returns c = written_digit _ _ _ _ c.before.if1.true c.digit.ensures
+  returns : lts.Need-returns-then-n-lt10 claims (at t) reads.Post
+  returns c = written_digit _ _ _ _ c.if-n-lt10.true c.digit.ensures
 
-  put-decimal-requires : lts.Need-put-decimal-requires claims (at t) reads.Post
+  put-decimal-requires : lts.Need-put_decimal-last-requires claims (at t) reads.Post
   put-decimal-requires c κs =
-      (omega (arith, c.before.before.before.requires.0), room_tenth _ _ _ c.before.if1.false c.before.before.before.requires.1)
+      (omega (arith, c.requires.0), room_tenth _ _ _ c.if-n-lt10.false c.requires.1)
 
   digit-requires-2 : lts.Need-digit-requires-2 claims (at t) reads.Post
   digit-requires-2 c κs = search rules
 
-  slice-write-out-2 : lts.Need-slice-write-out-2 claims (at t) reads.Post
+  slice-write-out-2 : lts.Need-bounds-out-last claims (at t) reads.Post
   slice-write-out-2 c =
-      let if1 = c.before.before.before.before.before.if1 in
-      let pre = c.before.before.before.before.before.before.before.requires in
-      let put-decimal = c.before.before.before.put-decimal in
+      let if1 = c.if-n-lt10 in
+      let pre = c.requires in
+      let put-decimal = c.put_decimal-last in
       room_last _ _ _ _ _ if1.false pre.1 put-decimal.ensures
 
-  add-result-2 : lts.Need-overflow-add-result-2 claims (at t) reads.Post
+  add-result-2 : lts.Need-overflow_add-result-2 claims (at t) reads.Post
   add-result-2 c =
-      let put-decimal = c.before.before.before.put-decimal in
-      let good = c.before.before.before.before.before.before.before.well-formed in
+      let put-decimal = c.put_decimal-last in
+      let good = c.well_formed in
       omega (arith, slice-write-out-2 c, written_long _ _ _ _ _ put-decimal.ensures, good.1.0.0)
 
-  same-length-2 : lts.Need-same-length-2 claims (at t) reads.Post
+  same-length-2 : lts.Need-shape_of-out claims (at t) reads.Post
   same-length-2 c = search rules
 
-  returns-2 : lts.Need-returns-2 claims (at t) reads.Post
+  returns-2 : lts.Need-returns claims (at t) reads.Post
   returns-2 c =
-      let if1 = c.before.before.before.before.before.if1 in
-      let put-decimal = c.before.before.before.put-decimal in
-      written_last _ _ _ _ _ _ if1.false c.digit2.ensures put-decimal.ensures
+      let if1 = c.if-n-lt10 in
+      let put-decimal = c.put_decimal-last in
+      written_last _ _ _ _ _ _ if1.false c.digit-2.ensures put-decimal.ensures
 
-pub +put-decimal-spec : {M : Type 1} → statement M
-+put-decimal-spec =
+pub +put_decimal_spec : {M : Type 1} → statement M
++put_decimal_spec =
     close μ λ t. lts.spec
     (claims t)
     (at t)

@@ -6,21 +6,21 @@ use borrow.Author.Rules.{rules}
 use Rattle.text.proofs.put_number.Statement.{statement}
 use Rattle.text.proofs.put_number.Tie as tie
 
-slice-write-out : tie.Need-slice-write-out
+slice-write-out : tie.Need-bounds-out-at
 slice-write-out c = search rules
 
-add-put-decimal : tie.Need-overflow-add-put-decimal
+add-put-decimal : tie.Need-overflow_add-at
 add-put-decimal c = search rules
 
-put-decimal-requires : tie.Need-put-decimal-requires
-put-decimal-requires c κs = room_number _ _ _ c.before.before.requires
+put-decimal-requires : tie.Need-put_decimal-requires
+put-decimal-requires c κs = room_number _ _ _ c.requires
 
-same_length : tie.Need-same-length
-same_length c = c.before.before.put-decimal.auto.1.0 ∙ simp length-set
+same_length : tie.Need-shape_of-out
+same_length c = c.put_decimal.auto.out ∙ simp length-set
 
 returns : tie.Need-returns
-returns c = written_number _ _ _ _ _ c.before.before.put-decimal.ensures
+returns c = written_number _ _ _ _ _ c.put_decimal.ensures
 
-pub put-number-spec : {M : Type 1} → statement M
-put-number-spec =
+pub put_number_spec : {M : Type 1} → statement M
+put_number_spec =
     tie.close (tie.spec slice-write-out add-put-decimal put-decimal-requires same_length returns)

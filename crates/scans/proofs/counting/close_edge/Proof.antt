@@ -9,32 +9,32 @@ use Rattle.scans.proofs.counting.close_edge.Lts as lts
 use Rattle.scans.proofs.counting.either.Reads as either-reads
 use Rattle.scans.proofs.counting.uses_of.Reads as uses-of-reads
 
-uses-of-requires : tie.Need-uses-of-requires
+uses-of-requires : tie.Need-uses_of-n-requires
 uses-of-requires c κs = search rules
 
-either-requires : tie.Need-either-requires
+either-requires : tie.Need-either-same-requires
 either-requires c κs = search rules
 
-either-requires-2 : tie.Need-either-requires-2
+either-requires-2 : tie.Need-either-requires
 either-requires-2 c κs = search rules
 
-either-requires-3 : tie.Need-either-requires-3
+either-requires-3 : tie.Need-either-requires-2
 either-requires-3 c κs = search rules
 
-either-requires-4 : tie.Need-either-requires-4
+either-requires-4 : tie.Need-either-requires-3
 either-requires-4 c κs = search rules
 
 returns : tie.Need-returns
 unfolding closed
 returns c =
-    let uses-of = c.before.before.before.before.before.before.uses-of in
-    let either = c.before.before.before.either in
-    let either2 = c.before.before.either2 in
-    let either3 = c.before.either3 in
-    cc (uses-of.ensures, either.ensures, either2.ensures, either3.ensures, c.either4.ensures)
+    let uses-of = c.uses_of-n in
+    let either = c.either-same in
+    let either2 = c.either in
+    let either3 = c.either-2 in
+    cc (uses-of.ensures, either.ensures, either2.ensures, either3.ensures, c.either-3.ensures)
 
-pub close-edge-spec : {M : Type 1} → statement M
-close-edge-spec =
+pub close_edge_spec : {M : Type 1} → statement M
+close_edge_spec =
     tie.close
     (tie.spec
     uses-of-requires

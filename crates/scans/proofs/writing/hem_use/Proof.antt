@@ -6,58 +6,58 @@ use borrow.Author.Rules.{rules}
 use Rattle.scans.proofs.writing.hem_use.Statement.{statement}
 use Rattle.scans.proofs.writing.hem_use.Tie as tie
 
-goes-on-requires : tie.Need-goes-on-requires
+goes-on-requires : tie.Need-goes_on-requires
 goes-on-requires c κs = search rules
 
-returns : tie.Need-returns
+returns : tie.Need-returns-then-goes_on
 returns c =
-    let entry = c.before.before.before.before.before.before.before.before.before in
-    let goes_on = c.before.goes_on in
-    hem_goes_on entry.args.lowers.now entry.args.highers.now entry.args.downs.now _ _ _ _ goes_on.ensures _ _ _ c.if1.true
+    let entry = c in
+    let goes_on = c.goes_on in
+    hem_goes_on entry.args.lowers.now entry.args.highers.now entry.args.downs.now _ _ _ _ goes_on.ensures _ _ _ c.if-goes_on.true
 
-mul_wide : tie.Need-overflow-mul-wide
+mul_wide : tie.Need-offset_bounds-order-i
 mul_wide c = search rules
 
-shared-slice-read-wide : tie.Need-shared-slice-read-wide
+shared-slice-read-wide : tie.Need-bounds-order-i
 shared-slice-read-wide c = search rules
 
 wide-requires : tie.Need-wide-requires
 wide-requires c κs = search rules
 
-put-hem-requires : tie.Need-put-hem-requires
+put-hem-requires : tie.Need-put_hem-requires
 put-hem-requires c κs =
-    let entry = c.before.before.before.before.before.before.before.before.before.before.before.before.before.before in
+    let entry = c in
     omega (arith, entry.requires.ready.known entry.args.i entry.requires.inside)
 
-add-t14 : tie.Need-overflow-add-t14
+add-t14 : tie.Need-overflow_add-result
 add-t14 c = search rules
 
-same_length : tie.Need-same-length
+same_length : tie.Need-shape_of-starts-then-odd
 same_length c = search rules
 
-same-length-2 : tie.Need-same-length-2
+same-length-2 : tie.Need-shape_of-ends-then-odd
 same-length-2 c = search rules
 
-returns-2 : tie.Need-returns-2
+returns-2 : tie.Need-returns-then-odd
 returns-2 c =
-    let entry = c.before.before.before.before.before.before.before.before.before.before.before.before.before.before.before.before.before.before.before in
-    let goes_on = c.before.before.before.before.before.before.before.before.before.before.before.goes_on in
-    let if1 = c.before.before.before.before.before.before.before.before.before.before.if1 in
-    let if2 = c.before.before.before.before.before.before.before.before.before.if2 in
-    let wide = c.before.before.before.before.before.before.before.wide in
-    let put-hem = c.before.before.before.before.put-hem in
+    let entry = c in
+    let goes_on = c.goes_on in
+    let if1 = c.if-goes_on in
+    let if2 = c.if-odd in
+    let wide = c.wide in
+    let put-hem = c.put_hem in
     hem_odd entry.args.lowers.now entry.args.highers.now entry.args.downs.now _ _ _ _ goes_on.ensures _ _ _ _ _ _ _ if1.false
     if2.true wide.ensures refl put-hem.ensures
 
-returns-3 : tie.Need-returns-3
+returns-3 : tie.Need-returns
 returns-3 c =
-    let entry = c.before.before.before.before.before.before.before.before.before.before in
-    let goes_on = c.before.before.goes_on in
-    let if1 = c.before.if1 in
-    hem_even entry.args.lowers.now entry.args.highers.now entry.args.downs.now _ _ _ _ goes_on.ensures _ _ _ if1.false c.if2.false
+    let entry = c in
+    let goes_on = c.goes_on in
+    let if1 = c.if-goes_on in
+    hem_even entry.args.lowers.now entry.args.highers.now entry.args.downs.now _ _ _ _ goes_on.ensures _ _ _ if1.false c.if-odd.false
 
-pub hem-use-spec : {M : Type 1} → statement M
-hem-use-spec =
+pub hem_use_spec : {M : Type 1} → statement M
+hem_use_spec =
     tie.close
     (tie.spec
     goes-on-requires

@@ -6,50 +6,50 @@ use borrow.Author.Rules.{rules}
 use Rattle.scans.proofs.writing.put_hems.Statement.{statement}
 use Rattle.scans.proofs.writing.put_hems.Tie as tie
 
-abbrev invariant-loop : tie.invariant-loop
+abbrev invariant-loop : tie.invariant-loop-i
 invariant-loop lowers highers downs order starts₀ ends₀ p₀ i₀ starts ends p i = Hemming lowers highers downs order starts₀ ends₀ starts ends p i
 
-abbrev decreases-loop : tie.decreases-loop
+abbrev decreases-loop : tie.decreases-loop-i
 decreases-loop lowers highers downs order starts₀ ends₀ p₀ i₀ starts ends p i = length order - i
 
-loop-holds : tie.Need-loop-init invariant-loop decreases-loop
+loop-holds : tie.Need-loop-i-init invariant-loop decreases-loop
 loop-holds c =
-    let entry = c.before.before.before.before.before.before in
+    let entry = c in
     hem_begins entry.args.lowers.now entry.args.highers.now entry.args.downs.now entry.args.order.now _ _
 
-hem-use-requires : tie.Need-hem-use-requires invariant-loop decreases-loop
+hem-use-requires : tie.Need-hem_use-p-requires invariant-loop decreases-loop
 hem-use-requires c κs = search rules
 
-add-i : tie.Need-overflow-add-i invariant-loop decreases-loop
+add-i : tie.Need-overflow_add-i invariant-loop decreases-loop
 add-i c = search rules
 
-loop-less : tie.Need-loop-smaller invariant-loop decreases-loop
+loop-less : tie.Need-loop-i-smaller invariant-loop decreases-loop
 loop-less c = search rules
 
-loop-again : tie.Need-loop-preserved invariant-loop decreases-loop
+loop-again : tie.Need-loop-i-preserved invariant-loop decreases-loop
 loop-again c =
-    let entry = c.before.before.before.before.before.before.before.before.before.before.before.before.before.before.before in
-    let loop = c.before.before.before.before.before.before.before.before.loop in
-    let loop-test = c.before.before.before.before.before.before.before.loop-test in
-    let hem-use = c.before.before.before.before.hem-use in
+    let entry = c in
+    let loop = c.loop-i in
+    let loop-test = c.loop-i-test in
+    let hem-use = c.hem_use-p in
     hem_turns entry.args.lowers.now entry.args.highers.now entry.args.downs.now entry.args.order.now _ _ _ _ _ _ _ _ loop.i
     loop-test.true hem-use.ensures loop.invariant
 
-same_length : tie.Need-same-length invariant-loop decreases-loop
+same_length : tie.Need-shape_of-starts invariant-loop decreases-loop
 same_length c = search rules
 
-same-length-2 : tie.Need-same-length-2 invariant-loop decreases-loop
+same-length-2 : tie.Need-shape_of-ends invariant-loop decreases-loop
 same-length-2 c = search rules
 
 returns : tie.Need-returns invariant-loop decreases-loop
 returns c =
-    let entry = c.before.before.before.before.before.before.before.before in
-    let loop = c.before.loop in
-    hem_ends entry.args.lowers.now entry.args.highers.now entry.args.downs.now entry.args.order.now _ _ _ _ _ _ c.loop-test.false
+    let entry = c in
+    let loop = c.loop-i in
+    hem_ends entry.args.lowers.now entry.args.highers.now entry.args.downs.now entry.args.order.now _ _ _ _ _ _ c.loop-i-test.false
     loop.invariant
 
-pub put-hems-spec : {M : Type 1} → statement M
-put-hems-spec =
+pub put_hems_spec : {M : Type 1} → statement M
+put_hems_spec =
     tie.close
     (tie.spec
     invariant-loop
