@@ -5,33 +5,33 @@ use borrow.Author.Rules.{rules}
 use Rattle.little.proofs.long.Statement.{statement}
 use Rattle.little.proofs.long.Tie as tie
 
-word-requires : tie.Need-word-requires
+word-requires : tie.Need-word-low-requires
 word-requires c κs = search rules
 
-cast-low : tie.Need-overflow-cast-low
+cast-low : tie.Need-overflow_cast-low
 cast-low c = search rules
 
-add-word : tie.Need-overflow-add-word
+add-word : tie.Need-overflow_add-i
 add-word c = search rules
 
-word-requires-2 : tie.Need-word-requires-2
+word-requires-2 : tie.Need-word-high-requires
 word-requires-2 c κs = search rules
 
-cast-high : tie.Need-overflow-cast-high
+cast-high : tie.Need-overflow_cast-high
 cast-high c = search rules
 
-mul-result : tie.Need-overflow-mul-result
+mul-result : tie.Need-overflow_mul-result
 mul-result c = search rules
 
-add-result : tie.Need-overflow-add-result
+add-result : tie.Need-overflow_add-result
 add-result c = search rules
 
 returns : tie.Need-returns
 unfolding long
-returns c = omega (arith, c.before.word.ensures, c.word2.ensures)
+returns c = omega (arith, c.word-low.ensures, c.word-high.ensures)
 
-pub long-spec : {M : Type 1} → statement M
-long-spec =
+pub long_spec : {M : Type 1} → statement M
+long_spec =
     tie.close
     (tie.spec
     word-requires

@@ -8,22 +8,22 @@ use Rattle.little.proofs.word.Tie as tie
 half-requires : tie.Need-half-requires
 half-requires c κs = search rules
 
-add_half : tie.Need-overflow-add-half
+add_half : tie.Need-overflow_add-i
 add_half c = search rules
 
 half-requires-2 : tie.Need-half-requires-2
 half-requires-2 c κs = search rules
 
-mul-result : tie.Need-overflow-mul-result
+mul-result : tie.Need-overflow_mul-result
 mul-result c = search rules
 
-add-result : tie.Need-overflow-add-result
+add-result : tie.Need-overflow_add-result
 add-result c = search rules
 
 returns : tie.Need-returns
 unfolding word
-returns c = omega (arith, c.before.half.ensures.0, c.half2.ensures.0)
+returns c = omega (arith, c.half.ensures.0, c.half-2.ensures.0)
 
-pub word-spec : {M : Type 1} → statement M
-word-spec =
+pub word_spec : {M : Type 1} → statement M
+word_spec =
     tie.close (tie.spec half-requires add_half half-requires-2 mul-result add-result returns)
