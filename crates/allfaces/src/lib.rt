@@ -3,6 +3,8 @@
 // One pass over the faces writes the pieces of each, in the order they come, behind one another, and beside each the number of the
 // face it came from; then both are grouped as `push` does. What one face leaves is written by crate oneface. The rules stand in
 // removal's specs/Folded.antt and specs/Origins.antt, those of one face in folding's specs/Folding.antt.
+#![tactic(auto)]
+
 ghost use Rattle.std.specs.Prelude.{take};
 ghost use Rattle.lists.specs.Lists.{each};
 ghost use Rattle.mesh.specs.Mesh.{rings};

@@ -2,6 +2,8 @@
 //
 // One function for each answer of a call on a mesh; crate fileanswers has those of files and of the sheet. The C interface (crate
 // barleyhinge) hands it what the call answered. What a caller cites stands in specs/Answers.antt.
+#![tactic(auto)]
+
 ghost use Rattle.std.specs.Prelude.{◌≡◌};
 ghost use Rattle.mesh.specs.Mesh.{mesh_of};
 ghost use Rattle.edges.specs.Answers.{verdict_of};

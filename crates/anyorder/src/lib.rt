@@ -4,3 +4,4 @@
 //
 // Why it holds: compaction renumbers positions one-to-one, and the removal only asks which positions are equal (proofs/Changed.antt); and
 // numbers by first use, taken twice, are numbers by first use (proofs/Columns.antt).
+#![tactic(auto)]

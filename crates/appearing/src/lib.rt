@@ -1,5 +1,7 @@
 // The points of a scan numbered by first appearance: points with equal bits have one number. Crate matching marks each point with the
 // first one that has its bits; so one pass over the points is enough, and nothing is searched for.
+#![tactic(auto)]
+
 ghost use Rattle.std.specs.Prelude.{◌≡◌, length};
 ghost use Rattle.scanned.specs.Scan.{point_at};
 ghost use Rattle.matching.specs.Steps.{ScanRows};

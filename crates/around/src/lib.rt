@@ -2,6 +2,8 @@
 // edges, in their order: an edge changes the entries of its two ends, each by the other end. Nothing is searched. The edges come as two
 // rows, lower and higher ends; specs/Rows.antt says what is gathered, proofs/Gathering.antt has the one law of such a pass, and
 // proofs/Rules.antt says that this is what the rules of smoothing say.
+#![tactic(auto)]
+
 ghost use Rattle.std.specs.Prelude.{◌≡◌, length};
 ghost use Rattle.around.specs.Rows.{edges_in, hems_in, degrees_in, EdgeRows, HemRows, HemsAre};
 ghost use Rattle.around.specs.Steps.{both, one_more, filled, second_filled, given, given_at, CountAt, Entries, HemAt};

@@ -4,6 +4,8 @@
 // answers beside its number is written to places that the caller lends (crate answers). Every number but 0 leaves each lent list as it was, and
 // each count 0; a verdict is written only with 0. No function asks anything of the lists' contents.
 // include/barleyhinge.h has the same for a C program.
+#![tactic(auto)]
+
 ghost use Rattle.std.specs.Prelude.{◌≡◌};
 ghost use Rattle.mesh.specs.Mesh.{mesh_of};
 ghost use Rattle.mesh.specs.Listed.{listed_of};

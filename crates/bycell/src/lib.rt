@@ -1,6 +1,8 @@
 // The second engine of merging: it goes by the points in the order of their cells, and gives what `nearby` gives.
 //
 // The walk is that of `nearby`; only the next near point is found by the runs of the order that are in reach of a point.
+#![tactic(auto)]
+
 ghost use Rattle.std.specs.Prelude.{◌≡◌};
 ghost use Rattle.nearby.specs.Pairs.{pairs};
 ghost use Rattle.nearby.specs.Engine.{beside_at, near_by, Listed, Starts, Walked, Roomy, Components};

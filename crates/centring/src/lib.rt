@@ -1,5 +1,7 @@
 // Where each point of a list goes: the centre of a group and its representative, and each of the group's points sent there (the Rust's
 // `centralize`). The rules and the laws are those of crate together.
+#![tactic(auto)]
+
 ghost use Rattle.std.specs.Prelude.{◌≡◌, ℕ, ◌<◌, ◌≤◌, length};
 ghost use Rattle.std.proofs.Math.Seq.{slice};
 ghost use Rattle.floating.specs.Points.{leading};

@@ -2,6 +2,8 @@
 //
 // The file is opened and cleaned, by crate opening: it is read into a mesh, folded faces are removed, and what no face uses goes. The mesh
 // that is left is written as a panel file. The definitions that a caller cites stand in specs/Cleaning.antt.
+#![tactic(auto)]
+
 ghost use Rattle.std.specs.Prelude.{◌≡◌, [], ◌≤◌, length};
 ghost use Rattle.mesh.specs.Mesh.{mesh_of};
 ghost use Rattle.reading.specs.Reading.{reading_number};

@@ -1,5 +1,7 @@
 // The uses of edge keys, as columns: for each use, in the order of the faces and of their edges, one number. A key has four
 // digits, and a fifth column has the number of the use's face.
+#![tactic(auto)]
+
 ghost use Rattle.std.specs.Prelude.{◌≡◌, cond, map, ℕ, ◌+◌, ◌*◌, ◌/◌, ◌%◌, ◌<◌, ◌≤◌, length};
 ghost use Rattle.std.proofs.lemmas.List.Edits.{sets};
 ghost use Rattle.mesh.specs.Mesh.{rings, corners_in};

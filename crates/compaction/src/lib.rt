@@ -3,6 +3,8 @@
 // Corners are read in face order. Positions, then texture points, then normals are each renumbered by first use, from 0; the new
 // lists hold the old entries in that order, bit for bit. A missing index stays missing. The definitions that a caller cites stand
 // in unused's specs/Compaction.antt; one index of one corner is renumbered by crate oneindex.
+#![tactic(auto)]
+
 ghost use Rattle.mesh.specs.Mesh.{mesh_of};
 ghost use Rattle.unused.specs.Compaction as want;
 ghost use Rattle.unused.specs.Working.{Ready, Done, Refused};

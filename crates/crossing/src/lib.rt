@@ -9,6 +9,8 @@
 // most, and the third row takes no more steps than there are uses. With another verdict it is a row too, but means nothing.
 //
 // Crate turning has the rule, and the law by which rows come to it; proofs/Turned.antt has it for these rows.
+#![tactic(auto)]
+
 ghost use Rattle.std.specs.Prelude.{◌≡◌, ◌<◌, length, get_or};
 ghost use Rattle.std.proofs.lemmas.List.Edits.{sets};
 ghost use Rattle.turning.specs.Rows.{place_from};

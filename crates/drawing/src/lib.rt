@@ -1,5 +1,7 @@
 // A whole file drawn into lists of the reader's own, by crate steps, and what is done with them once the end record is met: the number, and
 // the mesh handed over. The rules stand in crate reading.
+#![tactic(auto)]
+
 ghost use Rattle.std.specs.Prelude.{◌≡◌, not, ◌&&◌, eqb};
 ghost use Rattle.mesh.specs.Mesh.{mesh_of};
 ghost use Rattle.mesh.specs.Table.{short};

@@ -6,6 +6,8 @@
 //
 // `shell_condition` and `hem_edges` check the mesh; `verdict_of` and `hems_of` are for crates that have checked it, and `judge` for those
 // that go on with the sorted uses.
+#![tactic(auto)]
+
 ghost use Rattle.std.specs.Prelude.{◌≡◌, ℕ, ◌/◌, ◌≤◌, length};
 ghost use Rattle.mesh.specs.Limits.{width};
 ghost use Rattle.mesh.specs.Mesh.{mesh_of, rings};

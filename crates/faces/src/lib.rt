@@ -3,6 +3,8 @@
 // `push` takes the corners of all faces, one face behind the other, and how many corners each has. Triangles come first in the
 // result, then quadrangles, then larger faces, each in the order in which they came; faces of fewer than three corners are dropped.
 // The grouping itself is `grouping::push_all`; here stand the checks. What a caller cites stands in specs/Faces.antt.
+#![tactic(auto)]
+
 ghost use Rattle.std.specs.Prelude.{◌≡◌, ◌≤◌, length, ltb};
 ghost use Rattle.mesh.specs.Limits.{ring_limit, face_limit};
 ghost use Rattle.mesh.specs.Table as table;

@@ -1,5 +1,7 @@
 // What a call on files answers, taken apart for a program in C as crate answers does it for the calls on a mesh: the reader, the writer,
 // the sheet, the cleaning of a file, the hem sheet.
+#![tactic(auto)]
+
 ghost use Rattle.std.specs.Prelude.{◌≡◌};
 ghost use Rattle.fileanswers.specs.Answers as want;
 

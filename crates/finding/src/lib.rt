@@ -2,6 +2,8 @@
 // as the lines of the sheet: its verdict, its panels, its hems.
 //
 // Nothing here checks the mesh again: it is asked for in `requires`. The definitions that a caller cites stand in specs/Found.antt.
+#![tactic(auto)]
+
 ghost use Rattle.std.specs.Prelude.{length};
 ghost use Rattle.mesh.specs.Mesh.{rings};
 ghost use Rattle.lines.specs.Lines.{sheet_text};

@@ -1,6 +1,8 @@
 // The f64 of document 01, and nothing else: what its table asks of one number, points and their box, scaling, the cell of a
 // quotient, and the distance of two points. Each operation is one f64 operation, in the order that the document writes.
 // Clients cite specs/: `unfit`, `boundless`, `distant` and `finite` of the table, `scaled_list`, `cell`, `compared` and `near`.
+#![tactic(auto)]
+
 ghost use Rattle.std.specs.Prelude.{◌≡◌, Bool, true, false, not, ◌&&◌, List, [], ◌∷◌, map, ℕ, ◌+◌, ◌*◌, ◌^◌, ◌≤◌, ◌<◌, ◌/◌, min, T, length, get_or, Float};
 ghost use Rattle.std.proofs.lemmas.List.Edits.{sets};
 ghost use Rattle.std.specs.Float.{binary64};

@@ -3,6 +3,8 @@
 // Here are the call on a mesh that is not checked yet, the form for an accepted one, and the mesh in which no face is folded; what is
 // left where one is, is written by crate allfaces. The definitions that a caller cites stand in removal's specs/Folded.antt and
 // specs/Origins.antt.
+#![tactic(auto)]
+
 ghost use Rattle.std.specs.Prelude.{◌≡◌, length};
 ghost use Rattle.lists.specs.Lists.{some, span};
 ghost use Rattle.mesh.specs.Mesh.{mesh_of, rings};

@@ -1,5 +1,7 @@
 // What becomes of a face that may be folded: document 01, 'Folded faces', as `degenerate_triangle`, `degenerate_quadrangle` and
 // `split_into_nondegenerate` have it. A corner's first number, its position, decides. A larger face is split by its places, in crate places.
+#![tactic(auto)]
+
 ghost use Rattle.std.specs.Prelude.{◌≡◌, ◌<◌, length};
 ghost use Rattle.mesh.specs.Mesh.{corners_in};
 ghost use Rattle.splitting.specs.Splitting.{mate_of, first_mated};

@@ -1,5 +1,7 @@
 // Four triangles for one, as the Rust's `loop_subdivision` writes them: the three at the corners, then the one in the middle. Old corners
 // keep their texture, normal and mark; the corners on the edges carry none. The rule is `four` in smoothed's specs/Smoothed.antt.
+#![tactic(auto)]
+
 ghost use Rattle.std.specs.Prelude.{◌≡◌, [], ◌∷◌, ◌+◌, ◌*◌, ◌≤◌, length, replicate};
 ghost use Rattle.std.proofs.lemmas.List.Edits.{sets};
 ghost use Rattle.lists.specs.Lists.{joined, each};

@@ -1,5 +1,7 @@
 // The mesh of a scan's points goes to lent lists, once each point has its number: the position of each number, and a corner for each
 // point. The numbers are by first appearance, so that a point with the next number is a new position, and nothing is searched for.
+#![tactic(auto)]
+
 ghost use Rattle.std.specs.Prelude.{◌≡◌, List, ℕ, ◌+◌, ◌*◌, ◌≤◌, length};
 ghost use Rattle.std.proofs.lemmas.List.Edits.{sets};
 ghost use Rattle.lists.specs.Lists.{each};

@@ -3,6 +3,8 @@
 // The bytes are a count, so many bytes of panel file, and triples. The panel file is read, by crate drawing, and not cleaned; its hems are
 // listed and written as lines, by crate hemtext. The reader checks the mesh, so that nothing behind it checks once more. Where a step needs
 // lists, one function makes them and another fills them. The definitions that a caller cites stand in specs/HemFile.antt.
+#![tactic(auto)]
+
 ghost use Rattle.std.specs.Prelude.{◌≡◌, ◌≤◌, length};
 ghost use Rattle.mesh.specs.Mesh.{rings};
 ghost use Rattle.lines.specs.Working.{Sheeted};

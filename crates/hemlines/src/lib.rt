@@ -1,5 +1,7 @@
 // The lines of the hem sheet as bytes, in a lent list: `hem`, panel, edges and length per hem (document 02, CR 13). The definitions stand in
 // specs/HemLines.antt.
+#![tactic(auto)]
+
 ghost use Rattle.lists.specs.Putting.{Room, Written};
 ghost use Rattle.hemlines.specs.HemLines.{hem_line, hem_lines};
 ghost use Rattle.hemlines.specs.Working.{Beside};

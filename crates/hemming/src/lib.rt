@@ -3,6 +3,8 @@
 // From the sorted uses of all edges come the rows by which a hem turns through the cloth (crate crossing). The places of hem edges are kept
 // as they stand in that order and sorted by start: so the hem edges ascend, smallest start, then smallest end. In that order crate trailing
 // begins a wire at each one that is not used yet, and goes from each to the one that follows it.
+#![tactic(auto)]
+
 ghost use Rattle.mesh.specs.Mesh.{rings};
 ghost use Rattle.tracing.specs.Hems.{Written};
 ghost use Rattle.turning.specs.Turning.{house_wires_of};

@@ -1,5 +1,7 @@
 // The hem sheet of an accepted mesh and its triples, as bytes in a lent list (document 02, CR 13): what crate listing lists, as lines. The
 // definitions stand in specs/HemText.antt.
+#![tactic(auto)]
+
 ghost use Rattle.mesh.specs.Mesh.{rings};
 ghost use Rattle.lines.specs.Working.{Sheeted};
 ghost use Rattle.hemtext.specs.Working.{Textable, text_by};

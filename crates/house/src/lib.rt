@@ -4,6 +4,8 @@
 // them, the wires (crate hemming).
 //
 // `house_wires` checks the mesh; `house_of` is for crates that have checked it, and answers the verdict beside the wires.
+#![tactic(auto)]
+
 ghost use Rattle.std.specs.Prelude.{◌≡◌};
 ghost use Rattle.mesh.specs.Mesh.{mesh_of, rings};
 ghost use Rattle.mesh.specs.Listed.{listed_of};

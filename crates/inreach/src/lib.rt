@@ -1,5 +1,7 @@
 // What is compared with one point, in an order of points by cell: runs of points of one cell that is within two on every axis. What is
 // out of reach is passed over many at a time: a slab, a row or a run, and what is left of them where the axis only rises from there on.
+#![tactic(auto)]
+
 ghost use Rattle.std.specs.Prelude.{◌≡◌, ℕ, ◌+◌, ◌≤◌, ◌<◌, get_or, drop};
 ghost use Rattle.lists.specs.Lists.{count};
 ghost use Rattle.nearby.specs.Pairs.{pairs};

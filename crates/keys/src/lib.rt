@@ -3,6 +3,8 @@
 //
 // The uses are columns of numbers (columns.rt). A stable sort puts uses of one key together, the first one first (firsts.rt). All
 // of it is linear: no use is looked for.
+#![tactic(auto)]
+
 ghost use Rattle.std.specs.Prelude.{◌≡◌};
 ghost use Rattle.mesh.specs.Mesh.{rings};
 ghost use Rattle.columns.specs.Keys.{uses_from, use_faces, FirstUses};

@@ -1,5 +1,7 @@
 // The panel of each face, as a list of one number for each face (document 02, CR 13): panels are listed as `components` lists them, without
 // the normals setting, and then every face of panel j is labelled j. So no panel is searched for.
+#![tactic(auto)]
+
 ghost use Rattle.std.specs.Prelude.{◌≡◌, length};
 ghost use Rattle.lists.specs.Cutting.{parts};
 ghost use Rattle.mesh.specs.Mesh.{rings};

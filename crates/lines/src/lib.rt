@@ -2,6 +2,8 @@
 //
 // The definitions stand in specs/Lines.antt. 65,536 bytes are room for every sheet: there are at most 4,096 numbers in at most 4,096
 // wires, and a number has at most ten digits.
+#![tactic(auto)]
+
 ghost use Rattle.std.specs.Prelude.{◌≡◌, ◌≤◌, length};
 ghost use Rattle.std.proofs.Math.Option.{some, none};
 ghost use Rattle.edges.specs.Answers.{verdict_of};

@@ -1,6 +1,8 @@
 // The list of hems (document 02, CR 13): of each hem its panel, its number of edges and its length, in three lent lists.
 //
 // `list_hems` checks the mesh and the triples; `list_of` is for crates that have checked them.
+#![tactic(auto)]
+
 ghost use Rattle.std.specs.Prelude.{◌≡◌};
 ghost use Rattle.mesh.specs.Mesh.{mesh_of, rings};
 ghost use Rattle.hemlist.specs.Answer.{hem_lists_of, HemsListed};

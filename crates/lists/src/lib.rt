@@ -1,6 +1,8 @@
 // Small steps on lists that all crates take: copies of a part to a place, the place behind another in a ring; and the laws on lists
 // that all crates cite.
 // The definitions of specs/ are the words in which the rules are written; proofs/ has what is known of them.
+#![tactic(auto)]
+
 ghost use Rattle.std.specs.Prelude.{◌≡◌, ◌+◌, ◌<◌, ◌≤◌, length};
 ghost use Rattle.std.proofs.lemmas.List.Edits.{sets};
 ghost use Rattle.lists.specs.Numbers.{next_of};

@@ -1,5 +1,7 @@
 // Little-endian numbers of two, four and eight bytes. specs/ has what bytes say and the bytes of a number, proofs/ that each undoes
 // the other.
+#![tactic(auto)]
+
 ghost use Rattle.std.specs.Prelude.{◌≡◌, ◌+◌, ◌≤◌, ◌<◌, length};
 ghost use Rattle.std.proofs.lemmas.List.Edits.{sets};
 ghost use Rattle.little.specs.Little as little;

@@ -3,3 +3,4 @@
 // marks don't matter to demand 3, and Examples.antt shows marks after cleaning.
 //
 // Why it holds: changing marks goes corner by corner and leaves the first three numbers (proofs/Remarked.antt), and every rule reads those alone.
+#![tactic(auto)]

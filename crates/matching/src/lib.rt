@@ -1,6 +1,8 @@
 // Points of a scan with equal bits: each point is marked with the first one that has its bits. The bits are cut into digits, and the
 // proved sort of crate keys puts points with equal digits together; no point is compared with all others. Four digits are half of a
 // point, so that points are marked by the lower half, by the upper half, and then by the two marks.
+#![tactic(auto)]
+
 ghost use Rattle.std.specs.Prelude.{◌≡◌, Bool, true, false, ℕ, ◌<◌, length};
 ghost use Rattle.matching.specs.Marks.{MarkedBy, FirstPairs};
 ghost use Rattle.matching.specs.Steps.{lowest, half_at, ScanRows, BothRoom, HalfRoom, HalfRows, HalfColumns, DigitRoom, DigitsPut, BothRows, AlikeRoom};

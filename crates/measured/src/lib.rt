@@ -1,4 +1,6 @@
 // The lengths of hems: of each edge the whole root of the squared distance, and of each hem the sum (document 02, CR 13).
+#![tactic(auto)]
+
 ghost use Rattle.std.specs.Prelude.{◌≡◌, map};
 ghost use Rattle.std.proofs.lemmas.List.Edits.{sets};
 ghost use Rattle.lists.specs.Cutting.{parts};

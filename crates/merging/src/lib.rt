@@ -2,6 +2,8 @@
 //
 // The Rust's `create_blocks`, `create_adjacency` and `create_components` are the crate `nearby`, and its `centralize` is the crate
 // `centring`; what is done for each of the three lists is here. The crate `bycell` is a second engine in the place of `nearby`.
+#![tactic(auto)]
+
 ghost use Rattle.std.specs.Prelude.{◌≡◌, true, false, ◌||◌, map, ℕ, ◌/◌, ◌≤◌, ◌<◌, length, get_or};
 ghost use Rattle.std.proofs.lemmas.List.Edits.{sets};
 ghost use Rattle.lists.specs.Lists.{some, joined};

@@ -4,6 +4,8 @@
 // each (position, texture, normal, with `MISSING` for a missing texture or normal, and the mark, 0 for none); and the sizes of the faces. `number` says
 // which row of the table of numbers returned they earn first, 0 where none; every call on a mesh begins with it. `face` and
 // `face_at` hand back the corners of one face as a part of the list of corners.
+#![tactic(auto)]
+
 ghost use Rattle.std.specs.Prelude.{◌≡◌, ℕ, ◌+◌, ◌-◌, ◌*◌, ◌/◌, ◌%◌, ◌<◌, ◌≤◌, map, length};
 ghost use Rattle.lists.specs.Lists.{some, sum};
 ghost use Rattle.mesh.specs.Limits.{width, largest, face_limit, corner_numbers};

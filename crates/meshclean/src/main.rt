@@ -3,6 +3,8 @@
 // The file's bytes are the library's, by its contract; only reading standard input and writing the bytes stand here. One byte more than a
 // file may have is read, so that a file that is too long is seen to be. Where a file is refused, nothing goes to standard output, and
 // `refused` and the number go to standard error.
+#![tactic(auto)]
+
 const INPUT: usize = saving::FILE + 1;
 
 fn main() {

@@ -2,6 +2,8 @@
 //
 // The sheet's bytes are the library's, by its contract; only reading standard input and writing the bytes stand here. One byte more
 // than a file may have is read, so that a file that is too long is seen to be.
+#![tactic(auto)]
+
 fn main() {
     let mut file = [0u8; sheet::FILE + 1];
     let mut out = [0u8; sheet::ROOM];

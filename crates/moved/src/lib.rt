@@ -2,6 +2,8 @@
 // position has, which two lie along a hem, the sum of how far all lie from it, and an edge's ends and wings (the Rust's
 // `calc_new_position` and `edge_positions`). Clients cite `moved_list` and `middle_list`, and the laws of proofs/Fitting: of the rows of a
 // mesh these are the rules of smoothing.
+#![tactic(auto)]
+
 ghost use Rattle.std.specs.Prelude.{◌≡◌, ◌*◌, ◌<◌, length};
 ghost use Rattle.std.proofs.lemmas.List.Edits.{sets};
 ghost use Rattle.floating.specs.Points.{coordinates};

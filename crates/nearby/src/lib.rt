@@ -3,6 +3,8 @@
 // The Rust finds near points by a map of blocks. Here each point's cells are worked out once, as whole numbers. The count looks at
 // each pair once; the walk looks at it once from each of its two points, but for points below the group's first. A distance
 // is worked out only where the cells of two points are beside each other on every axis, and the second is not taken.
+#![tactic(auto)]
+
 ghost use Rattle.std.specs.Prelude.{◌≡◌, Bool, true, false, ◌&&◌, List, [], ◌∷◌, ◌++◌, ℕ, ◌+◌, ◌*◌, ◌^◌, ◌≤◌, ◌<◌, length, get_or, take, Float};
 ghost use Rattle.std.proofs.lemmas.List.Edits.{sets};
 ghost use Rattle.lists.specs.Lists.{some};

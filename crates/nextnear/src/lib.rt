@@ -1,4 +1,6 @@
 // The next near point of a point, by the runs of the order that are in reach of it.
+#![tactic(auto)]
+
 ghost use Rattle.std.specs.Prelude.{◌≡◌, true, ℕ, ◌≤◌, ◌<◌, length};
 ghost use Rattle.nearby.specs.Engine.{beside_at, near_by, fresh, Listed, Next};
 ghost use Rattle.inreach.specs.Reach.{Run};

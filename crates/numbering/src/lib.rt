@@ -1,6 +1,8 @@
 // The edges of triangles, numbered by first use in the Rust's order; and for each edge its two positions, its first and its last wing,
 // and how many wings it has. Crate sides has the uses of the edges as columns and marks the first use of each; so one pass over the
 // uses is enough, and nothing is searched for.
+#![tactic(auto)]
+
 ghost use Rattle.std.specs.Prelude.{◌≡◌};
 ghost use Rattle.smoothed.specs.Columns.{triangles};
 ghost use Rattle.numbering.specs.Numbering.{rows, Numberable, Numbered};

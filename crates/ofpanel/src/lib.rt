@@ -2,6 +2,8 @@
 //
 // No face is searched for. The first edges of the hems stand as entries behind the uses of all edges; one stable sort by edge gives each entry
 // the first entry of its edge (crate keys), which for a hem is a use; so the use's face is known, and its panel (crate labelled).
+#![tactic(auto)]
+
 ghost use Rattle.std.specs.Prelude.{◌≡◌, map, ℕ, ◌+◌, ◌<◌, length};
 ghost use Rattle.std.proofs.lemmas.List.Edits.{sets};
 ghost use Rattle.lists.specs.Cutting.{parts};

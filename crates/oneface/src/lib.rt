@@ -1,5 +1,7 @@
 // One face: whether it is folded, and what is left of it, written behind what is written. A face is its part of the flat list of
 // corners. One that is not folded is copied as it is; of a folded one the decision in crate folding says what becomes of it.
+#![tactic(auto)]
+
 ghost use Rattle.std.specs.Prelude.{◌≡◌, [], ◌∷◌, map, ◌+◌, ◌*◌, ◌<◌, ◌≤◌, length};
 ghost use Rattle.mesh.specs.Limits.{width};
 ghost use Rattle.mesh.specs.Mesh.{position, corners_in};

@@ -1,6 +1,8 @@
 // One index of one corner renumbered: what compaction does at each.
 //
 // The rules stand in unused's specs/Compaction.antt.
+#![tactic(auto)]
+
 ghost use Rattle.std.specs.Prelude.{◌≡◌, ◌*◌};
 ghost use Rattle.std.proofs.lemmas.List.Edits.{sets};
 ghost use Rattle.unused.specs.Compaction as want;

@@ -4,6 +4,8 @@
 // the list that it stands in; what is left stands at the front of the lent lists. So there is never more beside the caller's mesh than its
 // faces. Where a step needs lists, one function makes them and `.._in` fills them. The definitions that a caller cites stand in
 // specs/Opening.antt.
+#![tactic(auto)]
+
 ghost use Rattle.mesh.specs.Mesh.{mesh_of};
 ghost use Rattle.unused.specs.Compaction.{compacted};
 ghost use Rattle.cleaning.specs.Cleaning.{cleaned};

@@ -3,6 +3,8 @@
 // A file is records, each a two-byte length, a two-byte kind and a body, little-endian, up to an end record. The reader takes one
 // record after the other into lists of its own, so that a refused file writes nothing; then it looks at what follows the end record and at
 // the indices, groups the faces as `push` does, and copies. The rules stand in crate reading, and its steps in crate drawing.
+#![tactic(auto)]
+
 ghost use Rattle.std.specs.Prelude.{◌≡◌};
 ghost use Rattle.mesh.specs.Mesh.{mesh_of};
 ghost use Rattle.reading.specs.Answer.{PanelRead};

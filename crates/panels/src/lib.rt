@@ -5,6 +5,8 @@
 // the order of the uses (joins.rt). Crate searching lists the panels that the joins make.
 //
 // `components` checks the mesh; `components_of` is for crates that have checked it.
+#![tactic(auto)]
+
 ghost use Rattle.std.specs.Prelude.{◌≡◌, length};
 ghost use Rattle.mesh.specs.Mesh.{mesh_of, rings};
 ghost use Rattle.mesh.specs.Listed.{listed_of};

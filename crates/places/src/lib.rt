@@ -1,6 +1,8 @@
 // A face is split on one row that holds only places of its corners. The row is the ring; it is turned where it stands so that the
 // first of its two rings lies in front of the second, and each is split again as a part of the row. The places that a piece takes are
 // written behind those that were taken before. No level of the calls has a row of its own.
+#![tactic(auto)]
+
 ghost use Rattle.std.specs.Prelude.{◌≡◌, ◌++◌, map, reverse, false, ◌+◌, ◌*◌, ◌<◌, ◌≤◌, length, take, drop};
 ghost use Rattle.std.proofs.lemmas.List.Edits.{sets};
 ghost use Rattle.lists.specs.Lists.{joined, span};

@@ -4,6 +4,8 @@
 // edge and no edge has a next.
 //
 // `extract_boundaries` checks the mesh; `ported_of` is for crates that have checked it.
+#![tactic(auto)]
+
 ghost use Rattle.std.specs.Prelude.{◌≡◌};
 ghost use Rattle.mesh.specs.Mesh.{mesh_of, rings};
 ghost use Rattle.mesh.specs.Listed.{listed_of};

@@ -1,6 +1,8 @@
 // How far the neighbours of each position lie from it: for each axis a sum, gathered in one pass over the edges (crate around). Positions
 // and sums are flat lists, three numbers for each position. specs/Pulls.antt says what is gathered, and proofs/Rules.antt that this is
 // what the rules of smoothing say.
+#![tactic(auto)]
+
 ghost use Rattle.std.specs.Prelude.{◌≡◌, ◌/◌, length, replicate};
 ghost use Rattle.std.specs.Float.{nan};
 ghost use Rattle.mesh.specs.Limits.{point_width};

@@ -1,4 +1,6 @@
 // Whether a coordinate is beyond 1,000,000 either way (document 02, CR 13, row 19).
+#![tactic(auto)]
+
 ghost use Rattle.std.specs.Prelude.{◌≡◌};
 ghost use Rattle.hemlist.specs.HemList.{too_far, beyond_reach};
 

@@ -3,6 +3,8 @@
 // A record is a two-byte length, a two-byte kind and a body. Reading one answers a `Record`, which carries its numbers or its refusal; the
 // corners of a face are read where they are wanted. What the records of a file come to is for the reader, crate panelfile. The definitions
 // that a caller cites stand in specs/Records.antt.
+#![tactic(auto)]
+
 mod coordinates;
 
 ghost use Rattle.std.specs.Prelude.{◌≡◌, true, false, not, ◌+◌, ◌*◌, ◌≤◌, ◌<◌, length};

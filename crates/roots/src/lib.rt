@@ -1,5 +1,7 @@
 // Whole square roots, and the squared distance of two points whose coordinates are within a million either way: what the lengths of
 // hems are made of (document 02, CR 13).
+#![tactic(auto)]
+
 ghost use Rattle.std.specs.Prelude.{◌≡◌, max, pos, ◌+ℤ◌};
 ghost use Rattle.roots.specs.Roots.{Root, Within};
 ghost use Rattle.roots.specs.Distances.{apart_by, squares, squared_distance, Reached, Spanned, bias};

@@ -3,6 +3,8 @@
 // The file is opened and cleaned, by crate opening; the mesh that is left is smoothed once by Loop's method; and the result is written as a
 // panel file. Where a step needs lists, one function makes them and `.._in` fills them. The definitions that a caller cites stand in
 // specs/Rounding.antt.
+#![tactic(auto)]
+
 ghost use Rattle.std.specs.Prelude.{◌≡◌, ◌≤◌, length};
 ghost use Rattle.mesh.specs.Mesh.{mesh_of};
 ghost use Rattle.written.specs.Pieces.{file_limit};

@@ -2,6 +2,8 @@
 //
 // What is written is said in crate written, record by record (specs/Pieces.antt), and what the call answers (specs/Answer.antt). There it is
 // proved that the reader gives the same mesh back.
+#![tactic(auto)]
+
 mod bytes;
 
 ghost use Rattle.std.specs.Prelude.{◌≡◌};

@@ -3,6 +3,8 @@
 // The length is compared with what the count asks before any point is read, and the count before any length is made of it, so that no
 // length can wrap. Then every point is tested; then points are numbered in rows of the reader's own, so that a refused file writes
 // nothing; then positions, corners and sizes go to the lent lists. The rules stand in crate scanned.
+#![tactic(auto)]
+
 ghost use Rattle.std.specs.Prelude.{◌≡◌, ℕ, ◌≤◌, length};
 ghost use Rattle.lists.specs.Lists.{some};
 ghost use Rattle.mesh.specs.Mesh.{mesh_of};

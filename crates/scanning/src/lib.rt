@@ -2,6 +2,8 @@
 //
 // The scan is read, by crate scanfile, and cleaned where it stands, by crate opening; what is found in the mesh that is left is written as
 // lines, by crate finding. The definitions that a caller cites stand in specs/Scanning.antt.
+#![tactic(auto)]
+
 ghost use Rattle.std.specs.Prelude.{◌≡◌, suc, ◌≤◌, [], length};
 ghost use Rattle.mesh.specs.Mesh.{mesh_of};
 ghost use Rattle.lines.specs.Lines.{sheet_room};

@@ -1,6 +1,8 @@
 // The scans over the uses of all edges, sorted so that those of one edge stand together (crate uses): one counts them for the verdict
 // (counting.rt), one writes the hem edges (writing.rt). Their contracts cite the steps of specs/Runs.antt; crate edges proves that these
 // come to the rules.
+#![tactic(auto)]
+
 pub mod counting;
 pub mod writing;
 

@@ -2,6 +2,8 @@
 //
 // A stable sort puts the entries of the joins by face, in the order they were recorded; a search with a stack lists the panels
 // (search.rt). All of it is linear: no face is looked for.
+#![tactic(auto)]
+
 ghost use Rattle.std.specs.Prelude.{◌≡◌, length};
 ghost use Rattle.connected.specs.Walk.{panels_below, Parted};
 ghost use Rattle.connected.specs.Rows.{Divisible, PartRows};

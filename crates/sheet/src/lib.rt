@@ -3,6 +3,8 @@
 // The file is opened and cleaned, by crate opening; what is found in the mesh that is left is written as lines, by crate finding. The reader
 // checks the mesh, and what is made of an accepted mesh is one again: so nothing behind it checks once more. Where a step needs lists, one
 // function makes them and another fills them. The definitions that a caller cites stand in specs/Sheet.antt.
+#![tactic(auto)]
+
 ghost use Rattle.std.specs.Prelude.{◌≤◌, [], length};
 ghost use Rattle.lines.specs.Lines.{sheet_room};
 ghost use Rattle.lines.specs.Working.{Sheeted};

@@ -1,6 +1,8 @@
 // The edges of triangles as columns of numbers, one number for each use of an edge: its lower and its higher position, and its wing, the
 // position across from it. The uses come face after face, in the Rust's order: the edge across from the first corner, from the second,
 // from the third. A stable sort then marks each use with the first use of its edge; nothing is searched for.
+#![tactic(auto)]
+
 ghost use Rattle.std.specs.Prelude.{◌≡◌, ℕ, ◌*◌};
 ghost use Rattle.mesh.specs.Limits.{least_ring};
 ghost use Rattle.verdicts.specs.Edges.{key};

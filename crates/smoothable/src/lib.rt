@@ -1,5 +1,7 @@
 // What smoothing asks of a mesh and of the cosines before it counts anything (document 02, 'CR 4'): each test is a function, and `number`
 // has them in the document's order. How many neighbours a position has is known only later: `crowded` asks that of the counts.
+#![tactic(auto)]
+
 ghost use Rattle.std.specs.Prelude.{◌≡◌, not, ◌||◌, [], ◌∷◌, ◌+◌, ◌*◌, ◌≤◌, length, ltb, eqb};
 ghost use Rattle.lists.specs.Lists.{some};
 ghost use Rattle.mesh.specs.Limits.{width, least_ring, corner_numbers};

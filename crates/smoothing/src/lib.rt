@@ -3,6 +3,8 @@
 // The edges are numbered by first use (crate numbering); what stands around each position is gathered from them (around, pulling); then
 // the faces are written by the numbers of their edges (fourfold) and the positions by what was gathered (moved). Smoothable has the
 // tests on what is given. The definitions that a caller cites stand in specs/Smoothing.antt, the rules in crate smoothed.
+#![tactic(auto)]
+
 ghost use Rattle.std.specs.Prelude.{◌≡◌, length};
 ghost use Rattle.mesh.specs.Mesh.{mesh_of};
 ghost use Rattle.smoothed.specs.Refusals.{lists};

@@ -1,5 +1,7 @@
 // One step of the reader of the panel file: the record at its place is taken apart, case by case, and drawn into lists of the reader's own;
 // a refusal stops the reading there, with its number. The definitions that a caller cites stand in specs/Taking.antt.
+#![tactic(auto)]
+
 ghost use Rattle.std.specs.Prelude.{◌≡◌, List, ℕ, ◌+◌, ◌*◌, ◌≤◌, ◌<◌, length, Float};
 ghost use Rattle.mesh.specs.Limits.{face_limit, point_numbers, texel_numbers, corner_numbers};
 ghost use Rattle.mesh.specs.Mesh.{Mesh, mesh_of};

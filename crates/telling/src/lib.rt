@@ -1,5 +1,6 @@
 // What a program that writes a panel file has to say: the file on standard output, or on standard error that it is refused. No contract can
 // speak of what is written; the bytes are the library's.
+#![tactic(auto)]
 
 // A file, to its last byte; where that cannot be, `unwritten` goes to standard error.
 pub fn hand_over(file: &[u8]) {

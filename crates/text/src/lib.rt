@@ -2,6 +2,8 @@
 //
 // Each call takes the place to write at and answers the place behind what it wrote, so that texts are put one behind the other.
 // The definitions that a caller cites stand in specs/Text.antt, and `Room` and `Written` in lists' specs/Putting.antt.
+#![tactic(auto)]
+
 ghost use Rattle.std.specs.Prelude.{◌≡◌, [], ◌∷◌, ◌++◌, map, ◌<◌};
 ghost use Rattle.lists.specs.Putting.{Room, Written};
 ghost use Rattle.text.specs.Text.{digit_byte, decimal, spaced};

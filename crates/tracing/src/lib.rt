@@ -2,6 +2,8 @@
 // with the same start. Taking an edge puts its next in its place. Crate ported fills the tables. A wire begins at the first position with
 // an edge left, and the positions before it are never looked at again; so the work is one step for each position and each hem edge.
 // House wires go by uses and not by position (crate trailing); they share what is answered.
+#![tactic(auto)]
+
 ghost use Rattle.std.specs.Prelude.{◌≡◌};
 ghost use Rattle.tracing.specs.Tables.{left};
 ghost use Rattle.tracing.specs.Tracing.{trace, traces, Underway, StepTaken, Begun, Ended, Unwritten, OneMore, AllLeft};

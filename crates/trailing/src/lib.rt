@@ -3,6 +3,8 @@
 // One row has for each place the position at which its edge starts, one the place that follows it. A third has a place's own number where
 // its edge is a hem edge that is not used yet, and is written over as the wires use them. A wire goes from place to place until it comes
 // to an edge that is used: what follows is one-to-one, so that this is the edge it began with. Crate house has that law, and the rows.
+#![tactic(auto)]
+
 ghost use Rattle.std.specs.Prelude.{◌≡◌, ◌<◌, length};
 ghost use Rattle.tracing.specs.Hems.{Written};
 ghost use Rattle.trailing.specs.Trailing.{is_left, wire_from, new_wire, wires_by, Walkable, Walked, Addable, Added, AllLeft};

@@ -1,5 +1,7 @@
 // Coordinates in bytes, four-byte signed, little-endian, into a lent list of numbers (document 02, CR 13). The rules stand in
 // specs/Triples.antt.
+#![tactic(auto)]
+
 ghost use Rattle.std.specs.Prelude.{◌≡◌, ◌*◌, ◌≤◌, length};
 ghost use Rattle.triples.specs.Triples as triples;
 

@@ -3,6 +3,8 @@
 // The arguments name the files, which stand in data/. Of each file come every cut (its first 0, 1, 2, .. bytes, the whole file last),
 // every change of one byte of a record's header to each of the 255 other values, and every change of one coordinate to a NaN, of two
 // patterns, to an infinity, of either sign, and to the greatest finite number, of either sign. Every copy ends in a number.
+#![tactic(auto)]
+
 mod coordinates;
 mod copies;
 

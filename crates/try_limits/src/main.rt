@@ -4,6 +4,8 @@
 //
 // The lists that are tried stand where the call is, and the functions above pass numbers alone: what a function costs to prove goes
 // by the references that it has, times its calls.
+#![tactic(auto)]
+
 mod fronts;
 mod in_place;
 mod parts;

@@ -6,6 +6,8 @@
 // its format, and how this program was seen to fail. Here the records are gone through; `list` reads the list, `lent` fills a list that is lent
 // and holds it to the answer afterwards, `cases` has what the cases of all calls share, `questions` puts a case to its call, by `by_faces`,
 // `attributes`, `in_place`, `surfaces` and `files`, and `tally` counts how the cases came out.
+#![tactic(auto)]
+
 mod attributes;
 mod by_faces;
 mod bytes;

@@ -1,6 +1,8 @@
 // Prints the sheet of each panel file that its arguments name: the file's name, and then what `meshsheet` prints for it.
 //
 // The files stand in data/, and args names every one of them. tools/make_panels makes them again and says what each one is for.
+#![tactic(auto)]
+
 fn main() {
     let count = os::arg_count();
     let mut i: usize = 1;

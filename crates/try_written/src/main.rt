@@ -1,6 +1,8 @@
 // Tries the writer on the longest file that a mesh can make, every list at its limit and every face with a mark, with exactly its room and with one
 // byte less, also with a last coordinate that no corner uses and that is not finite, and on the largest faces that there are, without marks and with
 // them; and the reader on what was written; and prints what each answers.
+#![tactic(auto)]
+
 const LESS: usize = saving::FILE - 1;
 
 const LAST_COORDINATE: usize = mesh::POINT_NUMBERS - 1;

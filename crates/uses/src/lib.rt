@@ -3,6 +3,8 @@
 // The uses of all edges are written down in the order of the faces, as three columns: lower position, higher position, and whether
 // the use runs down, from the higher to the lower. They are sorted by higher, then by lower position; the sort is stable, so the
 // uses of one edge stand together in the order of the faces, and the edges ascend.
+#![tactic(auto)]
+
 ghost use Rattle.std.specs.Prelude.{◌≡◌, [], ◌∷◌, ℕ, ◌+◌, ◌/◌, ◌<◌, length, get_or, drop};
 ghost use Rattle.mesh.specs.Limits.{width};
 ghost use Rattle.mesh.specs.Mesh.{rings};

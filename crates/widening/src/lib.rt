@@ -1,5 +1,7 @@
 // The points of a scan, one at a time: where one stands, its bits, and the numbers that they stand for. A negative zero is read as zero
 // first, and an f32 becomes an f64 with nothing lost. The rules stand in crate scanned.
+#![tactic(auto)]
+
 ghost use Rattle.std.specs.Prelude.{◌≡◌, not, ℕ, ◌+◌, ◌*◌, ◌<◌, ◌≤◌, ◌%◌, length};
 ghost use Rattle.std.specs.Float.{binary32};
 ghost use Rattle.std.specs.Float.Ieee.{of_bits};

@@ -6,40 +6,40 @@ use borrow.Author.Rules.{rules}
 use Rattle.faces.proofs.faces_number.Statement.{statement}
 use Rattle.faces.proofs.faces_number.Tie as tie
 
-over-limits-requires : tie.Need-over-limits-requires
+over-limits-requires : tie.Need-over_limits-requires
 over-limits-requires c κs = search rules
 
-returns : tie.Need-returns
+returns : tie.Need-returns-then-over_limits
 unfolding faces_number
-returns c = rw (sym c.before.over-limits.ensures ∙ c.if1.true)
+returns c = rw (sym c.over_limits.ensures ∙ c.if-over_limits.true)
 
 uneven-requires : tie.Need-uneven-requires
-uneven-requires c κs = (within _ (sym c.before.over-limits.ensures ∙ c.if1.false)).sizes
+uneven-requires c κs = (within _ (sym c.over_limits.ensures ∙ c.if-over_limits.false)).sizes
 
-returns-2 : tie.Need-returns-2
+returns-2 : tie.Need-returns-then-uneven
 unfolding faces_number
 returns-2 c =
-    rw (sym c.before.before.before.over-limits.ensures ∙ c.before.before.if1.false, sym c.before.uneven.ensures ∙ c.if2.true)
+    rw (sym c.over_limits.ensures ∙ c.if-over_limits.false, sym c.uneven.ensures ∙ c.if-uneven.true)
 
-too-large-requires : tie.Need-too-large-requires
+too-large-requires : tie.Need-too_large-requires
 too-large-requires c κs = search rules
 
-returns-3 : tie.Need-returns-3
+returns-3 : tie.Need-returns-then-too_large
 unfolding faces_number
 returns-3 c =
-    let within-limits = sym c.before.before.before.before.before.over-limits.ensures ∙ c.before.before.before.before.if1.false in
-    let even = sym c.before.before.before.uneven.ensures ∙ c.before.before.if2.false in
-    rw (within-limits, even, sym c.before.too_large.ensures ∙ c.if3.true)
+    let within-limits = sym c.over_limits.ensures ∙ c.if-over_limits.false in
+    let even = sym c.uneven.ensures ∙ c.if-uneven.false in
+    rw (within-limits, even, sym c.too_large.ensures ∙ c.if-too_large.true)
 
-returns-4 : tie.Need-returns-4
+returns-4 : tie.Need-returns
 unfolding faces_number
 returns-4 c =
-    let within-limits = sym c.before.before.before.before.before.over-limits.ensures ∙ c.before.before.before.before.if1.false in
-    let even = sym c.before.before.before.uneven.ensures ∙ c.before.before.if2.false in
-    rw (within-limits, even, sym c.before.too_large.ensures ∙ c.if3.false)
+    let within-limits = sym c.over_limits.ensures ∙ c.if-over_limits.false in
+    let even = sym c.uneven.ensures ∙ c.if-uneven.false in
+    rw (within-limits, even, sym c.too_large.ensures ∙ c.if-too_large.false)
 
-pub faces-number-spec : {M : Type 1} → statement M
-faces-number-spec =
+pub faces_number_spec : {M : Type 1} → statement M
+faces_number_spec =
     tie.close
     (tie.spec
     over-limits-requires

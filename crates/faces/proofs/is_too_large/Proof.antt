@@ -6,5 +6,5 @@ use Rattle.faces.proofs.is_too_large.Tie as tie
 returns : tie.Need-returns
 returns c = refl
 
-pub is-too-large-spec : {M : Type 1} → statement M
-is-too-large-spec = tie.close (tie.spec returns)
+pub is_too_large_spec : {M : Type 1} → statement M
+is_too_large_spec = tie.close (tie.spec returns)

@@ -11,48 +11,48 @@ use native.Mathlib.Omega.{arith}
 use Rattle.faces.proofs.too_large.Statement.{statement}
 use Rattle.faces.proofs.too_large.Tie as tie
 
-abbrev invariant-loop : tie.invariant-loop
+abbrev invariant-loop : tie.invariant-loop-k
 invariant-loop sizes k₀ k = Searching (ltb ring_limit) sizes k
 
-abbrev decreases-loop : tie.decreases-loop
+abbrev decreases-loop : tie.decreases-loop-k
 decreases-loop sizes k₀ k = length sizes - k
 
-loop-holds : tie.Need-loop-init invariant-loop decreases-loop
+loop-holds : tie.Need-loop-k-init invariant-loop decreases-loop
 loop-holds c = search_begins (ltb ring_limit) 0 _
 
-mul-is-too-large : tie.Need-overflow-mul-is-too-large invariant-loop decreases-loop
+mul-is-too-large : tie.Need-offset_bounds-sizes-k invariant-loop decreases-loop
 mul-is-too-large c = search rules
 
-shared-slice-read-is-too-large : tie.Need-shared-slice-read-is-too-large invariant-loop decreases-loop
+shared-slice-read-is-too-large : tie.Need-bounds-sizes-k invariant-loop decreases-loop
 shared-slice-read-is-too-large c = search rules
 
-is-too-large-requires : tie.Need-is-too-large-requires invariant-loop decreases-loop
+is-too-large-requires : tie.Need-is_too_large-requires invariant-loop decreases-loop
 is-too-large-requires c κs = search rules
 
-returns : tie.Need-returns invariant-loop decreases-loop
+returns : tie.Need-returns-then-is_too_large invariant-loop decreases-loop
 unfolding too_large
 returns c =
-    let sizes = c.before.before.before.before.before.before.args.sizes.now in
-    let loop = c.before.before.before.before.loop in
-    search_finds (ltb ring_limit) 0 sizes loop.k (omega arith) (sym c.before.is-too-large.ensures ∙ c.if1.true)
+    let sizes = c.args.sizes.now in
+    let loop = c.loop-k in
+    search_finds (ltb ring_limit) 0 sizes loop.k (omega arith) (sym c.is_too_large.ensures ∙ c.if-is_too_large.true)
 
-add-k : tie.Need-overflow-add-k invariant-loop decreases-loop
+add-k : tie.Need-overflow_add-k invariant-loop decreases-loop
 add-k c = search rules
 
-loop-less : tie.Need-loop-smaller invariant-loop decreases-loop
+loop-less : tie.Need-loop-k-smaller invariant-loop decreases-loop
 loop-less c = search rules
 
-loop-again : tie.Need-loop-preserved invariant-loop decreases-loop
+loop-again : tie.Need-loop-k-preserved invariant-loop decreases-loop
 loop-again c =
-    let loop = c.before.before.before.before.loop in
-    search_turns (ltb ring_limit) 0 _ loop.k (omega arith) (sym c.before.is-too-large.ensures ∙ c.if1.false) loop.invariant
+    let loop = c.loop-k in
+    search_turns (ltb ring_limit) 0 _ loop.k (omega arith) (sym c.is_too_large.ensures ∙ c.if-is_too_large.false) loop.invariant
 
-returns-2 : tie.Need-returns-2 invariant-loop decreases-loop
+returns-2 : tie.Need-returns invariant-loop decreases-loop
 unfolding too_large
-returns-2 c = search_ends (ltb ring_limit) 0 _ _ (omega arith) c.before.loop.invariant
+returns-2 c = search_ends (ltb ring_limit) 0 _ _ (omega arith) c.loop-k.invariant
 
-pub too-large-spec : {M : Type 1} → statement M
-too-large-spec =
+pub too_large_spec : {M : Type 1} → statement M
+too_large_spec =
     tie.close
     (tie.spec
     invariant-loop

@@ -53,192 +53,192 @@ module _ (t : ℕ) where
     put-piece-reads.Learnt,
   )
 
-  repeats-requires : lts.Need-repeats-requires claims (at t) reads.Post
+  repeats-requires : lts.Need-repeats-s-requires claims (at t) reads.Post
   repeats-requires c κs = search rules
 
   -- the row begins with equal corners
 
-  mul-split-places : lts.Need-overflow-mul-split-places claims (at t) reads.Post
+  mul-split-places : lts.Need-offset_bounds-row-s claims (at t) reads.Post
   mul-split-places c =
-      let seen = c.before in
-      omega (arith, passed_within seen.repeats.ensures c.if1.true)
+      let seen = c in
+      omega (arith, passed_within seen.repeats-s.ensures c.if-s-gt0.true)
 
-  sub-split-places : lts.Need-overflow-sub-split-places claims (at t) reads.Post
+  sub-split-places : lts.Need-slice_bounds-split_places-count claims (at t) reads.Post
   sub-split-places c =
-      let seen = c.before in
-      omega (arith, passed_within seen.repeats.ensures c.if1.true)
+      let seen = c in
+      omega (arith, passed_within seen.repeats-s.ensures c.if-s-gt0.true)
 
-  part-split-places-start : lts.Need-slice-bounds-split-places-start claims (at t) reads.Post
+  part-split-places-start : lts.Need-slice_bounds-split_places-start claims (at t) reads.Post
   part-split-places-start c =
-      let seen = c.before in
-      omega (arith, passed_within seen.repeats.ensures c.if1.true)
+      let seen = c in
+      omega (arith, passed_within seen.repeats-s.ensures c.if-s-gt0.true)
 
-  part-split-places-end : lts.Need-slice-bounds-split-places-end claims (at t) reads.Post
+  part-split-places-end : lts.Need-slice_bounds-split_places-end claims (at t) reads.Post
   part-split-places-end c = search rules
 
-  split-places-requires : lts.Need-split-places-requires claims (at t) reads.Post
+  split-places-requires : lts.Need-split_places-requires claims (at t) reads.Post
   split-places-requires c κs =
-      let start = c.before.before.before.before.before.before.before.before.before.before in
-      let seen = c.before.before.before.before in
-      let tested = c.before.before.before in
-      let e = seen.repeats.ensures in
-      let some = tested.if1.true in (
+      let start = c in
+      let seen = c in
+      let tested = c in
+      let e = seen.repeats-s.ensures in
+      let some = tested.if-s-gt0.true in (
         omega (arith, passed_shorter e some, start.requires.0),
         (passed_places e some start.args.face.now start.requires.1.0, passed_room e some _ _ _ _ start.requires.1.1),
       )
 
-  same_length : lts.Need-same-length claims (at t) reads.Post
+  same_length : lts.Need-shape_of-row-then-s-gt0 claims (at t) reads.Post
   same_length c = search rules
 
-  same-length-2 : lts.Need-same-length-2 claims (at t) reads.Post
+  same-length-2 : lts.Need-shape_of-took-then-s-gt0 claims (at t) reads.Post
   same-length-2 c = search rules
 
-  same-length-3 : lts.Need-same-length-3 claims (at t) reads.Post
+  same-length-3 : lts.Need-shape_of-lens-then-s-gt0 claims (at t) reads.Post
   same-length-3 c = search rules
 
-  returns : lts.Need-returns claims (at t) reads.Post
+  returns : lts.Need-returns-then-s-gt0 claims (at t) reads.Post
   returns c =
-      let rest = c.before.before.before.before.before.before in
-      let seen = c.before.before.before.before.before.before.before.before.before.before.before in
-      let tested = c.before.before.before.before.before.before.before.before.before.before in
-      passed_parted seen.repeats.ensures tested.if1.true rest.split_places.new.1.0 _ _ _ _ _ _ _ _ _ rest.split_places.ensures
-      rest.split_places.auto.1.0 refl
+      let rest = c in
+      let seen = c in
+      let tested = c in
+      passed_parted seen.repeats-s.ensures tested.if-s-gt0.true rest.split_places.new.row _ _ _ _ _ _ _ _ _ rest.split_places.ensures
+      rest.split_places.auto.row refl
 
   -- it does not
 
-  first-at-requires : lts.Need-first-at-requires claims (at t) reads.Post
+  first-at-requires : lts.Need-first_at-i-requires claims (at t) reads.Post
   first-at-requires c κs = search rules
 
-  mate-at-requires : lts.Need-mate-at-requires claims (at t) reads.Post
+  mate-at-requires : lts.Need-mate_at-j-requires claims (at t) reads.Post
   mate-at-requires c κs = search rules
 
   -- what the search has found
-  found : (c : lts.After-mate-at claims (at t) reads.Post)
-      → Found (position_at_lem c.before.before.before.before.before.before.before.before.before.before.before.before.args.face.now)
-      c.before.before.before.before.before.before.before.before.before.before.before.before.args.row.now
-      c.before.before.before.first-at.result c.mate-at.result
+  found : (c : lts.After-mate_at-j claims (at t) reads.Post)
+      → Found (position_at_lem c.args.face.now)
+      c.args.row.now
+      c.first_at-i.result c.mate_at-j.result
   found c =
-      let sought = c.before.before.before in
-      let tested = c.before.before in
-      record { first = sought.first_at.ensures; within = tested.if2.true; second = c.mate-at.ensures }
+      let sought = c in
+      let tested = c in
+      record { first = sought.first_at-i.ensures; within = tested.if-i-n.true; second = c.mate_at-j.ensures }
 
-  sub-m : lts.Need-overflow-sub-m claims (at t) reads.Post
+  sub-m : lts.Need-overflow_sub-m claims (at t) reads.Post
   sub-m c = omega (arith, (cut (found c)).ordered)
 
   rotate-requires : lts.Need-rotate-requires claims (at t) reads.Post
   rotate-requires c κs = (let s = found c.before in omega (arith, (cut s).ordered, (cut s).within))
 
-  slice-relend-prefix-split-places : lts.Need-slice-relend-prefix-split-places claims (at t) reads.Post
+  slice-relend-prefix-split-places : lts.Need-slice_bounds-split_places-end-then-i-n claims (at t) reads.Post
   slice-relend-prefix-split-places c =
-      let turned = c.before.before in
+      let turned = c in
       let s = found turned.before.before in
       omega (arith, (cut s).within, long s turned.rotate.ensures)
 
-  slice-aggregate-split-places : lts.Need-slice-aggregate-split-places claims (at t) reads.Post
+  slice-aggregate-split-places : lts.Need-slice_bounds-split_places-end-then-i-n-2 claims (at t) reads.Post
   slice-aggregate-split-places c =
-      let turned = c.before.before.before in
+      let turned = c in
       let s = found turned.before.before in
       sym (length-take-le _ _ (omega (arith, (cut s).within, long s turned.rotate.ensures)))
 
-  split-places-requires-2 : lts.Need-split-places-requires-2 claims (at t) reads.Post
+  split-places-requires-2 : lts.Need-split_places-mid-requires claims (at t) reads.Post
   split-places-requires-2 c κs =
-      let turned = c.before.before.before.before.before in
+      let turned = c in
       let s = found turned.before.before in
       let e = turned.rotate.ensures in
-      let start = c.before.before.before.before.before.before.before.before.before.before.before.before.before.before.before.before.before.before.before in
+      let start = c in
       (omega (arith, shorter_one s e, start.requires.0), (places_one s e start.args.face.now start.requires.1.0, room_one s e _ _ _ _ start.requires.1.1))
 
-  mul-split-places-2 : lts.Need-overflow-mul-split-places-2 claims (at t) reads.Post
+  mul-split-places-2 : lts.Need-offset_bounds-row-m claims (at t) reads.Post
   mul-split-places-2 c =
       omega (
         arith,
         row_long (found c.before.before.before.before.before.before.before.before.before.before.before.before.before.before)
-            c.before.before.before.before.before.before.before.before.before.before.before.before.rotate.ensures
-            c.before.before.before.before.before.before.split-places2.new.1.0 c.before.before.before.before.before.before.split-places2.auto.1.0,
+            c.rotate.ensures
+            c.split_places-mid.new.row c.split_places-mid.auto.row,
         (cut (found c.before.before.before.before.before.before.before.before.before.before.before.before.before.before)).within,
       )
 
-  sub-split-places-2 : lts.Need-overflow-sub-split-places-2 claims (at t) reads.Post
+  sub-split-places-2 : lts.Need-slice_bounds-split_places-count-then-i-n claims (at t) reads.Post
   sub-split-places-2 c =
-      let one = c.before.before.before.before.before.before in
-      let turned = c.before.before.before.before.before.before.before.before.before.before.before.before in
+      let one = c in
+      let turned = c in
       let s = found turned.before.before in
-      omega (arith, row_long s turned.rotate.ensures one.split-places2.new.1.0 one.split-places2.auto.1.0, (cut s).within)
+      omega (arith, row_long s turned.rotate.ensures one.split_places-mid.new.row one.split_places-mid.auto.row, (cut s).within)
 
-  part-split-places-start-2 : lts.Need-slice-bounds-split-places-start-2 claims (at t) reads.Post
+  part-split-places-start-2 : lts.Need-slice_bounds-split_places-start-then-i-n claims (at t) reads.Post
   part-split-places-start-2 c =
-      let one = c.before.before.before.before.before.before in
-      let turned = c.before.before.before.before.before.before.before.before.before.before.before.before in
+      let one = c in
+      let turned = c in
       let s = found turned.before.before in
-      omega (arith, row_long s turned.rotate.ensures one.split-places2.new.1.0 one.split-places2.auto.1.0, (cut s).within)
+      omega (arith, row_long s turned.rotate.ensures one.split_places-mid.new.row one.split_places-mid.auto.row, (cut s).within)
 
-  part-split-places-end-2 : lts.Need-slice-bounds-split-places-end-2 claims (at t) reads.Post
+  part-split-places-end-2 : lts.Need-slice_bounds-split_places-end-then-i-n-3 claims (at t) reads.Post
   part-split-places-end-2 c = search rules
 
-  split-places-requires-3 : lts.Need-split-places-requires-3 claims (at t) reads.Post
+  split-places-requires-3 : lts.Need-split_places-requires-then-i-n claims (at t) reads.Post
   split-places-requires-3 c κs =
-      let one = c.before.before.before.before.before.before.before.before.before in
-      let turned = c.before.before.before.before.before.before.before.before.before.before.before.before.before.before.before in
-      let start = c.before.before.before.before.before.before.before.before.before.before.before.before.before.before.before.before.before.before.before.before.before.before.before.before.before.before.before.before.before in
+      let one = c in
+      let turned = c in
+      let start = c in
       let s = found turned.before.before in
       let e = turned.rotate.ensures in
-      let y = one.split-places2.new.1.0 in
-      let k = one.split-places2.auto.1.0 in
+      let y = one.split_places-mid.new.row in
+      let k = one.split_places-mid.auto.row in
       let places = places_two s e y k start.args.face.now start.requires.1.0 in
-      let kept = one.split-places2.auto.1.1 in
-      let room = room_two s e y k _ _ _ _ _ _ _ _ one.split-places2.ensures.taken start.requires.1.1 kept.0 kept.1.0 in
+      let kept = one.split_places-mid.auto.took in
+      let room = room_two s e y k _ _ _ _ _ _ _ _ one.split_places-mid.ensures.taken start.requires.1.1 kept.0 kept.1.0 in
       (omega (arith, shorter_two s e y k, start.requires.0), (places, room))
 
-  same-length-4 : lts.Need-same-length-4 claims (at t) reads.Post
+  same-length-4 : lts.Need-shape_of-row-then-i-n claims (at t) reads.Post
   same-length-4 c = search rules
 
-  same-length-5 : lts.Need-same-length-5 claims (at t) reads.Post
+  same-length-5 : lts.Need-shape_of-took-then-i-n claims (at t) reads.Post
   same-length-5 c = search rules
 
-  same-length-6 : lts.Need-same-length-6 claims (at t) reads.Post
+  same-length-6 : lts.Need-shape_of-lens-then-i-n claims (at t) reads.Post
   same-length-6 c = search rules
 
-  returns-2 : lts.Need-returns-2 claims (at t) reads.Post
+  returns-2 : lts.Need-returns-then-i-n claims (at t) reads.Post
   returns-2 c =
-      let two = c.before.before.before.before.before.before in
-      let one = c.before.before.before.before.before.before.before.before.before.before.before.before.before.before.before.before in
-      let turned = c.before.before.before.before.before.before.before.before.before.before.before.before.before.before.before.before.before.before.before.before.before.before in
+      let two = c in
+      let one = c in
+      let turned = c in
       let s = found turned.before.before in
-      let y = one.split-places2.new.1.0 in
-      let first = one.split-places2.ensures in
-      cut_parted s turned.rotate.ensures y one.split-places2.auto.1.0 _ _ _ _ _ _ _ _ first.taken
-      two.split-places3.new.1.0 _ _ _ _ _ first.rings two.split-places3.ensures refl
+      let y = one.split_places-mid.new.row in
+      let first = one.split_places-mid.ensures in
+      cut_parted s turned.rotate.ensures y one.split_places-mid.auto.row _ _ _ _ _ _ _ _ first.taken
+      two.split_places-then-i-n.new.row _ _ _ _ _ first.rings two.split_places-then-i-n.ensures refl
 
-  put-piece-requires : lts.Need-put-piece-requires claims (at t) reads.Post
+  put-piece-requires : lts.Need-put_piece-requires claims (at t) reads.Post
   put-piece-requires c κs =
-      let start = c.before.before.before.before.before.before.before.before.before.before.before.before.before in
-      let sought = c.before.before.before.before in
-      let tested = c.before.before.before in
-      let first = sought.first_at in
-      let whole = not_folded (position_at_lem start.args.face.now) start.args.row.now first.result first.ensures tested.if2.false in
+      let start = c in
+      let sought = c in
+      let tested = c in
+      let first = sought.first_at-i in
+      let whole = not_folded (position_at_lem start.args.face.now) start.args.row.now first.result first.ensures tested.if-i-n.false in
       (start.requires.1.1, whole)
 
-  same-length-7 : lts.Need-same-length-7 claims (at t) reads.Post
+  same-length-7 : lts.Need-shape_of-row claims (at t) reads.Post
   same-length-7 c = search rules
 
-  same-length-8 : lts.Need-same-length-8 claims (at t) reads.Post
+  same-length-8 : lts.Need-shape_of-took claims (at t) reads.Post
   same-length-8 c = search rules
 
-  same-length-9 : lts.Need-same-length-9 claims (at t) reads.Post
+  same-length-9 : lts.Need-shape_of-lens claims (at t) reads.Post
   same-length-9 c = search rules
 
-  returns-3 : lts.Need-returns-3 claims (at t) reads.Post
+  returns-3 : lts.Need-returns claims (at t) reads.Post
   returns-3 c =
-      let start = c.before.before.before.before.before.before.before.before.before.before.before.before.before.before.before.before.before.before in
-      let sought = c.before.before.before.before.before.before.before.before.before in
-      let tested = c.before.before.before.before.before.before.before.before in
-      let put = c.before.before.before.before in
-      let first = sought.first_at in
-      let whole = not_folded (position_at_lem start.args.face.now) start.args.row.now first.result first.ensures tested.if2.false in
-      whole_parted _ _ _ _ _ _ _ _ _ _ whole put.put-piece.ensures
+      let start = c in
+      let sought = c in
+      let tested = c in
+      let put = c in
+      let first = sought.first_at-i in
+      let whole = not_folded (position_at_lem start.args.face.now) start.args.row.now first.result first.ensures tested.if-i-n.false in
+      whole_parted _ _ _ _ _ _ _ _ _ _ whole put.put_piece.ensures
 
-pub +split-places-spec : {M : Type 1} → statement M
-+split-places-spec =
+pub +split_places_spec : {M : Type 1} → statement M
++split_places_spec =
     close μ λ t. lts.spec (claims t) (at t) reads.Post
     (repeats-requires t)
     (mul-split-places t)

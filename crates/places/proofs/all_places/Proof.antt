@@ -8,41 +8,41 @@ use Rattle.places.proofs.Filling.{Numbering, number_turns, number_ends}
 use Rattle.places.proofs.all_places.Statement.{statement}
 use Rattle.places.proofs.all_places.Tie as tie
 
-abbrev invariant-loop : tie.invariant-loop
+abbrev invariant-loop : tie.invariant-loop-k
 invariant-loop row₀ k₀ row k = Numbering row₀ row k
 
-abbrev decreases-loop : tie.decreases-loop
+abbrev decreases-loop : tie.decreases-loop-k
 decreases-loop row₀ k₀ row k = length row₀ - k
 
-loop-holds : tie.Need-loop-init invariant-loop decreases-loop
+loop-holds : tie.Need-loop-k-init invariant-loop decreases-loop
 loop-holds c = copy_begins 0 _ _ _
 
-cast-row : tie.Need-overflow-cast-row invariant-loop decreases-loop
-cast-row c = omega (arith, c.before.loop.invariant.long)
+cast-row : tie.Need-overflow_cast-row invariant-loop decreases-loop
+cast-row c = omega (arith, c.loop-k.invariant.long)
 
-mul-row : tie.Need-overflow-mul-row invariant-loop decreases-loop
+mul-row : tie.Need-offset_bounds-row-k invariant-loop decreases-loop
 mul-row c = search rules
 
-slice-write-row : tie.Need-slice-write-row invariant-loop decreases-loop
-slice-write-row c = omega (arith, c.before.loop.invariant.long)
+slice-write-row : tie.Need-bounds-row-k invariant-loop decreases-loop
+slice-write-row c = omega (arith, c.loop-k.invariant.long)
 
-add-k : tie.Need-overflow-add-k invariant-loop decreases-loop
-add-k c = omega (arith, c.before.loop.invariant.long)
+add-k : tie.Need-overflow_add-k invariant-loop decreases-loop
+add-k c = omega (arith, c.loop-k.invariant.long)
 
-loop-less : tie.Need-loop-smaller invariant-loop decreases-loop
-loop-less c = omega (arith, c.before.loop.invariant.long)
+loop-less : tie.Need-loop-k-smaller invariant-loop decreases-loop
+loop-less c = omega (arith, c.loop-k.invariant.long)
 
-loop-again : tie.Need-loop-preserved invariant-loop decreases-loop
-loop-again c = number_turns _ _ _ (omega (arith, c.before.loop.invariant.long)) c.before.loop.invariant
+loop-again : tie.Need-loop-k-preserved invariant-loop decreases-loop
+loop-again c = number_turns _ _ _ (omega (arith, c.loop-k.invariant.long)) c.loop-k.invariant
 
-same_length : tie.Need-same-length invariant-loop decreases-loop
+same_length : tie.Need-shape_of-row invariant-loop decreases-loop
 same_length c = search rules
 
 returns : tie.Need-returns invariant-loop decreases-loop
-returns c = number_ends _ _ _ (omega (arith, c.before.loop.invariant.long)) c.before.loop.invariant
+returns c = number_ends _ _ _ (omega (arith, c.loop-k.invariant.long)) c.loop-k.invariant
 
-pub all-places-spec : {M : Type 1} → statement M
-all-places-spec =
+pub all_places_spec : {M : Type 1} → statement M
+all_places_spec =
     tie.close
     (tie.spec
     invariant-loop

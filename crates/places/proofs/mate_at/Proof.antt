@@ -10,66 +10,66 @@ use Rattle.places.proofs.Seeking.{same, mate_sought, place_at, keys_equal, keys_
 use Rattle.places.proofs.mate_at.Statement.{statement}
 use Rattle.places.proofs.mate_at.Tie as tie
 
-abbrev invariant-loop : tie.invariant-loop
+abbrev invariant-loop : tie.invariant-loop-j
 invariant-loop face row i p j₀ j = Seeking (same (position_at_lem face) row i) (i + 1) (length row) j
 
-abbrev decreases-loop : tie.decreases-loop
+abbrev decreases-loop : tie.decreases-loop-j
 decreases-loop face row i p j₀ j = length row - j
 
-mul-position-at : tie.Need-overflow-mul-position-at invariant-loop decreases-loop
+mul-position-at : tie.Need-offset_bounds-row-i invariant-loop decreases-loop
 mul-position-at c = search rules
 
-shared-slice-read-position-at : tie.Need-shared-slice-read-position-at invariant-loop decreases-loop
+shared-slice-read-position-at : tie.Need-bounds-row-i invariant-loop decreases-loop
 shared-slice-read-position-at c = search rules
 
-position-at-requires : tie.Need-position-at-requires invariant-loop decreases-loop
+position-at-requires : tie.Need-position_at-p-requires invariant-loop decreases-loop
 position-at-requires c κs =
-    let start = c.before.before.before in
+    let start = c in
     place_at start.args.face.now start.args.row.now start.args.i start.requires.1 (omega arith)
 
-add-j : tie.Need-overflow-add-j invariant-loop decreases-loop
+add-j : tie.Need-overflow_add-j invariant-loop decreases-loop
 add-j c = search rules
 
-loop-holds : tie.Need-loop-init invariant-loop decreases-loop
+loop-holds : tie.Need-loop-j-init invariant-loop decreases-loop
 loop-holds c = seek_begins _ _ _ (omega arith)
 
-mul-position-at-2 : tie.Need-overflow-mul-position-at-2 invariant-loop decreases-loop
+mul-position-at-2 : tie.Need-offset_bounds-row-j invariant-loop decreases-loop
 mul-position-at-2 c = search rules
 
-shared-slice-read-position-at-2 : tie.Need-shared-slice-read-position-at-2 invariant-loop decreases-loop
+shared-slice-read-position-at-2 : tie.Need-bounds-row-j invariant-loop decreases-loop
 shared-slice-read-position-at-2 c = search rules
 
-position-at-requires-2 : tie.Need-position-at-requires-2 invariant-loop decreases-loop
+position-at-requires-2 : tie.Need-position_at-requires invariant-loop decreases-loop
 position-at-requires-2 c κs =
-    let start = c.before.before.before.before.before.before.before in
-    place_at start.args.face.now start.args.row.now c.before.before.loop.j start.requires.1 (omega arith)
+    let start = c in
+    place_at start.args.face.now start.args.row.now c.loop-j.j start.requires.1 (omega arith)
 
-returns : tie.Need-returns invariant-loop decreases-loop
+returns : tie.Need-returns-then-p-position_at invariant-loop decreases-loop
 returns c =
-    let start = c.before.before.before.before.before.before.before.before.before in
-    let same = keys_equal _ _ _ _ c.before.before.before.before.before.position_at.ensures c.before.position-at2.ensures c.if1.true in
-    seek_finds _ _ _ _ (omega arith) same c.before.before.before.before.loop.invariant
+    let start = c in
+    let same = keys_equal _ _ _ _ c.position_at-p.ensures c.position_at.ensures c.if-p-position_at.true in
+    seek_finds _ _ _ _ (omega arith) same c.loop-j.invariant
     ∙ mate_sought (position_at_lem start.args.face.now) start.args.row.now start.args.i (omega arith)
 
-add-j-2 : tie.Need-overflow-add-j-2 invariant-loop decreases-loop
+add-j-2 : tie.Need-overflow_add-j-in-loop-j invariant-loop decreases-loop
 add-j-2 c = search rules
 
-loop-less : tie.Need-loop-smaller invariant-loop decreases-loop
+loop-less : tie.Need-loop-j-smaller invariant-loop decreases-loop
 loop-less c = search rules
 
-loop-again : tie.Need-loop-preserved invariant-loop decreases-loop
+loop-again : tie.Need-loop-j-preserved invariant-loop decreases-loop
 loop-again c =
-    let other = keys_unequal _ _ _ _ c.before.before.before.before.before.position_at.ensures c.before.position-at2.ensures c.if1.false in
-    seek_turns _ _ _ _ (omega arith) other c.before.before.before.before.loop.invariant
+    let other = keys_unequal _ _ _ _ c.position_at-p.ensures c.position_at.ensures c.if-p-position_at.false in
+    seek_turns _ _ _ _ (omega arith) other c.loop-j.invariant
 
-returns-2 : tie.Need-returns-2 invariant-loop decreases-loop
+returns-2 : tie.Need-returns invariant-loop decreases-loop
 returns-2 c =
-    let start = c.before.before.before.before.before.before in
-    seek_ends _ _ _ _ (omega arith) c.before.loop.invariant
+    let start = c in
+    seek_ends _ _ _ _ (omega arith) c.loop-j.invariant
     ∙ mate_sought (position_at_lem start.args.face.now) start.args.row.now start.args.i (omega arith)
 
-pub mate-at-spec : {M : Type 1} → statement M
-mate-at-spec =
+pub mate_at_spec : {M : Type 1} → statement M
+mate_at_spec =
     tie.close
     (tie.spec
     invariant-loop

@@ -10,34 +10,34 @@ use borrow.Author.Rules.{rules}
 use Rattle.places.proofs.split_ring.Statement.{statement}
 use Rattle.places.proofs.split_ring.Tie as tie
 
-all-places-requires : tie.Need-all-places-requires
+all-places-requires : tie.Need-all_places-requires
 all-places-requires c κs = search rules
 
-split-places-requires : tie.Need-split-places-requires
+split-places-requires : tie.Need-split_places-requires
 split-places-requires c κs =
-    let start = c.before.before.before.before.before.before.before.before.before.before.before in
+    let start = c in
     let face = start.args.face.now in
-    let row = c.before.before.before.before.before.all-places in
+    let row = c.all_places in
     let known = ap (every (is_place face)) row.ensures ∙ places_span face (length start.args.row.now) start.requires.0 in
-    (known, room_of _ _ _ _ _ _ row.auto.0 start.requires.1)
+    (known, room_of _ _ _ _ _ _ row.auto.row start.requires.1)
 
-same_length : tie.Need-same-length
+same_length : tie.Need-shape_of-row
 same_length c = search rules
 
-same-length-2 : tie.Need-same-length-2
+same-length-2 : tie.Need-shape_of-took
 same-length-2 c = search rules
 
-same-length-3 : tie.Need-same-length-3
+same-length-3 : tie.Need-shape_of-lens
 same-length-3 c = search rules
 
 returns : tie.Need-returns
 returns c =
-    let start = c.before.before.before.before.before.before.before.before.before.before.before.before.before.before.before.before.before.before in
-    let row = c.before.before.before.before.before.before.before.before.before.before.before.before.all-places in
-    parted_of (position_at_lem start.args.face.now) _ _ _ _ _ _ _ _ _ _ _ row.ensures c.before.before.before.before.before.before.split-places.ensures
+    let start = c in
+    let row = c.all_places in
+    parted_of (position_at_lem start.args.face.now) _ _ _ _ _ _ _ _ _ _ _ row.ensures c.split_places.ensures
 
-pub split-ring-spec : {M : Type 1} → statement M
-split-ring-spec =
+pub split_ring_spec : {M : Type 1} → statement M
+split_ring_spec =
     tie.close
     (tie.spec
     all-places-requires

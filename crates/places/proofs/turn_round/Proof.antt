@@ -8,74 +8,74 @@ use Rattle.places.proofs.Turning.{Turning, turn_begins, turn_turns, turn_ends}
 use Rattle.places.proofs.turn_round.Statement.{statement}
 use Rattle.places.proofs.turn_round.Tie as tie
 
-abbrev invariant-loop : tie.invariant-loop
+abbrev invariant-loop : tie.invariant-loop-k
 invariant-loop row₀ n k₀ row k = Turning row₀ row k
 
-abbrev decreases-loop : tie.decreases-loop
+abbrev decreases-loop : tie.decreases-loop-k
 decreases-loop row₀ n k₀ row k = n - k
 
-loop-holds : tie.Need-loop-init invariant-loop decreases-loop
+loop-holds : tie.Need-loop-k-init invariant-loop decreases-loop
 loop-holds c = turn_begins _
 
-add-loop : tie.Need-overflow-add-loop invariant-loop decreases-loop
+add-loop : tie.Need-overflow_add-k invariant-loop decreases-loop
 add-loop c = search rules
 
-add-loop-2 : tie.Need-overflow-add-loop-2 invariant-loop decreases-loop
+add-loop-2 : tie.Need-overflow_add-k-in-loop-k invariant-loop decreases-loop
 add-loop-2 c = search rules
 
-mul-a : tie.Need-overflow-mul-a invariant-loop decreases-loop
+mul-a : tie.Need-offset_bounds-row-k invariant-loop decreases-loop
 mul-a c = search rules
 
-slice-read-a : tie.Need-slice-read-a invariant-loop decreases-loop
+slice-read-a : tie.Need-bounds-row-k invariant-loop decreases-loop
 slice-read-a c = search rules
 
-sub_row : tie.Need-overflow-sub-row invariant-loop decreases-loop
+sub_row : tie.Need-overflow_sub-row invariant-loop decreases-loop
 sub_row c = search rules
 
-sub-row-2 : tie.Need-overflow-sub-row-2 invariant-loop decreases-loop
+sub-row-2 : tie.Need-overflow_sub-row-in-loop-k invariant-loop decreases-loop
 sub-row-2 c = search rules
 
-mul-row : tie.Need-overflow-mul-row invariant-loop decreases-loop
+mul-row : tie.Need-offset_bounds-row-n invariant-loop decreases-loop
 mul-row c = search rules
 
-slice-read-row : tie.Need-slice-read-row invariant-loop decreases-loop
+slice-read-row : tie.Need-bounds-row-n invariant-loop decreases-loop
 slice-read-row c = search rules
 
-mul-row-2 : tie.Need-overflow-mul-row-2 invariant-loop decreases-loop
+mul-row-2 : tie.Need-offset_bounds-row-k-in-loop-k invariant-loop decreases-loop
 mul-row-2 c = search rules
 
-slice-write-row : tie.Need-slice-write-row invariant-loop decreases-loop
+slice-write-row : tie.Need-bounds-row-k-in-loop-k invariant-loop decreases-loop
 slice-write-row c = search rules
 
-sub-row-3 : tie.Need-overflow-sub-row-3 invariant-loop decreases-loop
+sub-row-3 : tie.Need-overflow_sub-row-in-loop-k-2 invariant-loop decreases-loop
 sub-row-3 c = search rules
 
-sub-row-4 : tie.Need-overflow-sub-row-4 invariant-loop decreases-loop
+sub-row-4 : tie.Need-overflow_sub-row-in-loop-k-3 invariant-loop decreases-loop
 sub-row-4 c = search rules
 
-mul-row-3 : tie.Need-overflow-mul-row-3 invariant-loop decreases-loop
+mul-row-3 : tie.Need-offset_bounds-row-n-in-loop-k invariant-loop decreases-loop
 mul-row-3 c = search rules
 
-slice-write-row-2 : tie.Need-slice-write-row-2 invariant-loop decreases-loop
-slice-write-row-2 c = lt-length-set c.before.before.before.loop.row _ _ (omega (arith, c.before.before.before.loop.invariant.long))
+slice-write-row-2 : tie.Need-bounds-row-n-in-loop-k invariant-loop decreases-loop
+slice-write-row-2 c = lt-length-set c.loop-k.row _ _ (omega (arith, c.loop-k.invariant.long))
 
-add-k : tie.Need-overflow-add-k invariant-loop decreases-loop
+add-k : tie.Need-overflow_add-k-in-loop-k-2 invariant-loop decreases-loop
 add-k c = search rules
 
-loop-less : tie.Need-loop-smaller invariant-loop decreases-loop
+loop-less : tie.Need-loop-k-smaller invariant-loop decreases-loop
 loop-less c = search rules
 
-loop-again : tie.Need-loop-preserved invariant-loop decreases-loop
-loop-again c = turn_turns _ _ _ _ refl c.before.before.loop-test.true c.before.before.before.loop.invariant
+loop-again : tie.Need-loop-k-preserved invariant-loop decreases-loop
+loop-again c = turn_turns _ _ _ _ refl c.loop-k-test.true c.loop-k.invariant
 
-same_length : tie.Need-same-length invariant-loop decreases-loop
+same_length : tie.Need-shape_of-row invariant-loop decreases-loop
 same_length c = search rules
 
 returns : tie.Need-returns invariant-loop decreases-loop
-returns c = turn_ends _ _ _ _ refl (omega arith) c.before.loop.invariant
+returns c = turn_ends _ _ _ _ refl (omega arith) c.loop-k.invariant
 
-pub turn-round-spec : {M : Type 1} → statement M
-turn-round-spec =
+pub turn_round_spec : {M : Type 1} → statement M
+turn_round_spec =
     tie.close
     (tie.spec
     invariant-loop
