@@ -1,11 +1,10 @@
 -- Reading undoes writing, in the middle of other bytes; and writing undoes reading where every byte is below 256. Assumes nothing.
 use mathlib.Core.Path.{◌≡◌, refl, sym, ap, ap₂, ◌∙◌}
 use mathlib.Core.List.{List, [], ◌∷◌, ◌++◌, append_assoc}
-use Prim.Native.Nat.{ℕ, zero, suc, ◌+◌, ◌*◌, ◌/◌, ◌%◌, ◌≤◌, ◌<◌}
-use native.Mathlib.Nat.{add-zero, mod-eq_of_lt}
-use native.Mathlib.Numerals.{add-one}
+use Prim.Native.Nat.{ℕ, suc, ◌+◌, ◌*◌, ◌/◌, ◌%◌, ◌<◌}
+use native.Mathlib.Nat.{add-zero}
 use native.Mathlib.Omega.{arith}
-use lib.ListN.{length, get_or, take, drop, length-append}
+use lib.ListN.{length, get_or, drop}
 use lib.Seq.{drop_at, drop-cons, drop-drop, get_or-drop}
 use Rattle.little.specs.Little.{half_values, word_values, long_values, byte, half, word, long, half_bytes, word_bytes, long_bytes}
 use Rattle.little.specs.Promises.{WrittenThenRead, ReadThenWritten, ReadingUndoesWriting, WritingUndoesReading}
