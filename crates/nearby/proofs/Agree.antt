@@ -1,8 +1,8 @@
 -- The engine's cells and tests are the rules' own: cells as places, `beside_at` as `compared_at`, `near_by` as `near_at`. Assumes nothing.
-use mathlib.Core.Path.{◌≡◌, refl, sym, ap, ◌∙◌, subst}
-use mathlib.Core.Bool.{Bool, true, false, ◌&&◌}
+use mathlib.Core.Path.{◌≡◌, refl, sym, ◌∙◌, subst}
+use mathlib.Core.Bool.{false, ◌&&◌}
 use mathlib.Core.List.{List, [], ◌∷◌, map}
-use Prim.Native.Nat.{ℕ, zero, suc, ◌+◌, ◌*◌, ◌^◌, ◌≤◌, ◌<◌}
+use Prim.Native.Nat.{ℕ, zero, suc, ◌+◌, ◌^◌, ◌≤◌, ◌<◌}
 use native.Mathlib.Omega.{arith}
 use lib.IntN.{ℤ, pos, negsuc, nat_abs}
 use lib.ListN.{length, get_or, set, length-map, get_or-map}
@@ -13,7 +13,7 @@ use Rattle.lists.proofs.Parts.{some_false_at}
 use Rattle.lists.proofs.Writing.{Copying, copy_turns, copy_ends}
 use Rattle.floating.specs.Limits.{far, quotient, distant}
 use Rattle.floating.specs.Points.{row}
-use Rattle.floating.specs.Cells.{cell, cut, place, besides, compared}
+use Rattle.floating.specs.Cells.{cell, cut, place}
 use Rattle.floating.specs.Near.{below, near}
 use Rattle.floating.proofs.Places.{cut_small, compared_is}
 use Rattle.floating.proofs.Rows.{row_map, some_row}

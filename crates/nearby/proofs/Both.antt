@@ -13,7 +13,6 @@ use borrow.Author.Tests.{ltb-true, ltb-false}
 use Rattle.floating.specs.Points.{row}
 use Rattle.floating.specs.Cells.{cell, within, compared}
 use Rattle.floating.specs.Near.{square, sum_from, squared, below, near}
-use Rattle.nearby.specs.Pairs.{near_at}
 use Rattle.nearby.specs.Promises.{NearBothWays}
 
 -- ---- cells

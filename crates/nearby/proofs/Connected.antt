@@ -2,15 +2,14 @@
 -- point stands in exactly one group, once; two points stand in one group exactly where a chain of near points leads from the one to the
 -- other; and each group begins with its lowest index. Assumes nothing.
 use mathlib.Core.Path.{◌≡◌, refl, sym, ap, ◌∙◌, subst}
-use mathlib.Core.Bool.{Bool, true, false, ◌&&◌}
+use mathlib.Core.Bool.{Bool, true, false}
 use mathlib.Core.List.{List, [], ◌∷◌, ◌++◌}
 use Prim.Native.Nat.{ℕ, zero, suc, ◌/◌, ◌≤◌, ◌<◌}
 use native.Mathlib.Omega.{arith}
-use lib.Dec.{eqb, ltb}
+use lib.Dec.{ltb}
 use lib.ListN.{length}
-use lib.Ieee.{Float}
-use borrow.Author.Tests.{eqb-true, eqb-false, lt-ltb, ltb-true, ltb-false}
-use Rattle.lists.specs.Lists.{every, has, joined, count, together}
+use borrow.Author.Tests.{lt-ltb, ltb-true, ltb-false}
+use Rattle.lists.specs.Lists.{every, has, joined}
 use Rattle.lists.proofs.Bools.{by_cases, and_both}
 use Rattle.lists.proofs.Counting.{clash}
 use Rattle.lists.proofs.Parts.{every_append}
@@ -20,7 +19,6 @@ use Rattle.nearby.specs.Pairs.{near_at}
 use Rattle.nearby.specs.Walk.{unless_has, group_from, groups_below, groups}
 use Rattle.nearby.specs.Promises.{Near, lowest_first, ConnectedSets, GroupsConnected}
 use Rattle.nearby.proofs.Both.{near_both}
-use Rattle.lists.proofs.Chains.{Reach}
 use Rattle.lists.proofs.Classes.{Ended, Parted, parted_none, parted_same, parted_more, together_reach, reach_together}
 use Rattle.nearby.proofs.Reaching.{group_first, group_ended}
 

@@ -2,13 +2,11 @@
 use mathlib.Core.Path.{◌≡◌, refl, sym, ap, ◌∙◌}
 use mathlib.Core.Bool.{Bool, true, false, ◌||◌}
 use mathlib.Core.List.{List, [], ◌∷◌, ◌++◌}
-use Prim.Native.Nat.{ℕ, zero, suc, ◌+◌, ◌*◌, ◌-◌, ◌≤◌, ◌<◌}
-use native.Mathlib.Omega.{arith}
+use Prim.Native.Nat.{ℕ, zero, suc}
 use lib.Dec.{eqb}
-use lib.ListN.{length, length-append}
 use borrow.Author.Tests.{eqb-true}
-use Rattle.lists.specs.Lists.{some, has}
-use Rattle.lists.proofs.Bools.{by_cases, true_false, or_false_left, or_neither, or_left}
+use Rattle.lists.specs.Lists.{has}
+use Rattle.lists.proofs.Bools.{by_cases, true_false, or_false_left, or_neither}
 use Rattle.lists.proofs.Parts.{some_append}
 use Rattle.nearby.specs.Walk.{descending, Walk, at, unless_old, popped, walk, often, group_from}
 

@@ -10,13 +10,13 @@ use native.Mathlib.Omega.{arith}
 use lib.Dec.{eqb}
 use lib.ListN.{length, length-append}
 use borrow.Author.Tests.{eqb-true, eqb-false, eq-eqb}
-use Rattle.lists.specs.Lists.{keep_if, some, has}
+use Rattle.lists.specs.Lists.{keep_if, has}
 use Rattle.lists.proofs.Bools.{by_cases, and_both, or_left, or_right, or_false_left, or_false_right}
 use Rattle.lists.proofs.Cases.{and_parts}
 use Rattle.lists.proofs.Counting.{clash, or_either}
 use Rattle.lists.proofs.Parts.{some_append}
 use Rattle.lists.proofs.Members.{In, in_cases, in_left, in_right, in_append, in_one, in_snoc, in_last, has_keep, Once, once_one, once_snoc, free, free_snoc}
-use Rattle.nearby.specs.Walk.{descending, Walk, at, walk, often, group_from}
+use Rattle.nearby.specs.Walk.{descending, Walk, at, walk, group_from}
 use Rattle.nearby.specs.Promises.{Near}
 use Rattle.nearby.proofs.Counting.{count_le}
 use Rattle.nearby.proofs.Turns.{turn_old, turn_new, walk_ends}

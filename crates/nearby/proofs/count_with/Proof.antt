@@ -1,11 +1,11 @@
 -- `nearby::count_with` meets its contract, by the laws of `Counting`. Assumes nothing.
 use mathlib.Core.Path.{sym, ◌∙◌, subst}
-use mathlib.Core.Logic.{⊎_elim}
 use Prim.Native.Nat.{ℕ, ◌-◌, ◌+◌}
 use native.Mathlib.Omega.{arith}
 use borrow.Author.Rules.{rules}
 use Rattle.nearby.specs.Engine.{beside_at}
 use Rattle.nearby.proofs.Counting.{Counted, counted_none, counted_one, counted_not, counted_all}
+use Rattle.nearby.proofs.count_with.Lts.{then-is_beside_at, else-is_beside_at}
 use Rattle.nearby.proofs.count_with.Statement.{statement}
 use Rattle.nearby.proofs.count_with.Tie as tie
 
@@ -37,12 +37,12 @@ loop-again c =
     let test = c.loop-i-test in
     let is-beside-at = c.is_beside_at in
     let if1 = c.if-is_beside_at in
-    ⊎_elim
-    (λ v. subst (λ (f : ℕ). Counted (λ k. beside_at args.w args.cells.now k args.j) args.j f (loop.i + 1)) (sym v.1) (counted_one _ _ _ _
-    test.true (sym is-beside-at.ensures ∙ v.0.taken) loop.invariant))
-    (λ v. subst (λ (f : ℕ). Counted (λ k. beside_at args.w args.cells.now k args.j) args.j f (loop.i + 1)) (sym v.1) (counted_not _ _ _ _
-    test.true (sym is-beside-at.ensures ∙ v.0.left) loop.invariant))
-    if1.branch
+    elim if1.branch [
+      | then-is_beside_at v ↦ subst (λ (f : ℕ). Counted (λ k. beside_at args.w args.cells.now k args.j) args.j f (loop.i + 1)) (sym v.found-is) (counted_one _ _ _ _
+          test.true (sym is-beside-at.ensures ∙ v.if-is_beside_at.true) loop.invariant)
+      | else-is_beside_at v ↦ subst (λ (f : ℕ). Counted (λ k. beside_at args.w args.cells.now k args.j) args.j f (loop.i + 1)) (sym v.found-is) (counted_not _ _ _ _
+          test.true (sym is-beside-at.ensures ∙ v.if-is_beside_at.false) loop.invariant)
+    ]
 
 returns : tie.Need-returns invariant-loop decreases-loop
 returns c = (counted_all _ _ _ _ c.loop-i-test.false c.loop-i.invariant, omega (arith, c.loop-i.invariant.few, c.loop-i.invariant.within))

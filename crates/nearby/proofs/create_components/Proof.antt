@@ -100,10 +100,10 @@ loop-again-2 c =
     let test = c.loop-k-test in
     let if1 = c.if-seen-k in
     let create-component = c.create_component-taken in
-    let kept = create-component.auto.order in
+    let kept = create-component.auto in
     gather_new loop.invariant test.true if1.false
     (omega (arith, found_in loop.invariant test.true if1.false, pre.1.ends_room, loop.invariant.ends_long))
-    create-component.ensures kept.0 kept.1.0 kept.1.1.0 kept.1.1.1.0
+    create-component.ensures kept.order kept.seen kept.node kept.left
 
 same_length : tie.Need-shape_of-order invariant-loop decreases-loop
 same_length c = c.loop-k.invariant.order_long
