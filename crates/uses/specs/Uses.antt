@@ -1,6 +1,6 @@
 -- The uses of edges, and no rules of document 01: the uses of all edges as three columns, and their order by edge. What an edge is
 -- stands in mesh/specs/Edges.antt. Assumes nothing.
-use Rattle.std.specs.Prelude.{◌≡◌, Bool, false, cond, List, [], ◌∷◌, map, ℕ, ◌+◌, ◌/◌, ◌≤◌, ◌<◌, length, get_or, leb, ltb}
+use Rattle.std.specs.Prelude.{◌≡◌, Bool, false, cond, List, [], ◌∷◌, map, ℕ, ◌/◌, ◌≤◌, ◌<◌, length, get_or, leb}
 use Rattle.std.proofs.lemmas.List.Edits.{sets}
 use Rattle.lists.specs.Lists.{span}
 use Rattle.mesh.specs.Limits.{width, corner_limit}
