@@ -13,7 +13,7 @@ use Rattle.verdicts.specs.Edges.{Edge, same, key, uses, runs, thrice, alike, onc
 use Rattle.verdicts.specs.Promises.{ClosedWithoutHems}
 use Rattle.verdicts.proofs.SameEdge.{same_true, same_refl, found}
 use Rattle.verdicts.proofs.HemUses.{below_three, not_irregular, not_regular, hem_runs}
-use Rattle.verdicts.proofs.OnlyHems.{is_hem, hems_member}
+use Rattle.verdicts.proofs.OnlyHems.{hems_member}
 use Rattle.verdicts.proofs.OfHems.{hems_used}
 
 -- below three and odd is one

@@ -78,5 +78,5 @@ module _ {B : Type 0} (f : Edge → List B) where
           let out : within x (y ∷ t) ≡ false = (let l : Before x y = above_member x y s a.0 i in above_not x (y ∷ t) (l, above_above x y t l b.0)) in
           rw (h x (head_in x s) out)
           (one
-          (λ z p. behind z x s (by_cases (same z x) (λ q. clash p (rw (same_true z x q) out)) (λ q. q)) (m z p))
+          (λ z p. behind z x s (by_cases (same z x) (λ q. clash p (subst (λ (w : Edge). within w (y ∷ t) ≡ false) (sym (same_true z x q)) out)) (λ q. q)) (m z p))
           (λ z p r. h z (tail_in z x s p) r))

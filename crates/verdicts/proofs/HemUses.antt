@@ -7,11 +7,11 @@ use Prim.Native.Nat.{ℕ, zero, suc, ◌+◌, ◌≤◌, ◌<◌}
 use native.Mathlib.Omega.{arith}
 use lib.Dec.{leb, eqb}
 use borrow.Author.Tests.{leb-true, leb-false, le-leb}
-use Rattle.lists.specs.Lists.{bump, count, keep_if, only, some}
+use Rattle.lists.specs.Lists.{bump, keep_if, only, some}
 use Rattle.lists.proofs.Bools.{by_cases, or_left, or_right}
 use Rattle.lists.proofs.Only.{some_only}
 use Rattle.lists.proofs.Counting.{clash, or_either, pos, some_count, count_some, count_none, count_less, some_less}
-use Rattle.verdicts.specs.Edges.{Edge, same, flip, key, uses, runs, thrice, alike, once, verdict, Verdict, Irregular, Regular, keys, odd, last_or, hem_keys, hems}
+use Rattle.verdicts.specs.Edges.{Edge, same, flip, key, uses, runs, thrice, alike, verdict, Irregular, Regular, keys, odd, last_or, hem_keys, hems}
 use Rattle.verdicts.proofs.SameEdge.{same_true, same_refl, same_of, found}
 use Rattle.verdicts.proofs.Ascending.{Asc, asc_once, only_asc, keys_asc, keys_member}
 

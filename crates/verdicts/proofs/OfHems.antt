@@ -3,15 +3,15 @@
 -- Assumes nothing.
 use mathlib.Core.Path.{◌≡◌, refl, sym, ap, ◌∙◌, subst}
 use mathlib.Core.Logic.{◌⊎◌, inl, inr, ⊎_elim}
-use mathlib.Core.Bool.{Bool, true, false, cond, ◌&&◌, ◌||◌}
+use mathlib.Core.Bool.{Bool, true, false, cond, ◌||◌}
 use mathlib.Core.List.{List, [], ◌∷◌, map}
 use Prim.Native.Nat.{ℕ, suc, ◌/◌, ◌≤◌, ◌<◌}
 use native.Mathlib.Omega.{arith}
 use lib.ListN.{length, get_or, length-map, get_or-map}
 use lib.Dec.{ltb}
 use borrow.Author.Tests.{ltb-true}
-use Rattle.lists.specs.Lists.{only, some, every, count}
-use Rattle.lists.proofs.Bools.{by_cases, and_both, and_left, and_right, or_left, or_right, or_false_left, or_false_right}
+use Rattle.lists.specs.Lists.{some, every, count}
+use Rattle.lists.proofs.Bools.{by_cases, and_both, and_left, and_right, or_left, or_right}
 use Rattle.lists.proofs.Buckets.{length_only}
 use Rattle.lists.proofs.Counting.{clash, or_either, count_length, count_none}
 use Rattle.lists.proofs.Parts.{every_at}

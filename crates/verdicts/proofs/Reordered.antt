@@ -9,7 +9,7 @@ use lib.Dec.{leb, eqb}
 use Rattle.lists.specs.Lists.{only, some}
 use Rattle.lists.proofs.Counting.{clash, pos, some_count}
 use Rattle.lists.proofs.Alike.{Alike, some_alike, map_only}
-use Rattle.verdicts.specs.Edges.{Edge, same, key, uses, runs, thrice, once, verdict, keys, odd, last_or, hem_keys, hems}
+use Rattle.verdicts.specs.Edges.{Edge, same, key, uses, runs, thrice, verdict, keys, odd, last_or, hem_keys, hems}
 use Rattle.verdicts.proofs.Ascending.{keys_alike}
 use Rattle.verdicts.proofs.SameEdge.{found}
 use Rattle.verdicts.proofs.HemUses.{below_three, last_once, hems_keys}

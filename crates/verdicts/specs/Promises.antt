@@ -1,5 +1,5 @@
 -- What the rules of verdict and hem edges come to, for whoever reads a sheet. Proved in proofs/. Assumes nothing.
-use Rattle.std.specs.Prelude.{◌≡◌, true, List, [], ℕ, ◌/◌, ◌≤◌, length}
+use Rattle.std.specs.Prelude.{◌≡◌, true, List, [], ◌/◌, ◌≤◌, length}
 use Rattle.lists.specs.Lists.{some}
 use Rattle.mesh.specs.Limits.{width}
 use Rattle.mesh.specs.Mesh.{Mesh}
