@@ -5,8 +5,13 @@
 // patterns, to an infinity, of either sign, and to the greatest finite number, of either sign. Every copy ends in a number.
 #![tactic(auto)]
 
+use std::{env, fs};
+
 mod coordinates;
 mod copies;
+
+// How many bytes of a file are damaged at most.
+const MOST: usize = 4096;
 
 // How many numbers the table has, 0 among them.
 const NUMBERS: usize = 20;
@@ -24,35 +29,26 @@ const GREATEST: u64 = 0x7fef_ffff_ffff_ffff;
 
 const LEAST: u64 = 0xffef_ffff_ffff_ffff;
 
-fn main() {
-    let count = os::arg_count();
-    let mut i: usize = 1;
-    while i < count {
-        one_file(i);
-        i += 1;
+fn main(rt: HostRuntime) -> std::io::Result<()> {
+    for name in env::args(&rt)?.skip(1) {
+        one_file(&rt, name.as_str())?;
     }
+    Ok(())
 }
 
-// The file that argument i names.
-fn one_file(i: usize) {
-    let mut name = io::buffer();
-    let n = os::arg(i, &mut name);
-    let fd = os::open_read(&name[..n]);
-    if fd < 0 {
-        os::fail(&name[..n]);
-        return;
-    }
+// The file of this name.
+fn one_file(rt: &HostRuntime, name: &str) -> std::io::Result<()> {
+    let mut file = fs::read(rt, name)?;
     copies::print(b"== ");
-    copies::print(&name[..n]);
+    copies::print(name.as_bytes());
     copies::print(b"\n");
-    damage(fd);
-    libc::close(fd);
+    damage(&mut file);
+    Ok(())
 }
 
-// The copies of an open file.
-fn damage(fd: i32) {
-    let mut file = [0u8; 4096];
-    let n = io::read_full(fd, &mut file[..]);
+// The copies of a file: of its first bytes, where it is a long one.
+fn damage(file: &mut [u8]) {
+    let n = if file.len() < MOST { file.len() } else { MOST };
     count_all(&mut file[..n]);
 }
 

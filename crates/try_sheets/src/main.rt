@@ -3,41 +3,41 @@
 // The files stand in data/, and args names every one of them. tools/make_panels makes them again and says what each one is for.
 #![tactic(auto)]
 
-fn main() {
-    let count = os::arg_count();
-    let mut i: usize = 1;
-    while i < count {
-        one_file(i);
-        i += 1;
+use std::{env, fs, io};
+use std::io::Write;
+
+fn main(rt: HostRuntime) -> io::Result<()> {
+    for name in env::args(&rt)?.skip(1) {
+        one_file(&rt, name.as_str())?;
     }
+    Ok(())
 }
 
-// The file that argument i names.
-fn one_file(i: usize) {
-    let mut name = io::buffer();
-    let n = os::arg(i, &mut name);
-    let fd = os::open_read(&name[..n]);
-    if fd < 0 {
-        os::fail(&name[..n]);
-        return;
-    }
-    print(b"== ");
-    print(&name[..n]);
-    print(b"\n");
-    print_sheet(fd);
-    libc::close(fd);
+// The file of this name.
+fn one_file(rt: &HostRuntime, name: &str) -> io::Result<()> {
+    let file = fs::read(rt, name)?;
+    print(rt, b"== ")?;
+    print(rt, name.as_bytes())?;
+    print(rt, b"\n")?;
+    print_sheet(rt, front(&file))
 }
 
-// Its sheet. One byte more than a file may have is read, as `meshsheet` does.
-fn print_sheet(fd: i32) {
-    let mut file = [0u8; sheet::FILE + 1];
+// One byte more than a file may have is taken, as `meshsheet` reads one more.
+fn front(file: &[u8]) -> &[u8] {
+    if file.len() <= sheet::FILE {
+        return file;
+    }
+    &file[..sheet::FILE + 1]
+}
+
+// Its sheet.
+fn print_sheet(rt: &HostRuntime, file: &[u8]) -> io::Result<()> {
     let mut out = [0u8; sheet::ROOM];
-    let n = io::read_full(fd, &mut file[..]);
-    let answer = sheet::sheet(&file[..n], &mut out[..]);
+    let answer = sheet::sheet(file, &mut out[..]);
     let length = answer.length;
-    print(&out[..length]);
+    print(rt, &out[..length])
 }
 
-fn print(text: &[u8]) {
-    io::write_all(1, text);
+fn print(rt: &HostRuntime, text: &[u8]) -> io::Result<()> {
+    rt.stdout().write_all(text)
 }
