@@ -2,20 +2,20 @@
 -- and the pieces are those of the rest. Assumes nothing.
 use mathlib.Core.Path.{◌≡◌, refl, sym, ap, ◌∙◌}
 use mathlib.Core.Bool.{true, false}
-use mathlib.Core.Logic.{◌⊎◌, inl, inr, ⊎_elim}
+use mathlib.Core.Logic.{⊎_elim}
 use mathlib.Core.List.{List, [], ◌∷◌, ◌++◌, map, append-nil}
 use Prim.Native.Nat.{ℕ, zero, suc, ◌+◌, ◌-◌, ◌≤◌, ◌<◌}
 use native.Mathlib.Nat.{eq-or-lt_of_le}
 use native.Mathlib.Numerals.{add-one}
 use native.Mathlib.Omega.{arith}
-use lib.ListN.{length, get_or, take, drop, length-map, length-append, length-drop, drop_of_length-le}
+use lib.ListN.{length, get_or, take, drop, length-map, length-drop, drop_of_length-le}
 use lib.Seq.{take_all}
 use lib.Dec.{eqb}
 use borrow.Author.Tests.{eq-eqb}
 use Rattle.lists.specs.Lists.{joined, every}
 use Rattle.lists.proofs.Bools.{true_false}
 use Rattle.lists.proofs.Changing.{map_at}
-use Rattle.lists.proofs.Parts.{joined_append, every_drop}
+use Rattle.lists.proofs.Parts.{every_drop}
 use Rattle.splitting.specs.Splitting.{mate_of, first_mated, folded_by, split_by, pieces_by}
 use Rattle.splitting.proofs.Search.{mate_after, mate_first, first_first}
 use Rattle.splitting.proofs.Splitting.{split_whole}

@@ -131,19 +131,19 @@ module _ (t : ℕ) where
   slice-relend-prefix-split-places : lts.Need-slice_bounds-split_places-end-then-i-n claims (at t) reads.Post
   slice-relend-prefix-split-places c =
       let turned = c in
-      let s = found turned.before.before in
+      let s = found c.before.before.before.before in
       omega (arith, (cut s).within, long s turned.rotate.ensures)
 
   slice-aggregate-split-places : lts.Need-slice_bounds-split_places-end-then-i-n-2 claims (at t) reads.Post
   slice-aggregate-split-places c =
       let turned = c in
-      let s = found turned.before.before in
+      let s = found c.before.before.before.before.before in
       sym (length-take-le _ _ (omega (arith, (cut s).within, long s turned.rotate.ensures)))
 
   split-places-requires-2 : lts.Need-split_places-mid-requires claims (at t) reads.Post
   split-places-requires-2 c κs =
       let turned = c in
-      let s = found turned.before.before in
+      let s = found c.before.before.before.before.before.before.before in
       let e = turned.rotate.ensures in
       let start = c in
       (omega (arith, shorter_one s e, start.requires.0), (places_one s e start.args.face.now start.requires.1.0, room_one s e _ _ _ _ start.requires.1.1))
@@ -162,14 +162,14 @@ module _ (t : ℕ) where
   sub-split-places-2 c =
       let one = c in
       let turned = c in
-      let s = found turned.before.before in
+      let s = found c.before.before.before.before.before.before.before.before.before.before.before.before.before.before in
       omega (arith, row_long s turned.rotate.ensures one.split_places-mid.new.row one.split_places-mid.auto.row, (cut s).within)
 
   part-split-places-start-2 : lts.Need-slice_bounds-split_places-start-then-i-n claims (at t) reads.Post
   part-split-places-start-2 c =
       let one = c in
       let turned = c in
-      let s = found turned.before.before in
+      let s = found c.before.before.before.before.before.before.before.before.before.before.before.before.before.before in
       omega (arith, row_long s turned.rotate.ensures one.split_places-mid.new.row one.split_places-mid.auto.row, (cut s).within)
 
   part-split-places-end-2 : lts.Need-slice_bounds-split_places-end-then-i-n-3 claims (at t) reads.Post
@@ -180,13 +180,13 @@ module _ (t : ℕ) where
       let one = c in
       let turned = c in
       let start = c in
-      let s = found turned.before.before in
+      let s = found c.before.before.before.before.before.before.before.before.before.before.before.before.before.before.before.before.before in
       let e = turned.rotate.ensures in
       let y = one.split_places-mid.new.row in
       let k = one.split_places-mid.auto.row in
       let places = places_two s e y k start.args.face.now start.requires.1.0 in
-      let kept = one.split_places-mid.auto.took in
-      let room = room_two s e y k _ _ _ _ _ _ _ _ one.split_places-mid.ensures.taken start.requires.1.1 kept.0 kept.1.0 in
+      let kept = one.split_places-mid.auto in
+      let room = room_two s e y k _ _ _ _ _ _ _ _ one.split_places-mid.ensures.taken start.requires.1.1 kept.took kept.lens in
       (omega (arith, shorter_two s e y k, start.requires.0), (places, room))
 
   same-length-4 : lts.Need-shape_of-row-then-i-n claims (at t) reads.Post
@@ -203,7 +203,7 @@ module _ (t : ℕ) where
       let two = c in
       let one = c in
       let turned = c in
-      let s = found turned.before.before in
+      let s = found c.before.before.before.before.before.before.before.before.before.before.before.before.before.before.before.before.before.before.before.before.before.before.before.before in
       let y = one.split_places-mid.new.row in
       let first = one.split_places-mid.ensures in
       cut_parted s turned.rotate.ensures y one.split_places-mid.auto.row _ _ _ _ _ _ _ _ first.taken
