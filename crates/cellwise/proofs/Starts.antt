@@ -1,9 +1,8 @@
 -- Where points begin that can be compared: from slab to slab, and from point to point. Assumes nothing.
-use mathlib.Core.Path.{◌≡◌, refl, sym, ap, ◌∙◌, subst}
+use mathlib.Core.Path.{◌≡◌, sym, ap, ◌∙◌, subst}
 use mathlib.Core.Logic.{⊎_elim}
 use mathlib.Core.List.{List}
-use mathlib.Core.Bool.{Bool, true, false}
-use Prim.Native.Nat.{ℕ, suc, ◌+◌, ◌-◌, ◌≤◌, ◌<◌}
+use Prim.Native.Nat.{ℕ, ◌+◌, ◌≤◌, ◌<◌}
 use native.Mathlib.Omega.{arith}
 use lib.Dec.{eqb}
 use lib.ListN.{length, get_or, set, length-set}
@@ -11,8 +10,8 @@ use lib.Seq.{get_or-set_same, get_or-set_other}
 use borrow.Author.Tests.{eqb-true, eqb-false}
 use Rattle.lists.proofs.Bools.{by_cases}
 use Rattle.lists.proofs.Buckets.{lt_or_ge}
-use Rattle.cellwise.specs.Order.{cell_at, Alike, ByCell}
-use Rattle.cellwise.specs.Blocks.{EndOf, Blocks, Low, Begun}
+use Rattle.cellwise.specs.Order.{cell_at, ByCell}
+use Rattle.cellwise.specs.Blocks.{EndOf, Low, Begun}
 
 module _ {w n : ℕ} {cells order : List ℕ} where
   pub low_begins : (i : ℕ) → Low w n cells order i 0
