@@ -2,7 +2,6 @@
 use lib.ListN.{length-set}
 use Rattle.hemlines.proofs.Line.{word_room, panel_room, edges_room, length_room, feed_room, line_written}
 use native.Mathlib.Omega.{arith}
-use borrow.Author.Rules.{rules}
 use Rattle.hemlines.proofs.put_hem.Statement.{statement}
 use Rattle.hemlines.proofs.put_hem.Tie as tie
 
