@@ -2,7 +2,7 @@
 use mathlib.Core.Path.{◌≡◌, refl, sym, ap, ◌∙◌, subst}
 use mathlib.Core.Bool.{Bool, true, false, not, cond}
 use Prim.Native.Nat.{ℕ, zero, suc, ◌+◌, ◌-◌, ◌*◌, ◌/◌, ◌%◌, ◌^◌, ◌≤◌, ◌<◌, min}
-use native.Mathlib.Nat.{le_of_lt, le_trans, lt_of_lt_of_le, lt_of_le_of_lt, mod-lt, div-eq_of_lt, mul_assoc, mul-le-mul_right, div-lt_iff_lt-mul}
+use native.Mathlib.Nat.{le_of_lt, le_trans, lt_of_lt_of_le, mod-lt, div-eq_of_lt, mul_assoc, mul-le-mul_right, div-lt_iff_lt-mul}
 use native.Mathlib.Omega.{arith}
 use lib.Dec.{T, leb, eqb, lit≤, lit<}
 use lib.Pow.{pow-add, pow_pos, pow_mono, shl_lt, shl-shr, shr-shr, shr_le}
@@ -11,7 +11,7 @@ use lib.Ieee.Fits.{down_pos}
 use lib.Ieee.Bits.{nan_bits_is, of_bits-to_bits}
 use lib.Ieee.Exact.{HasValue, odd_sign}
 use lib.Ieee.Nearest.{div_same}
-use borrow.Author.Tests.{eq-eqb, ne_eqb, le-leb, lt-leb, leb-false}
+use borrow.Author.Tests.{ne_eqb, le-leb, lt-leb, leb-false}
 use Rattle.lists.proofs.Bools.{true_false}
 use Rattle.floating.specs.Limits.{far}
 use Rattle.floating.specs.Cells.{signed, cut, place}

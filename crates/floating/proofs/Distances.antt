@@ -1,16 +1,14 @@
 -- The squared distance of a point to a centre, where the point's coordinates are at most 2^60 and the centre's at most 2,048 times as
 -- much: each step of it is a finite number, and such numbers are ordered as whole numbers are. Assumes nothing.
-use mathlib.Core.Path.{◌≡◌, refl, sym, ap, ◌∙◌, subst}
-use mathlib.Core.Bool.{Bool, true, false}
+use mathlib.Core.Path.{◌≡◌, refl, ap, ◌∙◌, subst}
+use mathlib.Core.Bool.{false}
 use mathlib.Core.List.{List, [], ◌∷◌}
-use Prim.Native.Nat.{ℕ, zero, suc, ◌+◌, ◌*◌, ◌^◌, ◌≤◌, ◌<◌}
-use native.Mathlib.Nat.{le_trans, mul-le-mul_right}
+use Prim.Native.Nat.{ℕ, suc, ◌+◌, ◌*◌, ◌^◌, ◌≤◌}
+use native.Mathlib.Nat.{mul-le-mul_right}
 use native.Mathlib.Omega.{arith}
-use lib.IntN.{ℤ, pos}
 use lib.Dec.{ltb, lit≤, lit<}
-use lib.Pow.{pow-add}
 use lib.ListN.{length}
-use lib.Ieee.{Float, nan, inf, fin, binary64, low, down, add, sub, mul, lt}
+use lib.Ieee.{Float, nan, inf, fin, binary64, low, down, add, sub, lt}
 use lib.Ieee.Exact.{HasValue}
 use Rattle.floating.specs.Near.{nought, square, sum_from, squared}
 use Rattle.floating.proofs.Heights.{height, lt_height}

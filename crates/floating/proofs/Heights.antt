@@ -2,7 +2,7 @@
 -- signed numbers are compared and added as numbers from 0. Assumes nothing.
 use mathlib.Core.Path.{◌≡◌, refl, sym, ap, ◌∙◌, subst}
 use mathlib.Core.Bool.{Bool, true, false, not, ◌&&◌, cond, beq}
-use Prim.Native.Nat.{ℕ, zero, suc, ◌+◌, ◌-◌, ◌*◌, ◌^◌, ◌≤◌, ◌<◌}
+use Prim.Native.Nat.{ℕ, ◌+◌, ◌-◌, ◌*◌, ◌^◌, ◌≤◌, ◌<◌}
 use native.Mathlib.Nat.{mul-pos, mul-lt-mul_of_pos_right, lt_of_mul-lt-mul_right, le_of_mul-le-mul_right, mul-le-mul_right, mul_comm, mul-sub, eq_of_mul-eq-mul_right}
 use native.Mathlib.Omega.{arith}
 use lib.IntN.{ℤ, pos}
@@ -11,7 +11,7 @@ use lib.Pow.{pow_pos}
 use lib.Ieee.{Float, nan, inf, fin, Format, low, up, down, unlike, neg, round, sum, add, sub, mul, div, below, lt}
 use lib.Ieee.Fits.{down_pos}
 use lib.Ieee.Exact.{HasValue}
-use lib.Ieee.Scale.{round_same, grid, overflow}
+use lib.Ieee.Scale.{round_same}
 use borrow.Author.Tests.{lt-ltb, le-ltb, ltb-true, ltb-false, ne_eqb}
 use Rattle.lists.proofs.Bools.{by_cases}
 use Rattle.floating.specs.Limits.{power}

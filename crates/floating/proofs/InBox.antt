@@ -1,7 +1,7 @@
 -- Positions scaled in their box: what holds of every number from -2 to 2 holds of each scaled coordinate. So no scaled position
 -- reaches 2^53 when it is divided by the tolerance. Assumes nothing.
 use mathlib.Core.Path.{◌≡◌, refl, sym, subst}
-use mathlib.Core.Bool.{Bool, true, false, not, ◌&&◌, ◌||◌}
+use mathlib.Core.Bool.{Bool, true, false, ◌&&◌, ◌||◌}
 use mathlib.Core.List.{List, [], ◌∷◌, ◌++◌, map}
 use Prim.Native.Nat.{ℕ, suc, ◌+◌, ◌*◌, ◌^◌, ◌≤◌, ◌<◌}
 use native.Mathlib.Nat.{mul-le-mul_right, le_refl, le_trans}
@@ -9,20 +9,20 @@ use native.Mathlib.Omega.{arith}
 use lib.IntN.{pos, negsuc}
 use lib.Dec.{T, lit≤, lit<}
 use lib.Pow.{pow-add}
-use lib.ListN.{length, get_or}
-use lib.Ieee.{Float, nan, inf, fin, binary64, low, fits, le}
+use lib.ListN.{length}
+use lib.Ieee.{Float, nan, inf, fin, binary64, low, le}
 use lib.Ieee.Scale.{finite}
 use borrow.Author.Tests.{not-false}
 use Rattle.lists.specs.Lists.{some, each}
 use Rattle.lists.proofs.Bools.{true_false, or_neither, or_false_left, or_false_right, and_left}
 use Rattle.floating.specs.Limits.{power, unfit, boundless, distant}
-use Rattle.floating.specs.Points.{point, coordinates, points_of}
+use Rattle.floating.specs.Points.{coordinates, points_of}
 use Rattle.floating.specs.Scaling.{centre_of, divisor_of, scaled_of, around, box_with, box_from, box_of, scaled_in, scaled_list}
 use Rattle.floating.specs.Promises.{Doubles, ScaledNear}
 use Rattle.floating.specs.declared.Point.{Point}
 use Rattle.floating.specs.declared.Bounds.{Bounds}
 use Rattle.floating.proofs.Upto.{Upto}
-use Rattle.floating.proofs.Within.{Scaled, scaled}
+use Rattle.floating.proofs.Within.{Scaled}
 use Rattle.floating.proofs.Bounded.{sign_of, units_of, tall, Good, good, Tolerance, tolerance_of, quotient_near, axis}
 use Rattle.floating.proofs.Bounded.{lesser_good, lesser_left, lesser_right, greater_good, greater_left, greater_right}
 

@@ -1,8 +1,7 @@
 -- The numbers that the code writes as literals. Assumes nothing.
 use mathlib.Core.Path.{◌≡◌, refl}
-use mathlib.Core.Bool.{true, false}
 use lib.IntN.{pos, negsuc}
-use lib.Ieee.{fin, inf, binary64, of_bits}
+use lib.Ieee.{binary64, of_bits}
 use Rattle.floating.specs.Limits.{power}
 use Rattle.floating.specs.Near.{nought}
 

@@ -1,18 +1,17 @@
 -- Floats as numbers of a format's smallest value: what rounding gives, that it keeps the order, and that a float is its own
 -- rounding. `HasValue x s a (2 ^ low f)` says that x is finite, has the sign s, and is a units in size. Assumes nothing.
 use mathlib.Core.Path.{◌≡◌, refl, sym, ap, ◌∙◌, subst}
-use mathlib.Core.Bool.{Bool, true, false, not, ◌&&◌, ◌||◌, cond, true≢false}
-use Prim.Native.Nat.{ℕ, zero, suc, ◌+◌, ◌-◌, ◌*◌, ◌/◌, ◌%◌, ◌^◌, ◌≤◌, ◌<◌}
-use native.Mathlib.Nat.{le_of_eq, le_of_lt, le_trans, le_of_mul-le-mul_right, lt_of_mul-lt-mul_right, eq_of_mul-eq-mul_right}
-use native.Mathlib.Nat.{mul_comm, mul-one, mul-le-mul_right, mul-lt-mul_of_pos_right, lt_of_lt_of_le}
+use mathlib.Core.Bool.{Bool, true, false, ◌&&◌, ◌||◌, cond, true≢false}
+use Prim.Native.Nat.{ℕ, zero, suc, ◌+◌, ◌-◌, ◌*◌, ◌%◌, ◌^◌, ◌≤◌, ◌<◌}
+use native.Mathlib.Nat.{le_of_eq, le_of_lt, le_of_mul-le-mul_right, lt_of_mul-lt-mul_right, eq_of_mul-eq-mul_right}
+use native.Mathlib.Nat.{mul-lt-mul_of_pos_right}
 use native.Mathlib.Omega.{arith}
 use lib.IntN.{ℤ, pos, negsuc}
 use lib.Dec.{T, leb, ltb, eqb, ltb→lt, leb→le, eqb→eq}
 use borrow.Author.Tests.{le-ltb, ltb-true, ltb-false}
 use Rattle.lists.proofs.Bools.{by_cases}
-use lib.Pow.{pow-add, pow_pos, pow_mono, pow-lt}
+use lib.Pow.{pow-add, pow_pos, pow-lt}
 use lib.Ieee.{Float, nan, inf, fin, Format, prec, emax, low, up, down, odd, round, units, le, fits}
-use lib.Ieee.Digits.{size-lt, size_reaches}
 use lib.Ieee.Fits.{round_is, down_pos, and_l, and_r}
 use lib.Ieee.Exact.{HasValue, units_val, round_exact}
 use lib.Ieee.Order.{drop, kept, transfer, round_mono}

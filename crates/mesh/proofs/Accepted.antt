@@ -9,7 +9,7 @@ use Rattle.mesh.specs.Mesh.{Mesh, corners_in, missing, position_count, texture_c
 use Rattle.mesh.specs.Table.{over_limits, uneven, misfit, outside, ungrouped, astray, astray_at, beyond_unless_missing, kind, falls, mesh_number}
 use Rattle.mesh.specs.Face.{Sound}
 use Rattle.mesh.proofs.Corners.{length-corners_in, get_or-corners_in}
-use Rattle.mesh.proofs.Numbers.{Shaped, Clear, shaped, clear, clear_0}
+use Rattle.mesh.proofs.Numbers.{Shaped, Clear, clear, clear_0}
 
 -- ---- row 1: no list is too long
 

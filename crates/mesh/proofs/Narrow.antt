@@ -1,5 +1,5 @@
 -- Row 5 in 32 bits: an index is beyond a count exactly where it is beyond the count in 32 bits. Assumes nothing.
-use Rattle.std.proofs.Common.{◌≡◌, ℕ, ◌+◌, ◌-◌, ◌%◌, ◌<◌, ◌≤◌, Bool, true, false, ◌||◌, eqb, ltb, leb, sym, ◌∙◌, arith, ltb-false, le-ltb, lt-ltb, eqb-true, leb-false, leb-true}
+use Rattle.std.proofs.Common.{◌≡◌, ℕ, ◌+◌, ◌-◌, ◌%◌, ◌<◌, ◌≤◌, eqb, ltb, leb, sym, ◌∙◌, arith, ltb-false, le-ltb, lt-ltb, eqb-true, leb-false, leb-true}
 use borrow.Author.Tests.{eqb-false, lt-leb}
 use Rattle.lists.proofs.Bools.{by_cases}
 use Rattle.mesh.specs.Mesh.{missing}

@@ -1,5 +1,5 @@
 -- The corners of face k, as a part of the flat list of corners. Assumes nothing.
-use Rattle.std.specs.Prelude.{◌≡◌, ℕ, zero, suc, ◌+◌, ◌*◌, ◌<◌, ◌≤◌, Bool, true, false, ◌&&◌, List, [], length, take, drop, ◌==◌, nat_lt, slice_index}
+use Rattle.std.specs.Prelude.{◌≡◌, ℕ, ◌*◌, ◌<◌, ◌≤◌, Bool, true, false, ◌&&◌, List, [], length, take, drop, ◌==◌, nat_lt, slice_index}
 use Rattle.lists.specs.Lists.{sum}
 use Rattle.mesh.specs.Limits.{width, face_limit, corner_numbers}
 use Rattle.mesh.specs.Mesh.{Mesh}

@@ -1,6 +1,6 @@
 -- The table of numbers returned, as document 01 has it: rows 1 to 5, which every call on a mesh looks at, the room of row 9, and
 -- what a call leaves behind by its number. Assumes nothing.
-use Rattle.std.specs.Prelude.{ℕ, zero, suc, ◌+◌, ◌*◌, ◌/◌, ◌%◌, Bool, true, false, not, ◌&&◌, ◌||◌, ltb, List, [], ◌∷◌, map, length, ◌==◌, nat_le, nat_lt}
+use Rattle.std.specs.Prelude.{ℕ, zero, suc, ◌*◌, ◌%◌, Bool, true, false, not, ◌&&◌, ◌||◌, ltb, List, [], ◌∷◌, map, length, ◌==◌, nat_le, nat_lt}
 use Rattle.lists.specs.Lists.{some, sum}
 use Rattle.mesh.specs.Limits.{point_width, texel_width, width, least_ring, ring_limit, entry_limit, corner_limit, face_limit}
 use Rattle.mesh.specs.Mesh.{Mesh, Corner, position, texture, normal, missing, corners_in, position_count, texture_count, normal_count}

@@ -1,6 +1,6 @@
 -- `mesh::number` meets its contract: rows 1 to 4 first, then row 5, for which rows 1 to 4 have shown that the corners are whole. Assumes nothing.
 use Rattle.std.proofs.Common.{sym, ◌∙◌, rules}
-use Rattle.mesh.specs.Table.{mesh_number, astray}
+use Rattle.mesh.specs.Table.{mesh_number}
 use Rattle.mesh.proofs.Numbers.{shaped, shape_first}
 use Rattle.mesh.proofs.Accepted.{even}
 use Rattle.mesh.proofs.number.Statement.{statement}
