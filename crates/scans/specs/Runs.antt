@@ -1,6 +1,6 @@
 -- The steps of the code, and no rules of document 01: what a scan finds that goes over the uses, sorted by edge (uses/specs/Uses.antt).
 -- Crate verdicts has the rules, and crate edges the laws by which these steps come to them. Assumes nothing.
-use Rattle.std.specs.Prelude.{◌≡◌, Bool, false, cond, not, ◌||◌, List, [], ◌∷◌, ◌++◌, map, ℕ, ◌+◌, ◌/◌, ◌≤◌, ◌<◌, length, get_or, leb, eqb}
+use Rattle.std.specs.Prelude.{◌≡◌, Bool, false, cond, not, ◌||◌, List, [], ◌∷◌, ◌++◌, map, ℕ, ◌+◌, ◌≤◌, ◌<◌, length, get_or, leb, eqb}
 use Rattle.std.proofs.lemmas.List.Edits.{sets}
 use Rattle.lists.specs.Lists.{keep_if}
 use Rattle.uses.specs.Uses.{Ready, Columned, goes_on}
