@@ -3,10 +3,9 @@
 use mathlib.Core.Path.{◌≡◌, refl, sym, ap, ◌∙◌}
 use mathlib.Core.Option.{Option, none, some}
 use mathlib.Core.Bool.{Bool}
-use mathlib.Core.List.{List, [], ◌∷◌, map}
+use mathlib.Core.List.{List, [], ◌∷◌}
 use Prim.Native.Nat.{ℕ, zero, suc, ◌/◌, ◌≤◌, ◌<◌}
 use lib.ListN.{length}
-use lib.Seq.{sets}
 use borrow.Author.Tests.{lt-ltb, le-ltb}
 use Rattle.mesh.specs.Limits.{width}
 use Rattle.mesh.specs.Mesh.{Mesh, faces, rings}
@@ -14,7 +13,7 @@ use Rattle.mesh.specs.Table.{mesh_number, when, lent, short, after}
 use Rattle.mesh.proofs.Numbers.{first_is, first_on, row_given}
 pub use Rattle.mesh.proofs.Edges.{edged}
 use Rattle.verdicts.specs.Edges.{edges_of, Verdict, verdict, hems}
-use Rattle.edges.specs.Answers.{verdict_of, Answer, answer_of, judged, mesh_edges_of, start, end, hem_number, hems_in, HemAnswer, Hemmed}
+use Rattle.edges.specs.Answers.{verdict_of, Answer, answer_of, judged, mesh_edges_of, hem_number, hems_in, HemAnswer, Hemmed}
 use Rattle.edges.specs.declared.ShellCondition.{ShellCondition}
 use Rattle.edges.specs.declared.Judged.{Judged}
 use Rattle.edges.specs.declared.Judged.TheVariants.{Found, Refused}

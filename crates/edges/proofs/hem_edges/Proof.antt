@@ -7,76 +7,76 @@ use borrow.Author.Rules.{rules}
 use Rattle.edges.proofs.hem_edges.Statement.{statement}
 use Rattle.edges.proofs.hem_edges.Tie as tie
 
-number-requires : tie.Need-number-requires
+number-requires : tie.Need-number-number-requires
 number-requires c κs = search rules
 
-returns : tie.Need-returns
+returns : tie.Need-returns-then-number-ne0
 returns c =
-    let entry = c.before.before.before.before.before.before.before.before.before in
-    let number = c.before.number in
+    let entry = c in
+    let number = c.number-number in
     hem_refused
     (mesh_of entry.args.positions.now entry.args.textures.now entry.args.normals.now entry.args.corners.now entry.args.sizes.now)
     entry.args.starts.now entry.args.ends.now _
     (hem_mesh (mesh_of entry.args.positions.now entry.args.textures.now entry.args.normals.now entry.args.corners.now
-    entry.args.sizes.now) entry.args.starts.now entry.args.ends.now _ number.ensures c.if1.true) c.if1.true
+    entry.args.sizes.now) entry.args.starts.now entry.args.ends.now _ number.ensures c.if-number-ne0.true) c.if-number-ne0.true
 
-returns-2 : tie.Need-returns-2
+returns-2 : tie.Need-returns-then-starts-room
 returns-2 c =
-    let entry = c.before.before.before.before.before.before.before.before.before.before in
-    let number = c.before.before.number in
-    let if1 = c.before.if1 in
+    let entry = c in
+    let number = c.number-number in
+    let if1 = c.if-number-ne0 in
     hem_refused
     (mesh_of entry.args.positions.now entry.args.textures.now entry.args.normals.now entry.args.corners.now entry.args.sizes.now)
     entry.args.starts.now entry.args.ends.now _
     (hem_starts_short (mesh_of entry.args.positions.now entry.args.textures.now entry.args.normals.now entry.args.corners.now
-    entry.args.sizes.now) entry.args.starts.now entry.args.ends.now _ number.ensures if1.false c.if2.true) (λ z. omega arith)
+    entry.args.sizes.now) entry.args.starts.now entry.args.ends.now _ number.ensures if1.false c.if-starts-room.true) (λ z. omega arith)
 
-returns-3 : tie.Need-returns-3
+returns-3 : tie.Need-returns-then-ends-room
 returns-3 c =
-    let entry = c.before.before.before.before.before.before.before.before.before.before.before in
-    let number = c.before.before.before.number in
-    let if1 = c.before.before.if1 in
-    let if2 = c.before.if2 in
+    let entry = c in
+    let number = c.number-number in
+    let if1 = c.if-number-ne0 in
+    let if2 = c.if-starts-room in
     hem_refused
     (mesh_of entry.args.positions.now entry.args.textures.now entry.args.normals.now entry.args.corners.now entry.args.sizes.now)
     entry.args.starts.now entry.args.ends.now _
     (hem_ends_short (mesh_of entry.args.positions.now entry.args.textures.now entry.args.normals.now entry.args.corners.now
-    entry.args.sizes.now) entry.args.starts.now entry.args.ends.now _ number.ensures if1.false if2.false c.if3.true)
+    entry.args.sizes.now) entry.args.starts.now entry.args.ends.now _ number.ensures if1.false if2.false c.if-ends-room.true)
     (λ z. omega arith)
 
-hems-of-requires : tie.Need-hems-of-requires
+hems-of-requires : tie.Need-hems_of-hems-requires
 hems-of-requires c κs =
-    let entry = c.before.before.before.before.before.before.before.before.before.before.before.before.before in
-    let number = c.before.before.before.before.before.number in
-    let if1 = c.before.before.before.before.if1 in
-    let if2 = c.before.before.before.if2 in
-    let if3 = c.before.before.if3 in (
+    let entry = c in
+    let number = c.number-number in
+    let if1 = c.if-number-ne0 in
+    let if2 = c.if-starts-room in
+    let if3 = c.if-ends-room in (
       edged (mesh_of entry.args.positions.now entry.args.textures.now entry.args.normals.now entry.args.corners.now
           entry.args.sizes.now) (sym number.ensures ∙ if1.false),
       if2.false,
       if3.false,
     )
 
-same_length : tie.Need-same-length
+same_length : tie.Need-shape_of-starts
 same_length c = search rules
 
-same-length-2 : tie.Need-same-length-2
+same-length-2 : tie.Need-shape_of-ends
 same-length-2 c = search rules
 
-returns-4 : tie.Need-returns-4
+returns-4 : tie.Need-returns
 returns-4 c =
-    let entry = c.before.before.before.before.before.before.before.before.before.before.before.before.before.before.before.before.before.before in
-    let number = c.before.before.before.before.before.before.before.before.before.before.number in
-    let if1 = c.before.before.before.before.before.before.before.before.before.if1 in
-    let if2 = c.before.before.before.before.before.before.before.before.if2 in
-    let if3 = c.before.before.before.before.before.before.before.if3 in
-    let hems_of = c.before.before.before.before.hems-of in
+    let entry = c in
+    let number = c.number-number in
+    let if1 = c.if-number-ne0 in
+    let if2 = c.if-starts-room in
+    let if3 = c.if-ends-room in
+    let hems_of = c.hems_of-hems in
     hem_done
     (mesh_of entry.args.positions.now entry.args.textures.now entry.args.normals.now entry.args.corners.now entry.args.sizes.now)
     entry.args.starts.now entry.args.ends.now _ number.ensures if1.false if2.false if3.false _ _ _ hems_of.ensures
 
-pub hem-edges-spec : {M : Type 1} → statement M
-hem-edges-spec =
+pub hem_edges_spec : {M : Type 1} → statement M
+hem_edges_spec =
     tie.close
     (tie.spec
     number-requires

@@ -9,54 +9,54 @@ use Rattle.mesh.specs.Limits.{width, corner_limit}
 use Rattle.edges.proofs.hems_of.Statement.{statement}
 use Rattle.edges.proofs.hems_of.Tie as tie
 
-array-borrow-prefix-lowers : tie.Need-array-borrow-prefix-lowers
+array-borrow-prefix-lowers : tie.Need-slice_bounds-lowers-end
 array-borrow-prefix-lowers c = search rules
 
-slice-aggregate-hem : tie.Need-slice-aggregate-hem
+slice-aggregate-hem : tie.Need-slice_bounds-hem-end
 slice-aggregate-hem c =
-    let entry = c.before.before.before.before.before in
+    let entry = c in
     let h : length entry.args.corners.now / width ≤ corner_limit = omega (arith, entry.requires.0.sound.fits) in
     sym (length_front 0 (length entry.args.corners.now / width) corner_limit h)
 
-array-borrow-prefix-highers : tie.Need-array-borrow-prefix-highers
+array-borrow-prefix-highers : tie.Need-slice_bounds-highers-end
 array-borrow-prefix-highers c = search rules
 
-slice-aggregate-hem-2 : tie.Need-slice-aggregate-hem-2
+slice-aggregate-hem-2 : tie.Need-slice_bounds-hem-end-2
 slice-aggregate-hem-2 c =
-    let entry = c.before.before.before.before.before.before in
+    let entry = c in
     let h : length entry.args.corners.now / width ≤ corner_limit = omega (arith, entry.requires.0.sound.fits) in
     sym (length_front 0 (length entry.args.corners.now / width) corner_limit h)
 
-array-borrow-prefix-downs : tie.Need-array-borrow-prefix-downs
+array-borrow-prefix-downs : tie.Need-slice_bounds-downs-end
 array-borrow-prefix-downs c = search rules
 
-slice-aggregate-hem-3 : tie.Need-slice-aggregate-hem-3
+slice-aggregate-hem-3 : tie.Need-slice_bounds-hem-end-3
 slice-aggregate-hem-3 c =
-    let entry = c.before.before.before.before.before.before.before in
+    let entry = c in
     let h : length entry.args.corners.now / width ≤ corner_limit = omega (arith, entry.requires.0.sound.fits) in
     sym (length_front 0 (length entry.args.corners.now / width) corner_limit h)
 
-array-borrow-prefix-first : tie.Need-array-borrow-prefix-first
+array-borrow-prefix-first : tie.Need-slice_bounds-first-end
 array-borrow-prefix-first c = search rules
 
-slice-aggregate-hem-4 : tie.Need-slice-aggregate-hem-4
+slice-aggregate-hem-4 : tie.Need-slice_bounds-hem-end-4
 slice-aggregate-hem-4 c =
-    let entry = c.before.before.before.before.before.before.before.before in
+    let entry = c in
     let h : length entry.args.corners.now / width ≤ corner_limit = omega (arith, entry.requires.0.sound.fits) in
     sym (length_front 0 (length entry.args.corners.now / width) corner_limit h)
 
-array-borrow-prefix-order : tie.Need-array-borrow-prefix-order
+array-borrow-prefix-order : tie.Need-slice_bounds-order-end
 array-borrow-prefix-order c = search rules
 
-slice-aggregate-hem-5 : tie.Need-slice-aggregate-hem-5
+slice-aggregate-hem-5 : tie.Need-slice_bounds-hem-end-5
 slice-aggregate-hem-5 c =
-    let entry = c.before.before.before.before.before.before.before.before.before in
+    let entry = c in
     let h : length entry.args.corners.now / width ≤ corner_limit = omega (arith, entry.requires.0.sound.fits) in
     sym (length_front 0 (length entry.args.corners.now / width) corner_limit h)
 
 hem-requires : tie.Need-hem-requires
 hem-requires c κs =
-    let entry = c.before.before.before.before.before.before.before.before.before.before.before in
+    let entry = c in
     let h : length entry.args.corners.now / width ≤ corner_limit = omega (arith, entry.requires.0.sound.fits) in
     let l = length_front {B = ℕ} 0 (length entry.args.corners.now / width) corner_limit h in
     record {
@@ -65,17 +65,17 @@ hem-requires c κs =
       room = record { for_starts = entry.requires.1; for_ends = entry.requires.2 };
     }
 
-same_length : tie.Need-same-length
+same_length : tie.Need-shape_of-starts
 same_length c = search rules
 
-same-length-2 : tie.Need-same-length-2
+same-length-2 : tie.Need-shape_of-ends
 same-length-2 c = search rules
 
 returns : tie.Need-returns
-returns c = c.before.before.before.before.before.before.before.before.before.hem.ensures
+returns c = c.hem.ensures
 
-pub hems-of-spec : {M : Type 1} → statement M
-hems-of-spec =
+pub hems_of_spec : {M : Type 1} → statement M
+hems_of_spec =
     tie.close
     (tie.spec
     array-borrow-prefix-lowers

@@ -9,37 +9,37 @@ use Rattle.edges.proofs.judge.Tie as tie
 gather-requires : tie.Need-gather-requires
 gather-requires c κs = search rules
 
-tally-uses-requires : tie.Need-tally-uses-requires
+tally-uses-requires : tie.Need-tally_uses-requires
 tally-uses-requires c κs =
-    let far = c.before.before.before.before.before.before.before.before.before.before.before.before.before.before.before.before.before.before in
-    let entry = far.before.before.before.before.before.before.before.before.before in
-    let gather = c.before.before.before.before.before.before.before.before.before.before.before.before.before.before.gather in
+    let far = c in
+    let entry = c in
+    let gather = c.gather in
     uses_ready entry.args.corners.now entry.args.sizes.now _ entry.requires.edged _ _ _ _ gather.ensures
 
-name-of-requires : tie.Need-name-of-requires
+name-of-requires : tie.Need-name_of-requires
 name-of-requires c κs = search rules
 
-same_length : tie.Need-same-length
+same_length : tie.Need-shape_of-lowers
 same_length c = search rules
 
-same-length-2 : tie.Need-same-length-2
+same-length-2 : tie.Need-shape_of-highers
 same-length-2 c = search rules
 
-same-length-3 : tie.Need-same-length-3
+same-length-3 : tie.Need-shape_of-downs
 same-length-3 c = search rules
 
-same-length-4 : tie.Need-same-length-4
+same-length-4 : tie.Need-shape_of-first
 same-length-4 c = search rules
 
-same-length-5 : tie.Need-same-length-5
+same-length-5 : tie.Need-shape_of-order
 same-length-5 c = search rules
 
 returns : tie.Need-returns
 returns c =
-    let far = c.before.before.before.before.before.before.before.before.before.before.before.before.before.before.before.before.before.before in
-    let entry = far.before.before.before.before.before.before.before.before.before.before.before in
-    let gather = c.before.before.before.before.before.before.before.before.before.before.before.before.before.before.before.before.gather in
-    let tally = c.before.tally-uses in
+    let far = c in
+    let entry = c in
+    let gather = c.gather in
+    let tally = c.tally_uses in
     record {
       gathered = gather.ensures;
       verdict_is =
@@ -47,8 +47,8 @@ returns c =
           ∙ uses_verdict entry.args.corners.now entry.args.sizes.now _ entry.requires.edged _ _ _ _ gather.ensures _ tally.ensures;
     }
 
-pub judge-spec : {M : Type 1} → statement M
-judge-spec =
+pub judge_spec : {M : Type 1} → statement M
+judge_spec =
     tie.close
     (tie.spec
     gather-requires

@@ -4,21 +4,21 @@ use Rattle.edges.specs.Answers.{verdict_of}
 use Rattle.edges.proofs.name_of.Statement.{statement}
 use Rattle.edges.proofs.name_of.Tie as tie
 
-returns : tie.Need-returns
+returns : tie.Need-returns-then-t
 unfolding named verdict_of
-returns c = simp c.if1.true
+returns c = simp c.if-t.true
 
-returns-2 : tie.Need-returns-2
+returns-2 : tie.Need-returns-then-t-2
 unfolding named verdict_of
-returns-2 c = simp (c.before.if1.false, c.if2.true)
+returns-2 c = simp (c.if-t.false, c.if-t-2.true)
 
-returns-3 : tie.Need-returns-3
+returns-3 : tie.Need-returns-then-t-3
 unfolding named verdict_of
-returns-3 c = simp (c.before.before.if1.false, c.before.if2.false, c.if3.true)
+returns-3 c = simp (c.if-t.false, c.if-t-2.false, c.if-t-3.true)
 
-returns-4 : tie.Need-returns-4
+returns-4 : tie.Need-returns
 unfolding named verdict_of
-returns-4 c = simp (c.before.before.if1.false, c.before.if2.false, c.if3.false)
+returns-4 c = simp (c.if-t.false, c.if-t-2.false, c.if-t-3.false)
 
-pub name-of-spec : {M : Type 1} → statement M
-name-of-spec = tie.close (tie.spec returns returns-2 returns-3 returns-4)
+pub name_of_spec : {M : Type 1} → statement M
+name_of_spec = tie.close (tie.spec returns returns-2 returns-3 returns-4)

@@ -9,63 +9,63 @@ use Rattle.mesh.specs.Limits.{width, corner_limit}
 use Rattle.edges.proofs.verdict_of.Statement.{statement}
 use Rattle.edges.proofs.verdict_of.Tie as tie
 
-array-borrow-prefix-lowers : tie.Need-array-borrow-prefix-lowers
+array-borrow-prefix-lowers : tie.Need-slice_bounds-lowers-end
 array-borrow-prefix-lowers c = search rules
 
-slice-aggregate-judge : tie.Need-slice-aggregate-judge
+slice-aggregate-judge : tie.Need-slice_bounds-judge-end
 slice-aggregate-judge c =
-    let entry = c.before.before.before in
+    let entry = c in
     let h : length entry.args.corners.now / width ≤ corner_limit = omega (arith, entry.requires.sound.fits) in
     sym (length_front 0 (length entry.args.corners.now / width) corner_limit h)
 
-array-borrow-prefix-highers : tie.Need-array-borrow-prefix-highers
+array-borrow-prefix-highers : tie.Need-slice_bounds-highers-end
 array-borrow-prefix-highers c = search rules
 
-slice-aggregate-judge-2 : tie.Need-slice-aggregate-judge-2
+slice-aggregate-judge-2 : tie.Need-slice_bounds-judge-end-2
 slice-aggregate-judge-2 c =
-    let entry = c.before.before.before.before in
+    let entry = c in
     let h : length entry.args.corners.now / width ≤ corner_limit = omega (arith, entry.requires.sound.fits) in
     sym (length_front 0 (length entry.args.corners.now / width) corner_limit h)
 
-array-borrow-prefix-downs : tie.Need-array-borrow-prefix-downs
+array-borrow-prefix-downs : tie.Need-slice_bounds-downs-end
 array-borrow-prefix-downs c = search rules
 
-slice-aggregate-judge-3 : tie.Need-slice-aggregate-judge-3
+slice-aggregate-judge-3 : tie.Need-slice_bounds-judge-end-3
 slice-aggregate-judge-3 c =
-    let entry = c.before.before.before.before.before in
+    let entry = c in
     let h : length entry.args.corners.now / width ≤ corner_limit = omega (arith, entry.requires.sound.fits) in
     sym (length_front 0 (length entry.args.corners.now / width) corner_limit h)
 
-array-borrow-prefix-first : tie.Need-array-borrow-prefix-first
+array-borrow-prefix-first : tie.Need-slice_bounds-first-end
 array-borrow-prefix-first c = search rules
 
-slice-aggregate-judge-4 : tie.Need-slice-aggregate-judge-4
+slice-aggregate-judge-4 : tie.Need-slice_bounds-judge-end-4
 slice-aggregate-judge-4 c =
-    let entry = c.before.before.before.before.before.before in
+    let entry = c in
     let h : length entry.args.corners.now / width ≤ corner_limit = omega (arith, entry.requires.sound.fits) in
     sym (length_front 0 (length entry.args.corners.now / width) corner_limit h)
 
-array-borrow-prefix-order : tie.Need-array-borrow-prefix-order
+array-borrow-prefix-order : tie.Need-slice_bounds-order-end
 array-borrow-prefix-order c = search rules
 
-slice-aggregate-judge-5 : tie.Need-slice-aggregate-judge-5
+slice-aggregate-judge-5 : tie.Need-slice_bounds-judge-end-5
 slice-aggregate-judge-5 c =
-    let entry = c.before.before.before.before.before.before.before in
+    let entry = c in
     let h : length entry.args.corners.now / width ≤ corner_limit = omega (arith, entry.requires.sound.fits) in
     sym (length_front 0 (length entry.args.corners.now / width) corner_limit h)
 
 judge-requires : tie.Need-judge-requires
 judge-requires c κs =
-    let entry = c.before.before.before.before.before.before.before in
+    let entry = c in
     let h : length entry.args.corners.now / width ≤ corner_limit = omega (arith, entry.requires.sound.fits) in
     let l = length_front {B = ℕ} 0 (length entry.args.corners.now / width) corner_limit h in
     record { edged = entry.requires; rooms = record { lower = l; higher = l; down = l; earlier = l; later = l } }
 
 returns : tie.Need-returns
-returns c = c.before.before.before.before.before.judge.ensures.verdict_is
+returns c = c.judge.ensures.verdict_is
 
-pub verdict-of-spec : {M : Type 1} → statement M
-verdict-of-spec =
+pub verdict_of_spec : {M : Type 1} → statement M
+verdict_of_spec =
     tie.close
     (tie.spec
     array-borrow-prefix-lowers
