@@ -1,21 +1,21 @@
 -- What is passed over in the order is not compared: out of reach on one axis, and all alike on the axes up to it, or rising from there
 -- on. Assumes nothing.
-use mathlib.Core.Path.{◌≡◌, refl, sym, ap, ap₂, ◌∙◌, subst}
-use mathlib.Core.Bool.{Bool, true, false, ◌&&◌}
+use mathlib.Core.Path.{◌≡◌, sym, ap, ap₂, ◌∙◌, subst}
+use mathlib.Core.Bool.{Bool, true, false}
 use mathlib.Core.List.{List}
-use Prim.Native.Nat.{ℕ, suc, ◌+◌, ◌*◌, ◌≤◌, ◌<◌}
+use Prim.Native.Nat.{ℕ, ◌+◌, ◌*◌, ◌≤◌, ◌<◌}
 use native.Mathlib.Nat.{add-zero}
 use native.Mathlib.Omega.{arith}
 use lib.Dec.{eqb}
-use lib.ListN.{length, get_or}
+use lib.ListN.{get_or}
 use borrow.Author.Tests.{eqb-true, eqb-false}
 use Rattle.lists.proofs.Bools.{by_cases, true_false}
-use Rattle.mesh.specs.Limits.{texel_width, point_width}
+use Rattle.mesh.specs.Limits.{texel_width}
 use Rattle.floating.specs.Cells.{beside}
 use Rattle.floating.proofs.Rows.{three}
 use Rattle.nearby.specs.Engine.{beside_at, Points}
 use Rattle.nearby.proofs.Beside.{apart_first, apart_second, both_two, by_third}
-use Rattle.cellwise.specs.Order.{cell_at, Alike, ByCell}
+use Rattle.cellwise.specs.Order.{cell_at, Alike}
 use Rattle.cellwise.specs.Blocks.{EndOf, Tables}
 use Rattle.inreach.specs.Reach.{Skipped}
 use Rattle.paired.proofs.Both.{too_low, too_high, in_reach}

@@ -9,60 +9,60 @@ use native.Mathlib.Omega.{arith}
 use Rattle.inreach.proofs.count_pairs.Statement.{statement}
 use Rattle.inreach.proofs.count_pairs.Tie as tie
 
-abbrev invariant-loop : tie.invariant-loop
+abbrev invariant-loop : tie.invariant-loop-p
 invariant-loop cells w n order slabs rows runs found₀ p₀ found p = Paired (beside_at w cells) n order found p
 
-abbrev decreases-loop : tie.decreases-loop
+abbrev decreases-loop : tie.decreases-loop-p
 decreases-loop cells w n order slabs rows runs found₀ p₀ found p = n - p
 
-loop-holds : tie.Need-loop-init invariant-loop decreases-loop
+loop-holds : tie.Need-loop-p-init invariant-loop decreases-loop
 loop-holds c =
-    let pre = c.before.before.before.before.before.requires in
+    let pre = c.requires in
     paired_begins pre.by_cell.long
 
-count-behind-requires : tie.Need-count-behind-requires invariant-loop decreases-loop
+count-behind-requires : tie.Need-count_behind-found-requires invariant-loop decreases-loop
 count-behind-requires c κs =
-    let pre = c.before.before.before.before.before.before.before.requires in
-    let test = c.loop-test in
+    let pre = c.requires in
+    let test = c.loop-p-test in
     (pre, test.true)
 
-add-found : tie.Need-overflow-add-found invariant-loop decreases-loop
+add-found : tie.Need-overflow_add-found invariant-loop decreases-loop
 add-found c =
-    let loop = c.before.before.loop in
-    let count-behind = c.count-behind in
-    let pre = c.before.before.before.before.before.before.before.before.requires in
+    let loop = c.loop-p in
+    let count-behind = c.count_behind-found in
+    let pre = c.requires in
     omega (arith, loop.invariant.few, loop.invariant.within, count-behind.ensures.1, pre.by_cell.points.few)
 
-add-p : tie.Need-overflow-add-p invariant-loop decreases-loop
+add-p : tie.Need-overflow_add-p invariant-loop decreases-loop
 add-p c =
-    let test = c.before.loop-test in
-    let pre = c.before.before.before.before.before.before.before.before.requires in
+    let test = c.loop-p-test in
+    let pre = c.requires in
     omega (arith, test.true, pre.by_cell.points.few)
 
-loop-less : tie.Need-loop-smaller invariant-loop decreases-loop
+loop-less : tie.Need-loop-p-smaller invariant-loop decreases-loop
 loop-less c =
-    let test = c.before.loop-test in
+    let test = c.loop-p-test in
     omega (arith, test.true)
 
-loop-again : tie.Need-loop-preserved invariant-loop decreases-loop
+loop-again : tie.Need-loop-p-preserved invariant-loop decreases-loop
 loop-again c =
-    let pre = c.before.before.before.before.before.before.before.before.requires in
-    let test = c.before.loop-test in
-    let count-behind = c.count-behind in
-    let loop = c.before.before.loop in
+    let pre = c.requires in
+    let test = c.loop-p-test in
+    let count-behind = c.count_behind-found in
+    let loop = c.loop-p in
     paired_turns pre.by_cell.long _ pre.by_cell.points.few test.true count-behind.ensures.0 count-behind.ensures.1 loop.invariant
 
 returns : tie.Need-returns invariant-loop decreases-loop
 returns c =
-    let pre = c.before.before.before.before.before.before.before.requires in
-    let test = c.loop-test in
-    let loop = c.before.loop in
-    let args = c.before.before.before.before.before.before.before.args in
+    let pre = c.requires in
+    let test = c.loop-p-test in
+    let loop = c.loop-p in
+    let args = c.args in
     paired_ends pre.by_cell.long test.false loop.invariant
     ∙ same_pairs (beside_at args.w args.cells.now) (beside_both args.w args.cells.now) (beside_self args.w args.cells.now) _ _ pre.by_cell.numbers
 
-pub count-pairs-spec : {M : Type 1} → statement M
-count-pairs-spec =
+pub count_pairs_spec : {M : Type 1} → statement M
+count_pairs_spec =
     tie.close
     (tie.spec
     invariant-loop
