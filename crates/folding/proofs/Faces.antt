@@ -15,13 +15,13 @@ use Rattle.lists.proofs.Copies.{take_written}
 use Rattle.lists.proofs.Mapping.{map_same}
 use Rattle.lists.proofs.Parts.{every_at, every_joined, joined_append, length_joined}
 use Rattle.mesh.specs.Limits.{width}
-use Rattle.mesh.specs.Mesh.{Corner, Ring, position, corners_in, corner_at}
+use Rattle.mesh.specs.Mesh.{Corner, position, corners_in, corner_at}
 use Rattle.mesh.proofs.Corners.{length-corners_in, get_or-corners_in}
 use Rattle.grouping.specs.Push.{Placed}
 use Rattle.splitting.specs.Splitting.{split_by, pieces_by}
 use Rattle.splitting.proofs.Pieces.{pieces_fewer, pieces_every}
 use Rattle.splitting.proofs.Mapped.{split_same, pieces_same, pieces_places}
-use Rattle.places.specs.Working.{position_at_lem, is_place, Room, Taken, Parted, Copied}
+use Rattle.places.specs.Working.{position_at_lem, is_place, Room, Parted, Copied}
 use Rattle.places.proofs.Corners.{under, every_span, places_span}
 use Rattle.folding.specs.Folding.{ring_pieces}
 use Rattle.folding.specs.Places.{position_in, ring_places}

@@ -4,49 +4,49 @@ use borrow.Author.Rules.{rules}
 use Rattle.folding.proofs.degenerate_triangle.Statement.{statement}
 use Rattle.folding.proofs.degenerate_triangle.Tie as tie
 
-index-1-t0 : tie.Need-bounds-1-t0
-index-1-t0 c = search rules
-
-index-2-t0 : tie.Need-bounds-2-t0
-index-2-t0 c = search rules
-
-index-1-t1 : tie.Need-bounds-1-t1
-index-1-t1 c = search rules
-
-index-2-t1 : tie.Need-bounds-2-t1
-index-2-t1 c = search rules
-
-index-1-t2 : tie.Need-bounds-1-t2
-index-1-t2 c = search rules
-
-index-2-t2 : tie.Need-bounds-2-t2
-index-2-t2 c = search rules
-
-returns : tie.Need-returns
+returns : tie.Need-returns-then-t0-t1
 returns c =
-    let start = c.before.before.before.before in
-    first_two start.args.t1 start.well-formed.0.1.0.1 c.if1.true
+    let start = c in
+    first_two start.args.tri start.well_formed.0.1.0.1 c.if-t0-t1.true
 
-returns-2 : tie.Need-returns-2
+returns-2 : tie.Need-returns-then-t1-t2
 returns-2 c =
-    let start = c.before.before.before.before.before in
-    last_two start.args.t1 start.well-formed.0.1.0.1 c.before.if1.false c.if2.true
+    let start = c in
+    last_two start.args.tri start.well_formed.0.1.0.1 c.if-t0-t1.false c.if-t1-t2.true
 
-returns-3 : tie.Need-returns-3
+returns-3 : tie.Need-returns
 returns-3 c =
-    let start = c.before.before.before.before.before in
-    last_test start.args.t1 start.well-formed.0.1.0.1 c.before.if1.false c.if2.false
+    let start = c in
+    last_test start.args.tri start.well_formed.0.1.0.1 c.if-t0-t1.false c.if-t1-t2.false
 
-pub degenerate-triangle-spec : {M : Type 1} → statement M
-degenerate-triangle-spec =
+the-bounds-tri-0 : tie.Need-bounds-tri-0
+the-bounds-tri-0 c = search rules
+
+the-bounds-tri-0-2 : tie.Need-bounds-tri-0-2
+the-bounds-tri-0-2 c = search rules
+
+the-bounds-tri-1 : tie.Need-bounds-tri-1
+the-bounds-tri-1 c = search rules
+
+the-bounds-tri-0-3 : tie.Need-bounds-tri-0-3
+the-bounds-tri-0-3 c = search rules
+
+the-bounds-tri-2 : tie.Need-bounds-tri-2
+the-bounds-tri-2 c = search rules
+
+the-bounds-tri-0-4 : tie.Need-bounds-tri-0-4
+the-bounds-tri-0-4 c = search rules
+
+pub degenerate_triangle_spec : {M : Type 1} → statement M
+degenerate_triangle_spec =
     tie.close
     (tie.spec
-    index-1-t0
-    index-2-t0
-    index-1-t1
-    index-2-t1
-    index-1-t2
-    index-2-t2
+    the-bounds-tri-0
+    the-bounds-tri-0-2
+    the-bounds-tri-1
+    the-bounds-tri-0-3
+    the-bounds-tri-2
+    the-bounds-tri-0-4
     returns
     returns-2
     returns-3)

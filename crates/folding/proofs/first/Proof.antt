@@ -11,32 +11,32 @@ use native.Mathlib.Omega.{arith}
 use Rattle.folding.proofs.first.Statement.{statement}
 use Rattle.folding.proofs.first.Tie as tie
 
-abbrev invariant-loop : tie.invariant-loop
+abbrev invariant-loop : tie.invariant-loop-i
 invariant-loop places i₀ i = Seeking (λ k. ltb (mate_of places k) (length places)) 0 (length places) i
 
-abbrev decreases-loop : tie.decreases-loop
+abbrev decreases-loop : tie.decreases-loop-i
 decreases-loop places i₀ i = length places - i
 
-loop-holds : tie.Need-loop-init invariant-loop decreases-loop
+loop-holds : tie.Need-loop-i-init invariant-loop decreases-loop
 loop-holds c = seek_begins _ _ _ (omega arith)
 
 mate-requires : tie.Need-mate-requires invariant-loop decreases-loop
 mate-requires c κs = search rules
 
-returns : tie.Need-returns invariant-loop decreases-loop
-returns c = seek_finds _ _ _ _ (omega arith) (mate_found _ _ _ c.before.mate.ensures c.if1.true) c.before.before.before.loop.invariant ∙ first_seeks _
+returns : tie.Need-returns-then-mate-places invariant-loop decreases-loop
+returns c = seek_finds _ _ _ _ (omega arith) (mate_found _ _ _ c.mate.ensures c.if-mate-places.true) c.loop-i.invariant ∙ first_seeks _
 
-add-i : tie.Need-overflow-add-i invariant-loop decreases-loop
+add-i : tie.Need-overflow_add-i invariant-loop decreases-loop
 add-i c = search rules
 
-loop-less : tie.Need-loop-smaller invariant-loop decreases-loop
+loop-less : tie.Need-loop-i-smaller invariant-loop decreases-loop
 loop-less c = search rules
 
-loop-again : tie.Need-loop-preserved invariant-loop decreases-loop
-loop-again c = seek_turns _ _ _ _ (omega arith) (mate_missing _ _ _ c.before.mate.ensures c.if1.false) c.before.before.before.loop.invariant
+loop-again : tie.Need-loop-i-preserved invariant-loop decreases-loop
+loop-again c = seek_turns _ _ _ _ (omega arith) (mate_missing _ _ _ c.mate.ensures c.if-mate-places.false) c.loop-i.invariant
 
-returns-2 : tie.Need-returns-2 invariant-loop decreases-loop
-returns-2 c = seek_ends _ _ _ _ (omega arith) c.before.loop.invariant ∙ first_seeks _
+returns-2 : tie.Need-returns invariant-loop decreases-loop
+returns-2 c = seek_ends _ _ _ _ (omega arith) c.loop-i.invariant ∙ first_seeks _
 
 pub first_spec : {M : Type 1} → statement M
 first_spec =
