@@ -1,15 +1,15 @@
 -- Looking through the runs of a point finds its next near point: what is in no run is not compared, so it is not near. Assumes nothing.
 use mathlib.Core.Path.{◌≡◌, refl, sym, ap, ◌∙◌, subst}
 use mathlib.Core.Logic.{◌⊎◌, inl, inr, ⊎_elim}
-use mathlib.Core.Bool.{Bool, true, false, not, ◌&&◌}
+use mathlib.Core.Bool.{Bool, true, false, ◌&&◌}
 use mathlib.Core.List.{List}
-use Prim.Native.Nat.{ℕ, suc, ◌+◌, ◌-◌, ◌≤◌, ◌<◌}
+use Prim.Native.Nat.{ℕ, ◌+◌, ◌-◌, ◌≤◌, ◌<◌}
 use native.Mathlib.Omega.{arith}
 use lib.Dec.{eqb, leb, ltb}
-use lib.ListN.{length, get_or}
+use lib.ListN.{get_or}
 use lib.Ieee.{Float}
 use borrow.Author.Tests.{eqb-true, eqb-false, le-leb, lt-leb, lt-ltb, le-ltb, leb-true, ltb-true}
-use Rattle.lists.proofs.Bools.{by_cases, and_left, and_right, and_both, and_false_right, true_false}
+use Rattle.lists.proofs.Bools.{by_cases, and_left, and_right, and_false_right, true_false}
 use Rattle.lists.proofs.Buckets.{lt_or_ge}
 use Rattle.nearby.specs.Engine.{beside_at, near_by, fresh, Next}
 use Rattle.nearby.proofs.Fresh.{not_beside}

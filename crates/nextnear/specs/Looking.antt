@@ -1,5 +1,5 @@
 -- What the functions that look through the order ask and leave. Assumes nothing.
-use Rattle.std.specs.Prelude.{◌≡◌, ◌⊎◌, Bool, true, false, ◌&&◌, List, ℕ, ◌-◌, ◌≤◌, ◌<◌, leb, ltb, length, get_or, Float}
+use Rattle.std.specs.Prelude.{◌≡◌, ◌⊎◌, Bool, true, false, ◌&&◌, List, ℕ, ◌-◌, ◌≤◌, ◌<◌, leb, ltb, get_or, Float}
 use Rattle.nearby.specs.Engine.{Listed, near_by, fresh}
 use Rattle.cellwise.specs.Blocks.{Tables, Begun}
 

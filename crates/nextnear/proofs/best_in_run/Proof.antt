@@ -8,36 +8,36 @@ use native.Mathlib.Omega.{arith}
 use Rattle.nextnear.proofs.best_in_run.Statement.{statement}
 use Rattle.nextnear.proofs.best_in_run.Tie as tie
 
-abbrev invariant-loop : tie.invariant-loop
+abbrev invariant-loop : tie.invariant-loop-k
 invariant-loop s w t cells n seen order i low from fore rear best found₀ k₀ found k = (fore ≤ k) × (k ≤ rear) × Best (wanted t w s cells seen i low from) order k rear best found
 
-abbrev decreases-loop : tie.decreases-loop
+abbrev decreases-loop : tie.decreases-loop-k
 decreases-loop s w t cells n seen order i low from fore rear best found₀ k₀ found k = k
 
-loop-holds : tie.Need-loop-init invariant-loop decreases-loop
+loop-holds : tie.Need-loop-k-init invariant-loop decreases-loop
 loop-holds c =
-    let pre = c.before.before.before.before.requires in
+    let pre = c.requires in
     (pre.3.rise, omega arith, run_begins)
 
-sub-entry : tie.Need-overflow-sub-entry invariant-loop decreases-loop
+sub-entry : tie.Need-overflow_sub-k invariant-loop decreases-loop
 sub-entry c =
-    let test = c.loop-test in
+    let test = c.loop-k-test in
     omega (arith, test.true)
 
 entry-requires : tie.Need-entry-requires invariant-loop decreases-loop
 entry-requires c κs =
-    let test = c.loop-test in
-    let loop = c.before.loop in
-    let pre = c.before.before.before.before.before.before.requires in
+    let test = c.loop-k-test in
+    let loop = c.loop-k in
+    let pre = c.requires in
     omega (arith, test.true, loop.invariant.1, pre.3.inside, pre.3.long)
 
-better-requires : tie.Need-better-requires invariant-loop decreases-loop
+better-requires : tie.Need-better-found-requires invariant-loop decreases-loop
 better-requires c κs =
-    let pre = c.before.before.before.before.before.before.before.requires in
+    let pre = c.requires in
     let entry = c.entry in
-    let loop = c.before.before.loop in
-    let test = c.before.loop-test in
-    let args = c.before.before.before.before.before.before.before.args in (
+    let loop = c.loop-k in
+    let test = c.loop-k-test in
+    let args = c.args in (
       pre.0,
       pre.1,
       pre.2,
@@ -46,22 +46,22 @@ better-requires c κs =
           ∙ pre.3.beside (loop.k - 1) (omega (arith, test.true)) (omega (arith, test.true, loop.invariant.1)),
     )
 
-sub-k : tie.Need-overflow-sub-k invariant-loop decreases-loop
+sub-k : tie.Need-overflow_sub-k-in-loop-k invariant-loop decreases-loop
 sub-k c =
-    let test = c.before.before.loop-test in
+    let test = c.loop-k-test in
     omega (arith, test.true)
 
-loop-less : tie.Need-loop-smaller invariant-loop decreases-loop
+loop-less : tie.Need-loop-k-smaller invariant-loop decreases-loop
 loop-less c =
-    let test = c.before.before.loop-test in
+    let test = c.loop-k-test in
     omega (arith, test.true)
 
-loop-again : tie.Need-loop-preserved invariant-loop decreases-loop
+loop-again : tie.Need-loop-k-preserved invariant-loop decreases-loop
 loop-again c =
-    let test = c.before.before.loop-test in
-    let loop = c.before.before.before.loop in
-    let entry = c.before.entry in
-    let better = c.better in (
+    let test = c.loop-k-test in
+    let loop = c.loop-k in
+    let entry = c.entry in
+    let better = c.better-found in (
       omega (arith, test.true),
       omega (arith, loop.invariant.1),
       run_turns _ _ (omega (arith, test.true)) entry.ensures better.ensures loop.invariant.2,
@@ -69,12 +69,12 @@ loop-again c =
 
 returns : tie.Need-returns invariant-loop decreases-loop
 returns c =
-    let test = c.loop-test in
-    let loop = c.before.loop in
+    let test = c.loop-k-test in
+    let loop = c.loop-k in
     run_ends _ test.false loop.invariant.0 loop.invariant.2
 
-pub best-in-run-spec : {M : Type 1} → statement M
-best-in-run-spec =
+pub best_in_run_spec : {M : Type 1} → statement M
+best_in_run_spec =
     tie.close
     (tie.spec
     invariant-loop
