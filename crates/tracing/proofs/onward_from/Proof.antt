@@ -8,56 +8,56 @@ use borrow.Author.Rules.{rules}
 use Rattle.tracing.proofs.onward_from.Statement.{statement}
 use Rattle.tracing.proofs.onward_from.Tie as tie
 
-wide-requires : tie.Need-wide-requires
+wide-requires : tie.Need-wide-p-requires
 wide-requires c κs = search rules
 
-mul_wide : tie.Need-overflow-mul-wide
+mul_wide : tie.Need-offset_bounds-firsts-p
 mul_wide c = search rules
 
-slice-read-wide : tie.Need-slice-read-wide
+slice-read-wide : tie.Need-bounds-firsts-p
 slice-read-wide c = search rules
 
-wide-requires-2 : tie.Need-wide-requires-2
+wide-requires-2 : tie.Need-wide-k-requires
 wide-requires-2 c κs = search rules
 
-returns : tie.Need-returns
+returns : tie.Need-returns-then-k-starts
 returns c =
-    let pre = c.before.before.before.before.before.before.before.before.requires in
-    let wide = c.before.before.before.wide in
-    let args = c.before.before.before.before.before.before.before.before.args in
+    let pre = c.requires in
+    let wide = c.wide-p in
+    let args = c.args in
     back_home _ _ _ _ _ _ pre.stands pre.home pre.inside (omega (arith, wide.ensures, ap (λ (i : ℕ). get_or args.firsts.now i 0) wide.ensures))
 
-mul-firsts : tie.Need-overflow-mul-firsts
+mul-firsts : tie.Need-offset_bounds-nexts-k
 mul-firsts c = search rules
 
-shared-slice-read-firsts : tie.Need-shared-slice-read-firsts
+shared-slice-read-firsts : tie.Need-bounds-nexts-k
 shared-slice-read-firsts c = search rules
 
-mul-firsts-2 : tie.Need-overflow-mul-firsts-2
+mul-firsts-2 : tie.Need-offset_bounds-firsts-p-2
 mul-firsts-2 c = search rules
 
-slice-write-firsts : tie.Need-slice-write-firsts
+slice-write-firsts : tie.Need-bounds-firsts-p-2
 slice-write-firsts c = search rules
 
-mul-result : tie.Need-overflow-mul-result
+mul-result : tie.Need-offset_bounds-ends-k
 mul-result c = search rules
 
-shared-slice-read-result : tie.Need-shared-slice-read-result
+shared-slice-read-result : tie.Need-bounds-ends-k
 shared-slice-read-result c = search rules
 
-same_length : tie.Need-same-length
+same_length : tie.Need-shape_of-firsts
 same_length c = search rules
 
-returns-2 : tie.Need-returns-2
+returns-2 : tie.Need-returns
 returns-2 c =
-    let pre = c.before.before.before.before.before.before.before.before.before.before.requires in
-    let wide = c.before.before.before.before.before.wide in
-    let wide2 = c.before.before.before.wide2 in
-    let if1 = c.before.before.if1 in
+    let pre = c.requires in
+    let wide = c.wide-p in
+    let wide2 = c.wide-k in
+    let if1 = c.if-k-starts in
     onward_by _ _ _ _ _ _ pre.stands pre.home pre.inside _ _ wide.ensures wide2.ensures if1.false
 
-pub onward-from-spec : {M : Type 1} → statement M
-onward-from-spec =
+pub onward_from_spec : {M : Type 1} → statement M
+onward_from_spec =
     tie.close
     (tie.spec
     wide-requires

@@ -10,50 +10,50 @@ use borrow.Author.Rules.{rules}
 use Rattle.tracing.proofs.trace_one.Statement.{statement}
 use Rattle.tracing.proofs.trace_one.Tie as tie
 
-cast-trace-wire : tie.Need-overflow-cast-trace-wire
+cast-trace-wire : tie.Need-overflow_cast-p
 cast-trace-wire c = search rules
 
-trace-wire-requires : tie.Need-trace-wire-requires
+trace-wire-requires : tie.Need-trace_wire-end-requires
 trace-wire-requires c κs = search rules
 
-sub-lengths : tie.Need-overflow-sub-lengths
+sub-lengths : tie.Need-overflow_sub-lengths
 sub-lengths c = search rules
 
-cast-lengths : tie.Need-overflow-cast-lengths
+cast-lengths : tie.Need-overflow_cast-lengths
 cast-lengths c =
-    let trace-wire = c.before.before.before.before.trace-wire in
-    let pre = c.before.before.before.before.before.before.before.before.before.before.before.before.before.requires in
-    let args = c.before.before.before.before.before.before.before.before.before.before.before.before.before.args in
+    let trace-wire = c.trace_wire-end in
+    let pre = c.requires in
+    let args = c.args in
     omega (arith, trace-wire.ensures.end_is, wire_small pre.begun.stands args.p args.p)
 
-mul-lengths : tie.Need-overflow-mul-lengths
+mul-lengths : tie.Need-offset_bounds-lengths-k
 mul-lengths c = search rules
 
-slice-write-lengths : tie.Need-slice-write-lengths
+slice-write-lengths : tie.Need-bounds-lengths-k
 slice-write-lengths c = search rules
 
-add-t17 : tie.Need-overflow-add-t17
+add-t17 : tie.Need-overflow_add-result
 add-t17 c = search rules
 
-same_length : tie.Need-same-length
+same_length : tie.Need-shape_of-firsts
 same_length c = search rules
 
-same-length-2 : tie.Need-same-length-2
+same-length-2 : tie.Need-shape_of-flat
 same-length-2 c = search rules
 
-same-length-3 : tie.Need-same-length-3
+same-length-3 : tie.Need-shape_of-lengths
 same-length-3 c = search rules
 
 returns : tie.Need-returns
 returns c =
-    let trace-wire = c.before.before.before.before.trace-wire in
-    let args = c.before.before.before.before.before.before.before.before.before.before.before.before.before.args in
+    let trace-wire = c.trace_wire-end in
+    let args = c.args in
     let rest = left args.starts.now args.ends.now args.firsts.now in
     let e : trace-wire.result - args.done.flat ≡ length (trace args.p args.p rest).0 = omega (arith, trace-wire.ensures.end_is) in
     record { ended = trace-wire.ensures; lengths_is = ap (set args.lengths.now args.done.wires) e; wires_is = refl }
 
-pub trace-one-spec : {M : Type 1} → statement M
-trace-one-spec =
+pub trace_one_spec : {M : Type 1} → statement M
+trace_one_spec =
     tie.close
     (tie.spec
     cast-trace-wire

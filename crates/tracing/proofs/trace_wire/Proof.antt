@@ -7,56 +7,56 @@ use borrow.Author.Rules.{rules}
 use Rattle.tracing.proofs.trace_wire.Statement.{statement}
 use Rattle.tracing.proofs.trace_wire.Tie as tie
 
-abbrev invariant-loop : tie.invariant-loop
+abbrev invariant-loop : tie.invariant-loop-c
 invariant-loop starts ends nexts firsts₀ first flat₀ at m₀ c₀ firsts flat m c = Following starts ends nexts firsts₀ first flat₀ at firsts flat m c
 
-abbrev decreases-loop : tie.decreases-loop
+abbrev decreases-loop : tie.decreases-loop-c
 decreases-loop starts ends nexts firsts₀ first flat₀ at m₀ c₀ firsts flat m c = length (trace first c (left starts ends firsts)).0
 
-loop-holds : tie.Need-loop-init invariant-loop decreases-loop
-loop-holds c = follow_begins _ _ _ _ _ _ _ c.before.before.before.before.before.requires
+loop-holds : tie.Need-loop-c-init invariant-loop decreases-loop
+loop-holds c = follow_begins _ _ _ _ _ _ _ c.requires
 
-mul-flat : tie.Need-overflow-mul-flat invariant-loop decreases-loop
+mul-flat : tie.Need-offset_bounds-flat-m invariant-loop decreases-loop
 mul-flat c = search rules
 
-slice-write-flat : tie.Need-slice-write-flat invariant-loop decreases-loop
+slice-write-flat : tie.Need-bounds-flat-m invariant-loop decreases-loop
 slice-write-flat c = search rules
 
-add-m : tie.Need-overflow-add-m invariant-loop decreases-loop
+add-m : tie.Need-overflow_add-m invariant-loop decreases-loop
 add-m c = search rules
 
-onward-from-requires : tie.Need-onward-from-requires invariant-loop decreases-loop
+onward-from-requires : tie.Need-onward_from-c-requires invariant-loop decreases-loop
 onward-from-requires c κs = search rules
 
-same_length : tie.Need-same-length invariant-loop decreases-loop
+same_length : tie.Need-shape_of-firsts-then-c-first invariant-loop decreases-loop
 same_length c = search rules
 
-same-length-2 : tie.Need-same-length-2 invariant-loop decreases-loop
+same-length-2 : tie.Need-shape_of-flat-then-c-first invariant-loop decreases-loop
 same-length-2 c = search rules
 
-returns : tie.Need-returns invariant-loop decreases-loop
+returns : tie.Need-returns-then-c-first invariant-loop decreases-loop
 returns c =
-    let loop = c.before.before.before.before.before.loop in
-    let onward-from = c.before.before.before.onward-from in
-    let if1 = c.if1 in
-    follow_ends loop.invariant onward-from.ensures onward-from.auto.1.1.1.0 if1.true
+    let loop = c.loop-c in
+    let onward-from = c.onward_from-c in
+    let if1 = c.if-c-first in
+    follow_ends loop.invariant onward-from.ensures onward-from.auto.firsts if1.true
 
-loop-less : tie.Need-loop-smaller invariant-loop decreases-loop
+loop-less : tie.Need-loop-c-smaller invariant-loop decreases-loop
 loop-less c =
-    let loop = c.before.before.before.before.before.loop in
-    let onward-from = c.before.before.before.onward-from in
-    let if1 = c.if1 in
-    follow_less loop.invariant onward-from.ensures onward-from.auto.1.1.1.0 if1.false
+    let loop = c.loop-c in
+    let onward-from = c.onward_from-c in
+    let if1 = c.if-c-first in
+    follow_less loop.invariant onward-from.ensures onward-from.auto.firsts if1.false
 
-loop-again : tie.Need-loop-preserved invariant-loop decreases-loop
+loop-again : tie.Need-loop-c-preserved invariant-loop decreases-loop
 loop-again c =
-    let loop = c.before.before.before.before.before.loop in
-    let onward-from = c.before.before.before.onward-from in
-    let if1 = c.if1 in
-    follow_turns loop.invariant onward-from.ensures onward-from.auto.1.1.1.0 if1.false
+    let loop = c.loop-c in
+    let onward-from = c.onward_from-c in
+    let if1 = c.if-c-first in
+    follow_turns loop.invariant onward-from.ensures onward-from.auto.firsts if1.false
 
-pub trace-wire-spec : {M : Type 1} → statement M
-trace-wire-spec =
+pub trace_wire_spec : {M : Type 1} → statement M
+trace_wire_spec =
     tie.close
     (tie.spec
     invariant-loop
