@@ -4,8 +4,6 @@ use mathlib.Core.Bool.{Bool, true, false, not, and-true}
 use mathlib.Core.List.{List, [], ◌∷◌}
 use Prim.Native.Nat.{ℕ, zero, suc, ◌+◌, ◌*◌, ◌-◌, ◌%◌, ◌≤◌, ◌<◌}
 use native.Mathlib.Omega.{arith}
-use types.Run.{OneOf, miss}
-use denote.Enum.Declared.{tag_of}
 use lib.Dec.{eqb, leb}
 use lib.ListN.{length}
 use lib.Ieee.{Float}
@@ -20,7 +18,6 @@ use Rattle.records.specs.Lengths.{header_length, corner_length, marked_length, c
 use Rattle.records.specs.Lengths.{face_length, wide_face_length, marked_face_length, count_most, wide_least, marked_least}
 use Rattle.records.specs.Lengths.{byte_kind, wide_kind, marked_kind, last_kind}
 use Rattle.records.specs.Records.{number_of, values_of, length_fits, attribute, ring_from, lacks_marks, counted, face_from, wide_face_from, marked_face_from, body_from, record_from}
-use Rattle.records.specs.contracts.Record.{the_type}
 
 -- ---- the length of a body
 
@@ -165,10 +162,10 @@ module _ (s : List ℕ) (at n k : ℕ) (h : header_length ≤ length s - at) (en
 
 -- ---- answers of other variants
 
-pub not_refused : (r : Record) → OneOf (0 ∷ 1 ∷ 2 ∷ 3 ∷ 4 ∷ []) (tag_of the_type r) → 0 ≡ number_of r
+pub not_refused : (r : Record) → ((n : ℕ) → r ≡ Refused n → ⊥) → 0 ≡ number_of r
 not_refused (Position p) k = refl
 not_refused (Texture t) k = refl
 not_refused (Normal p) k = refl
 not_refused (Face a n m) k = refl
 not_refused End k = refl
-not_refused (Refused n) k = absurd (miss (0 ∷ 1 ∷ 2 ∷ 3 ∷ 4 ∷ []) 5 tt k)
+not_refused (Refused n) k = absurd (k n refl)

@@ -4,14 +4,14 @@ use mathlib.Core.Bool.{not}
 use Rattle.records.proofs.lacks_marks.Statement.{statement}
 use Rattle.records.proofs.lacks_marks.Tie as tie
 
-any-mark-requires : tie.Need-any-mark-requires
-any-mark-requires c κs = rw c.if1.true at c.before.before.requires
+any-mark-requires : tie.Need-any_mark-requires
+any-mark-requires c κs = rw c.if-marked.true at c.requires
 
-returns : tie.Need-returns
-returns c = rw c.before.if1.true (ap not c.any-mark.ensures)
+returns : tie.Need-returns-then-marked
+returns c = rw c.if-marked.true (ap not c.any_mark.ensures)
 
-returns-2 : tie.Need-returns-2
-returns-2 c = rw c.if1.false
+returns-2 : tie.Need-returns
+returns-2 c = rw c.if-marked.false
 
-pub lacks-marks-spec : {M : Type 1} → statement M
-lacks-marks-spec = tie.close (tie.spec any-mark-requires returns returns-2)
+pub lacks_marks_spec : {M : Type 1} → statement M
+lacks_marks_spec = tie.close (tie.spec any-mark-requires returns returns-2)

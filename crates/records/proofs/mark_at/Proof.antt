@@ -3,13 +3,13 @@ use Rattle.records.proofs.mark_at.Statement.{statement}
 use Rattle.records.proofs.mark_at.Tie as tie
 
 word-requires : tie.Need-word-requires
-word-requires c κs = c.before.before.requires c.if1.true
+word-requires c κs = c.requires c.if-marked.true
 
-returns : tie.Need-returns
-returns c = rw c.before.if1.true c.word.ensures
+returns : tie.Need-returns-then-marked
+returns c = rw c.if-marked.true c.word.ensures
 
-returns-2 : tie.Need-returns-2
-returns-2 c = rw c.if1.false
+returns-2 : tie.Need-returns
+returns-2 c = rw c.if-marked.false
 
-pub mark-at-spec : {M : Type 1} → statement M
-mark-at-spec = tie.close (tie.spec word-requires returns returns-2)
+pub mark_at_spec : {M : Type 1} → statement M
+mark_at_spec = tie.close (tie.spec word-requires returns returns-2)

@@ -7,7 +7,7 @@ use Rattle.records.proofs.marked_face.Tie as tie
 half-requires : tie.Need-half-requires
 half-requires c κs = search rules
 
-add-counted : tie.Need-overflow-add-counted
+add-counted : tie.Need-overflow_add-b
 add-counted c = search rules
 
 counted-requires : tie.Need-counted-requires
@@ -15,7 +15,7 @@ counted-requires c κs = search rules
 
 returns : tie.Need-returns
 unfolding marked_face_from
-returns c = rw c.before.half.ensures.0 at c.counted.ensures
+returns c = rw c.half.ensures.0 at c.counted.ensures
 
-pub marked-face-spec : {M : Type 1} → statement M
-marked-face-spec = tie.close (tie.spec half-requires add-counted counted-requires returns)
+pub marked_face_spec : {M : Type 1} → statement M
+marked_face_spec = tie.close (tie.spec half-requires add-counted counted-requires returns)

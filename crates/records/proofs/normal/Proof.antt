@@ -5,14 +5,14 @@ use borrow.Author.Rules.{rules}
 use Rattle.records.proofs.normal.Statement.{statement}
 use Rattle.records.proofs.normal.Tie as tie
 
-point-is-finite-requires : tie.Need-point-is-finite-requires
+point-is-finite-requires : tie.Need-point_is_finite-requires
 point-is-finite-requires c κs = search rules
 
-returns : tie.Need-returns
-returns c = attribute_good (Normal c.before.before.args.p) _ c.before.point-is-finite.ensures c.if1.true
+returns : tie.Need-returns-then-point_is_finite
+returns c = attribute_good (Normal c.args.p) _ c.point_is_finite.ensures c.if-point_is_finite.true
 
-returns-2 : tie.Need-returns-2
-returns-2 c = attribute_broken (Normal c.before.before.args.p) _ c.before.point-is-finite.ensures c.if1.false
+returns-2 : tie.Need-returns
+returns-2 c = attribute_broken (Normal c.args.p) _ c.point_is_finite.ensures c.if-point_is_finite.false
 
-pub normal-spec : {M : Type 1} → statement M
-normal-spec = tie.close (tie.spec point-is-finite-requires returns returns-2)
+pub normal_spec : {M : Type 1} → statement M
+normal_spec = tie.close (tie.spec point-is-finite-requires returns returns-2)

@@ -5,14 +5,14 @@ use borrow.Author.Rules.{rules}
 use Rattle.records.proofs.position.Statement.{statement}
 use Rattle.records.proofs.position.Tie as tie
 
-point-is-finite-requires : tie.Need-point-is-finite-requires
+point-is-finite-requires : tie.Need-point_is_finite-requires
 point-is-finite-requires c κs = search rules
 
-returns : tie.Need-returns
-returns c = attribute_good (Position c.before.before.args.p) _ c.before.point-is-finite.ensures c.if1.true
+returns : tie.Need-returns-then-point_is_finite
+returns c = attribute_good (Position c.args.p) _ c.point_is_finite.ensures c.if-point_is_finite.true
 
-returns-2 : tie.Need-returns-2
-returns-2 c = attribute_broken (Position c.before.before.args.p) _ c.before.point-is-finite.ensures c.if1.false
+returns-2 : tie.Need-returns
+returns-2 c = attribute_broken (Position c.args.p) _ c.point_is_finite.ensures c.if-point_is_finite.false
 
-pub position-spec : {M : Type 1} → statement M
-position-spec = tie.close (tie.spec point-is-finite-requires returns returns-2)
+pub position_spec : {M : Type 1} → statement M
+position_spec = tie.close (tie.spec point-is-finite-requires returns returns-2)

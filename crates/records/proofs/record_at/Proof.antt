@@ -7,66 +7,66 @@ use borrow.Author.Rules.{rules}
 use Rattle.records.proofs.record_at.Statement.{statement}
 use Rattle.records.proofs.record_at.Tie as tie
 
-sub-if1 : tie.Need-overflow-sub-if1
+sub-if1 : tie.Need-overflow_sub-s
 sub-if1 c = search rules
 
-returns : tie.Need-returns
-returns c = header_cut _ _ c.if1.true
+returns : tie.Need-returns-then-s-at-lt-HEADER_LENGTH
+returns c = header_cut _ _ c.if-s-at-lt-HEADER_LENGTH.true
 
-half-requires : tie.Need-half-requires
+half-requires : tie.Need-half-n-requires
 half-requires c κs = search rules
 
-cast-n : tie.Need-overflow-cast-n
+cast-n : tie.Need-overflow_cast-n
 cast-n c = search rules
 
-add_half : tie.Need-overflow-add-half
+add_half : tie.Need-overflow_add-at
 add_half c = search rules
 
-half-requires-2 : tie.Need-half-requires-2
+half-requires-2 : tie.Need-half-kind-requires
 half-requires-2 c κs = search rules
 
-returns-2 : tie.Need-returns-2
-returns-2 c = kind_unknown _ _ _ _ c.before.before.before.if1.false c.before.before.half.ensures.0 c.before.half2.ensures.0 c.if2.true
+returns-2 : tie.Need-returns-then-kind-gt-LAST_KIND
+returns-2 c = kind_unknown _ _ _ _ c.if-s-at-lt-HEADER_LENGTH.false c.half-n.ensures.0 c.half-kind.ensures.0 c.if-kind-gt-LAST_KIND.true
 
 misfits-requires : tie.Need-misfits-requires
 misfits-requires c κs = search rules
 
-returns-3 : tie.Need-returns-3
+returns-3 : tie.Need-returns-then-misfits
 returns-3 c =
-    let at-misfits = c.before in
-    let at-half2 = at-misfits.before.before in
-    let at-if1 = at-half2.before.before in
-    length_wrong _ _ _ _ at-if1.if1.false at-half2.before.half.ensures.0 at-half2.half2.ensures.0 at-misfits.before.if2.false (sym at-misfits.misfits.ensures ∙ c.if3.true)
+    let at-misfits = c in
+    let at-half2 = c in
+    let at-if1 = c in
+    length_wrong _ _ _ _ at-if1.if-s-at-lt-HEADER_LENGTH.false at-half2.half-n.ensures.0 at-half2.half-kind.ensures.0 at-misfits.if-kind-gt-LAST_KIND.false (sym at-misfits.misfits.ensures ∙ c.if-misfits.true)
 
-add-b : tie.Need-overflow-add-b
+add-b : tie.Need-overflow_add-b
 add-b c = search rules
 
-sub-if4 : tie.Need-overflow-sub-if4
+sub-if4 : tie.Need-overflow_sub-s-2
 sub-if4 c = search rules
 
-returns-4 : tie.Need-returns-4
+returns-4 : tie.Need-returns-then-s-b
 returns-4 c =
-    let at-if3 = c.before in
-    let at-if2 = at-if3.before.before in
-    let at-half = at-if2.before.before in
-    body_cut _ _ _ _ at-half.before.if1.false at-half.half.ensures.0 at-if2.before.half2.ensures.0 at-if2.if2.false
-    (sym at-if3.before.misfits.ensures ∙ at-if3.if3.false) c.if4.true
+    let at-if3 = c in
+    let at-if2 = c in
+    let at-half = c in
+    body_cut _ _ _ _ at-half.if-s-at-lt-HEADER_LENGTH.false at-half.half-n.ensures.0 at-if2.half-kind.ensures.0 at-if2.if-kind-gt-LAST_KIND.false
+    (sym at-if3.misfits.ensures ∙ at-if3.if-misfits.false) c.if-s-b.true
 
 body-requires : tie.Need-body-requires
-body-requires c κs = (c.before.before.before.if2.false, (omega arith, not-false _ (sym c.before.before.misfits.ensures ∙ c.before.if3.false)))
+body-requires c κs = (c.if-kind-gt-LAST_KIND.false, (omega arith, not-false _ (sym c.misfits.ensures ∙ c.if-misfits.false)))
 
-returns-5 : tie.Need-returns-5
+returns-5 : tie.Need-returns
 returns-5 c =
-    let at-if4 = c.before in
-    let at-misfits = at-if4.before.before in
-    let at-half2 = at-misfits.before.before in
-    let at-if1 = at-half2.before.before in
+    let at-if4 = c in
+    let at-misfits = c in
+    let at-half2 = c in
+    let at-if1 = c in
     c.body.ensures
-    ∙ body_whole _ _ _ _ at-if1.if1.false at-half2.before.half.ensures.0 at-half2.half2.ensures.0
-    at-misfits.before.if2.false (sym at-misfits.misfits.ensures ∙ at-if4.before.if3.false) at-if4.if4.false
+    ∙ body_whole _ _ _ _ at-if1.if-s-at-lt-HEADER_LENGTH.false at-half2.half-n.ensures.0 at-half2.half-kind.ensures.0
+    at-misfits.if-kind-gt-LAST_KIND.false (sym at-misfits.misfits.ensures ∙ at-if4.if-misfits.false) at-if4.if-s-b.false
 
-pub record-at-spec : {M : Type 1} → statement M
-record-at-spec =
+pub record_at_spec : {M : Type 1} → statement M
+record_at_spec =
     tie.close
     (tie.spec
     sub-if1

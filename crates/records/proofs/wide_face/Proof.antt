@@ -7,7 +7,7 @@ use Rattle.records.proofs.wide_face.Tie as tie
 half-requires : tie.Need-half-requires
 half-requires c κs = search rules
 
-add-counted : tie.Need-overflow-add-counted
+add-counted : tie.Need-overflow_add-b
 add-counted c = search rules
 
 counted-requires : tie.Need-counted-requires
@@ -15,7 +15,7 @@ counted-requires c κs = search rules
 
 returns : tie.Need-returns
 unfolding wide_face_from
-returns c = rw c.before.half.ensures.0 at c.counted.ensures
+returns c = rw c.half.ensures.0 at c.counted.ensures
 
-pub wide-face-spec : {M : Type 1} → statement M
-wide-face-spec = tie.close (tie.spec half-requires add-counted counted-requires returns)
+pub wide_face_spec : {M : Type 1} → statement M
+wide_face_spec = tie.close (tie.spec half-requires add-counted counted-requires returns)

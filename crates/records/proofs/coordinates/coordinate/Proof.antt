@@ -9,12 +9,12 @@ use Rattle.records.proofs.coordinates.coordinate.Tie as tie
 long-requires : tie.Need-long-requires
 long-requires c κs = search rules
 
-of-bits-requires : tie.Need-of-bits-requires
+of-bits-requires : tie.Need-of_bits-requires
 of-bits-requires c κs = search rules
 
 returns : tie.Need-returns
 unfolding coordinate
-returns c = c.of-bits.ensures ∙ ap (of_bits binary64) c.before.long.ensures
+returns c = c.of_bits.ensures ∙ ap (of_bits binary64) c.long.ensures
 
-pub coordinate-spec : {M : Type 1} → statement M
-coordinate-spec = tie.close (tie.spec long-requires of-bits-requires returns)
+pub coordinate_spec : {M : Type 1} → statement M
+coordinate_spec = tie.close (tie.spec long-requires of-bits-requires returns)

@@ -7,13 +7,13 @@ use Rattle.records.proofs.coordinates.point_from.Tie as tie
 coordinate-requires : tie.Need-coordinate-requires
 coordinate-requires c κs = search rules
 
-add-coordinate : tie.Need-overflow-add-coordinate
+add-coordinate : tie.Need-overflow_add-i
 add-coordinate c = search rules
 
 coordinate-requires-2 : tie.Need-coordinate-requires-2
 coordinate-requires-2 c κs = search rules
 
-add-coordinate-2 : tie.Need-overflow-add-coordinate-2
+add-coordinate-2 : tie.Need-overflow_add-i-2
 add-coordinate-2 c = search rules
 
 coordinate-requires-3 : tie.Need-coordinate-requires-3
@@ -21,10 +21,10 @@ coordinate-requires-3 c κs = search rules
 
 returns : tie.Need-returns
 unfolding point_from
-returns c = rw (c.before.before.coordinate.ensures, c.before.coordinate2.ensures, c.coordinate3.ensures)
+returns c = rw (c.coordinate.ensures, c.coordinate-2.ensures, c.coordinate-3.ensures)
 
-pub point-from-spec : {M : Type 1} → statement M
-point-from-spec =
+pub point_from_spec : {M : Type 1} → statement M
+point_from_spec =
     tie.close
     (tie.spec
     coordinate-requires

@@ -7,7 +7,7 @@ use Rattle.records.proofs.coordinates.texel_from.Tie as tie
 coordinate-requires : tie.Need-coordinate-requires
 coordinate-requires c κs = search rules
 
-add-coordinate : tie.Need-overflow-add-coordinate
+add-coordinate : tie.Need-overflow_add-i
 add-coordinate c = search rules
 
 coordinate-requires-2 : tie.Need-coordinate-requires-2
@@ -15,8 +15,8 @@ coordinate-requires-2 c κs = search rules
 
 returns : tie.Need-returns
 unfolding texel_from
-returns c = rw (c.before.coordinate.ensures, c.coordinate2.ensures)
+returns c = rw (c.coordinate.ensures, c.coordinate-2.ensures)
 
-pub texel-from-spec : {M : Type 1} → statement M
-texel-from-spec =
+pub texel_from_spec : {M : Type 1} → statement M
+texel_from_spec =
     tie.close (tie.spec coordinate-requires add-coordinate coordinate-requires-2 returns)
