@@ -17,46 +17,46 @@ use native.Mathlib.Omega.{arith}
 use Rattle.bycell.proofs.create_component.Statement.{statement}
 use Rattle.bycell.proofs.create_component.Tie as tie
 
-abbrev invariant-loop : tie.invariant-loop
+abbrev invariant-loop : tie.invariant-loop-depth
 invariant-loop s w t cells n places slabs rows runs starts start done order₀ seen₀ node₀ left₀ taken₀ depth₀ order seen node left taken depth = Good (near_by t w s cells) n (take done order₀) start order seen node left taken depth × Long order₀ seen₀ node₀ left₀ order seen node left
 
-abbrev decreases-loop : tie.decreases-loop
+abbrev decreases-loop : tie.decreases-loop-depth
 decreases-loop s w t cells n places slabs rows runs starts start done order₀ seen₀ node₀ left₀ taken₀ depth₀ order seen node left taken depth = work n left taken depth
 
-mul-order : tie.Need-overflow-mul-order invariant-loop decreases-loop
+mul-order : tie.Need-offset_bounds-order-done invariant-loop decreases-loop
 mul-order c =
-    let pre = c.before.before.before.before.before.before.before.before.before.before.before.requires in
+    let pre = c.requires in
     omega (arith, room _ _ _ _ _ pre.0.taken pre.0.inside pre.0.new, pre.0.listed.points.few)
 
-slice-write-order : tie.Need-slice-write-order invariant-loop decreases-loop
+slice-write-order : tie.Need-bounds-order-done invariant-loop decreases-loop
 slice-write-order c =
-    let pre = c.before.before.before.before.before.before.before.before.before.before.before.requires in
+    let pre = c.requires in
     omega (arith, room _ _ _ _ _ pre.0.taken pre.0.inside pre.0.new, pre.0.listed.points.few, pre.0.taken.order_room)
 
-slice-write-seen : tie.Need-slice-write-seen invariant-loop decreases-loop
+slice-write-seen : tie.Need-bounds-seen-start invariant-loop decreases-loop
 slice-write-seen c =
-    let pre = c.before.before.before.before.before.before.before.before.before.before.before.requires in
+    let pre = c.requires in
     omega (arith, pre.0.inside, pre.0.taken.seen_room)
 
-slice-write-node : tie.Need-slice-write-node invariant-loop decreases-loop
+slice-write-node : tie.Need-bounds-node-0 invariant-loop decreases-loop
 slice-write-node c =
-    let pre = c.before.before.before.before.before.before.before.before.before.before.before.requires in
+    let pre = c.requires in
     omega (arith, pre.0.inside, pre.0.node_room)
 
-slice-write-left : tie.Need-slice-write-left invariant-loop decreases-loop
+slice-write-left : tie.Need-bounds-left-0 invariant-loop decreases-loop
 slice-write-left c =
-    let pre = c.before.before.before.before.before.before.before.before.before.before.before.requires in
+    let pre = c.requires in
     omega (arith, pre.0.inside, pre.0.left_room)
 
-add-taken : tie.Need-overflow-add-taken invariant-loop decreases-loop
+add-taken : tie.Need-overflow_add-taken invariant-loop decreases-loop
 add-taken c =
-    let pre = c.before.before.before.before.before.before.before.before.before.before.before.requires in
+    let pre = c.requires in
     omega (arith, room _ _ _ _ _ pre.0.taken pre.0.inside pre.0.new, pre.0.listed.points.few)
 
-loop-holds : tie.Need-loop-init invariant-loop decreases-loop
+loop-holds : tie.Need-loop-depth-init invariant-loop decreases-loop
 loop-holds c =
-    let pre = c.before.before.before.before.before.before.before.before.before.before.before.requires in
-    let args = c.before.before.before.before.before.before.before.before.before.before.before.args in
+    let pre = c.requires in
+    let args = c.args in
     let given = pre.0 in
     let before = args.order.now in
     let order' = set before args.done args.start in
@@ -69,218 +69,218 @@ loop-holds c =
       long_begins order' seen' node' left',
     )
 
-sub-top : tie.Need-overflow-sub-top invariant-loop decreases-loop
+sub-top : tie.Need-overflow_sub-top invariant-loop decreases-loop
 sub-top c =
-    let test = c.loop-test in
+    let test = c.loop-depth-test in
     omega (arith, test.true)
 
-mul-next-near : tie.Need-overflow-mul-next-near invariant-loop decreases-loop
+mul-next-near : tie.Need-offset_bounds-node-top invariant-loop decreases-loop
 mul-next-near c =
-    let loop = c.before.before.loop in
-    let test = c.before.loop-test in
-    let pre = c.before.before.before.before.before.before.before.before.before.before.before.before.before.before.requires in
+    let loop = c.loop-depth in
+    let test = c.loop-depth-test in
+    let pre = c.requires in
     omega (arith, depth_in loop.invariant.0 test.true, pre.0.listed.points.few, test.true)
 
-slice-read-next-near : tie.Need-slice-read-next-near invariant-loop decreases-loop
+slice-read-next-near : tie.Need-bounds-node-top invariant-loop decreases-loop
 slice-read-next-near c =
-    let loop = c.before.before.before.loop in
-    let test = c.before.before.loop-test in
+    let loop = c.loop-depth in
+    let test = c.loop-depth-test in
     omega (arith, depth_in loop.invariant.0 test.true, loop.invariant.0.node_room, test.true)
 
-mul-next-near-2 : tie.Need-overflow-mul-next-near-2 invariant-loop decreases-loop
+mul-next-near-2 : tie.Need-offset_bounds-left-top invariant-loop decreases-loop
 mul-next-near-2 c =
-    let loop = c.before.before.before.loop in
-    let test = c.before.before.loop-test in
-    let pre = c.before.before.before.before.before.before.before.before.before.before.before.before.before.before.before.requires in
+    let loop = c.loop-depth in
+    let test = c.loop-depth-test in
+    let pre = c.requires in
     omega (arith, depth_in loop.invariant.0 test.true, pre.0.listed.points.few, test.true)
 
-slice-read-next-near-2 : tie.Need-slice-read-next-near-2 invariant-loop decreases-loop
+slice-read-next-near-2 : tie.Need-bounds-left-top invariant-loop decreases-loop
 slice-read-next-near-2 c =
-    let loop = c.before.before.before.before.loop in
-    let test = c.before.before.before.loop-test in
+    let loop = c.loop-depth in
+    let test = c.loop-depth-test in
     omega (arith, depth_in loop.invariant.0 test.true, loop.invariant.0.left_room, test.true)
 
-next-near-requires : tie.Need-next-near-requires invariant-loop decreases-loop
+next-near-requires : tie.Need-next_near-next-requires invariant-loop decreases-loop
 next-near-requires c κs =
-    let pre = c.before.before.before.before.before.before.before.before.before.before.before.before.before.before.before.before.requires in
-    let loop = c.before.before.before.before.loop in
-    let test = c.before.before.before.loop-test in
+    let pre = c.requires in
+    let loop = c.loop-depth in
+    let test = c.loop-depth-test in
     (pre.1, node_in loop.invariant.0 test.true, left_in loop.invariant.0 test.true, loop.invariant.0.held.seen_room)
 
-loop-less : tie.Need-loop-smaller invariant-loop decreases-loop
+loop-less : tie.Need-loop-depth-smaller-then-next-eq0 invariant-loop decreases-loop
 loop-less c =
-    let loop = c.before.before.before.before.before.before.loop in
-    let test = c.before.before.before.before.before.loop-test in
-    let next-near = c.before.next-near in
+    let loop = c.loop-depth in
+    let test = c.loop-depth-test in
+    let next-near = c.next_near-next in
     goes_less loop.invariant.0 test.true next-near.ensures
 
-loop-again : tie.Need-loop-preserved invariant-loop decreases-loop
+loop-again : tie.Need-loop-depth-preserved-then-next-eq0 invariant-loop decreases-loop
 loop-again c =
-    let loop = c.before.before.before.before.before.before.loop in
-    let test = c.before.before.before.before.before.loop-test in
-    let next-near = c.before.next-near in
-    let if1 = c.if1 in
+    let loop = c.loop-depth in
+    let test = c.loop-depth-test in
+    let next-near = c.next_near-next in
+    let if1 = c.if-next-eq0 in
     (goes loop.invariant.0 test.true next-near.ensures if1.true, loop.invariant.1)
 
-sub-j : tie.Need-overflow-sub-j invariant-loop decreases-loop
+sub-j : tie.Need-overflow_sub-j invariant-loop decreases-loop
 sub-j c =
-    let if1 = c.if1 in
+    let if1 = c.if-next-eq0 in
     omega (arith, if1.false)
 
-mul_left : tie.Need-overflow-mul-left invariant-loop decreases-loop
+mul_left : tie.Need-offset_bounds-left-top-else-next-eq0 invariant-loop decreases-loop
 mul_left c =
-    let loop = c.before.before.before.before.before.before.loop in
-    let test = c.before.before.before.before.before.loop-test in
-    let next-near = c.before.next-near in
-    let if1 = c.if1 in
-    let pre = c.before.before.before.before.before.before.before.before.before.before.before.before.before.before.before.before.before.before.requires in
+    let loop = c.loop-depth in
+    let test = c.loop-depth-test in
+    let next-near = c.next_near-next in
+    let if1 = c.if-next-eq0 in
+    let pre = c.requires in
     let i = comes_inside loop.invariant.0 test.true next-near.ensures if1.false pre.0.listed.points.few in
     omega (arith, i.point, i.place, i.frame, i.few)
 
-slice-write-left-2 : tie.Need-slice-write-left-2 invariant-loop decreases-loop
+slice-write-left-2 : tie.Need-bounds-left-top-else-next-eq0 invariant-loop decreases-loop
 slice-write-left-2 c =
-    let loop = c.before.before.before.before.before.before.loop in
-    let test = c.before.before.before.before.before.loop-test in
-    let next-near = c.before.next-near in
-    let if1 = c.if1 in
-    let pre = c.before.before.before.before.before.before.before.before.before.before.before.before.before.before.before.before.before.before.requires in
+    let loop = c.loop-depth in
+    let test = c.loop-depth-test in
+    let next-near = c.next_near-next in
+    let if1 = c.if-next-eq0 in
+    let pre = c.requires in
     let i = comes_inside loop.invariant.0 test.true next-near.ensures if1.false pre.0.listed.points.few in
     omega (arith, i.point, i.place, i.frame, i.few, i.left_room)
 
-mul-order-2 : tie.Need-overflow-mul-order-2 invariant-loop decreases-loop
+mul-order-2 : tie.Need-offset_bounds-order-taken invariant-loop decreases-loop
 mul-order-2 c =
-    let loop = c.before.before.before.before.before.before.loop in
-    let test = c.before.before.before.before.before.loop-test in
-    let next-near = c.before.next-near in
-    let if1 = c.if1 in
-    let pre = c.before.before.before.before.before.before.before.before.before.before.before.before.before.before.before.before.before.before.requires in
+    let loop = c.loop-depth in
+    let test = c.loop-depth-test in
+    let next-near = c.next_near-next in
+    let if1 = c.if-next-eq0 in
+    let pre = c.requires in
     let i = comes_inside loop.invariant.0 test.true next-near.ensures if1.false pre.0.listed.points.few in
     omega (arith, i.point, i.place, i.frame, i.few)
 
-slice-write-order-2 : tie.Need-slice-write-order-2 invariant-loop decreases-loop
+slice-write-order-2 : tie.Need-bounds-order-taken invariant-loop decreases-loop
 slice-write-order-2 c =
-    let loop = c.before.before.before.before.before.before.loop in
-    let test = c.before.before.before.before.before.loop-test in
-    let next-near = c.before.next-near in
-    let if1 = c.if1 in
-    let pre = c.before.before.before.before.before.before.before.before.before.before.before.before.before.before.before.before.before.before.requires in
+    let loop = c.loop-depth in
+    let test = c.loop-depth-test in
+    let next-near = c.next_near-next in
+    let if1 = c.if-next-eq0 in
+    let pre = c.requires in
     let i = comes_inside loop.invariant.0 test.true next-near.ensures if1.false pre.0.listed.points.few in
     omega (arith, i.point, i.place, i.frame, i.few, i.order_room)
 
-slice-write-seen-2 : tie.Need-slice-write-seen-2 invariant-loop decreases-loop
+slice-write-seen-2 : tie.Need-bounds-seen-j invariant-loop decreases-loop
 slice-write-seen-2 c =
-    let loop = c.before.before.before.before.before.before.loop in
-    let test = c.before.before.before.before.before.loop-test in
-    let next-near = c.before.next-near in
-    let if1 = c.if1 in
-    let pre = c.before.before.before.before.before.before.before.before.before.before.before.before.before.before.before.before.before.before.requires in
+    let loop = c.loop-depth in
+    let test = c.loop-depth-test in
+    let next-near = c.next_near-next in
+    let if1 = c.if-next-eq0 in
+    let pre = c.requires in
     let i = comes_inside loop.invariant.0 test.true next-near.ensures if1.false pre.0.listed.points.few in
     omega (arith, i.point, i.place, i.frame, i.few, i.seen_room)
 
-mul-node : tie.Need-overflow-mul-node invariant-loop decreases-loop
+mul-node : tie.Need-offset_bounds-node-depth invariant-loop decreases-loop
 mul-node c =
-    let loop = c.before.before.before.before.before.before.loop in
-    let test = c.before.before.before.before.before.loop-test in
-    let next-near = c.before.next-near in
-    let if1 = c.if1 in
-    let pre = c.before.before.before.before.before.before.before.before.before.before.before.before.before.before.before.before.before.before.requires in
+    let loop = c.loop-depth in
+    let test = c.loop-depth-test in
+    let next-near = c.next_near-next in
+    let if1 = c.if-next-eq0 in
+    let pre = c.requires in
     let i = comes_inside loop.invariant.0 test.true next-near.ensures if1.false pre.0.listed.points.few in
     omega (arith, i.point, i.place, i.frame, i.few)
 
-slice-write-node-2 : tie.Need-slice-write-node-2 invariant-loop decreases-loop
+slice-write-node-2 : tie.Need-bounds-node-depth invariant-loop decreases-loop
 slice-write-node-2 c =
-    let loop = c.before.before.before.before.before.before.loop in
-    let test = c.before.before.before.before.before.loop-test in
-    let next-near = c.before.next-near in
-    let if1 = c.if1 in
-    let pre = c.before.before.before.before.before.before.before.before.before.before.before.before.before.before.before.before.before.before.requires in
+    let loop = c.loop-depth in
+    let test = c.loop-depth-test in
+    let next-near = c.next_near-next in
+    let if1 = c.if-next-eq0 in
+    let pre = c.requires in
     let i = comes_inside loop.invariant.0 test.true next-near.ensures if1.false pre.0.listed.points.few in
     omega (arith, i.point, i.place, i.frame, i.few, i.node_room)
 
-mul-left-2 : tie.Need-overflow-mul-left-2 invariant-loop decreases-loop
+mul-left-2 : tie.Need-offset_bounds-left-depth invariant-loop decreases-loop
 mul-left-2 c =
-    let loop = c.before.before.before.before.before.before.loop in
-    let test = c.before.before.before.before.before.loop-test in
-    let next-near = c.before.next-near in
-    let if1 = c.if1 in
-    let pre = c.before.before.before.before.before.before.before.before.before.before.before.before.before.before.before.before.before.before.requires in
+    let loop = c.loop-depth in
+    let test = c.loop-depth-test in
+    let next-near = c.next_near-next in
+    let if1 = c.if-next-eq0 in
+    let pre = c.requires in
     let i = comes_inside loop.invariant.0 test.true next-near.ensures if1.false pre.0.listed.points.few in
     omega (arith, i.point, i.place, i.frame, i.few)
 
-slice-write-left-3 : tie.Need-slice-write-left-3 invariant-loop decreases-loop
+slice-write-left-3 : tie.Need-bounds-left-depth invariant-loop decreases-loop
 slice-write-left-3 c =
-    let loop = c.before.before.before.before.before.before.loop in
-    let test = c.before.before.before.before.before.loop-test in
-    let next-near = c.before.next-near in
-    let if1 = c.if1 in
-    let pre = c.before.before.before.before.before.before.before.before.before.before.before.before.before.before.before.before.before.before.requires in
+    let loop = c.loop-depth in
+    let test = c.loop-depth-test in
+    let next-near = c.next_near-next in
+    let if1 = c.if-next-eq0 in
+    let pre = c.requires in
     let i = comes_inside loop.invariant.0 test.true next-near.ensures if1.false pre.0.listed.points.few in
     simp length-set (omega (arith, i.point, i.place, i.frame, i.few, i.left_room))
 
-add-taken-2 : tie.Need-overflow-add-taken-2 invariant-loop decreases-loop
+add-taken-2 : tie.Need-overflow_add-taken-else-next-eq0 invariant-loop decreases-loop
 add-taken-2 c =
-    let loop = c.before.before.before.before.before.before.loop in
-    let test = c.before.before.before.before.before.loop-test in
-    let next-near = c.before.next-near in
-    let if1 = c.if1 in
-    let pre = c.before.before.before.before.before.before.before.before.before.before.before.before.before.before.before.before.before.before.requires in
+    let loop = c.loop-depth in
+    let test = c.loop-depth-test in
+    let next-near = c.next_near-next in
+    let if1 = c.if-next-eq0 in
+    let pre = c.requires in
     let i = comes_inside loop.invariant.0 test.true next-near.ensures if1.false pre.0.listed.points.few in
     omega (arith, i.point, i.place, i.frame, i.few)
 
-add-depth : tie.Need-overflow-add-depth invariant-loop decreases-loop
+add-depth : tie.Need-overflow_add-depth invariant-loop decreases-loop
 add-depth c =
-    let loop = c.before.before.before.before.before.before.loop in
-    let test = c.before.before.before.before.before.loop-test in
-    let next-near = c.before.next-near in
-    let if1 = c.if1 in
-    let pre = c.before.before.before.before.before.before.before.before.before.before.before.before.before.before.before.before.before.before.requires in
+    let loop = c.loop-depth in
+    let test = c.loop-depth-test in
+    let next-near = c.next_near-next in
+    let if1 = c.if-next-eq0 in
+    let pre = c.requires in
     let i = comes_inside loop.invariant.0 test.true next-near.ensures if1.false pre.0.listed.points.few in
     omega (arith, i.point, i.place, i.frame, i.few)
 
-loop-less-2 : tie.Need-loop-smaller-2 invariant-loop decreases-loop
+loop-less-2 : tie.Need-loop-depth-smaller invariant-loop decreases-loop
 loop-less-2 c =
-    let loop = c.before.before.before.before.before.before.loop in
-    let test = c.before.before.before.before.before.loop-test in
-    let next-near = c.before.next-near in
-    let if1 = c.if1 in
+    let loop = c.loop-depth in
+    let test = c.loop-depth-test in
+    let next-near = c.next_near-next in
+    let if1 = c.if-next-eq0 in
     comes_less loop.invariant.0 test.true next-near.ensures if1.false
 
-loop-again-2 : tie.Need-loop-preserved-2 invariant-loop decreases-loop
+loop-again-2 : tie.Need-loop-depth-preserved invariant-loop decreases-loop
 loop-again-2 c =
-    let loop = c.before.before.before.before.before.before.loop in
-    let test = c.before.before.before.before.before.loop-test in
-    let next-near = c.before.next-near in
-    let if1 = c.if1 in
-    let args = c.before.before.before.before.before.before.before.before.before.before.before.before.before.before.before.before.before.before.args in (
+    let loop = c.loop-depth in
+    let test = c.loop-depth-test in
+    let next-near = c.next_near-next in
+    let if1 = c.if-next-eq0 in
+    let args = c.args in (
       comes loop.invariant.0 test.true next-near.ensures if1.false,
       long_turns _ _ _ _ loop.order loop.seen loop.node loop.left loop.taken (next-near.result - 1) (loop.depth - 1) loop.depth args.n loop.invariant.1,
     )
 
-same_length : tie.Need-same-length invariant-loop decreases-loop
+same_length : tie.Need-shape_of-order invariant-loop decreases-loop
 same_length c =
-    let loop = c.before.loop in
+    let loop = c.loop-depth in
     loop.invariant.1.order_long ∙ simp length-set
 
-same-length-2 : tie.Need-same-length-2 invariant-loop decreases-loop
+same-length-2 : tie.Need-shape_of-seen invariant-loop decreases-loop
 same-length-2 c =
-    let loop = c.before.loop in
+    let loop = c.loop-depth in
     loop.invariant.1.seen_long ∙ simp length-set
 
-same-length-3 : tie.Need-same-length-3 invariant-loop decreases-loop
+same-length-3 : tie.Need-shape_of-node invariant-loop decreases-loop
 same-length-3 c =
-    let loop = c.before.loop in
+    let loop = c.loop-depth in
     loop.invariant.1.node_long ∙ simp length-set
 
-same-length-4 : tie.Need-same-length-4 invariant-loop decreases-loop
+same-length-4 : tie.Need-shape_of-left invariant-loop decreases-loop
 same-length-4 c =
-    let loop = c.before.loop in
+    let loop = c.loop-depth in
     loop.invariant.1.left_long ∙ simp length-set
 
 returns : tie.Need-returns invariant-loop decreases-loop
 returns c =
-    let loop = c.before.loop in
-    let test = c.loop-test in
-    let args = c.before.before.before.before.before.before.before.before.before.before.before.before.before.args in
+    let loop = c.loop-depth in
+    let test = c.loop-depth-test in
+    let args = c.args in
     record {
       taken = loop.invariant.0.held;
       lowest = loop.invariant.0.lowest;
@@ -290,8 +290,8 @@ returns c =
           (take-set-le args.done args.order.now args.done args.start (le_refl args.done));
     }
 
-pub create-component-spec : {M : Type 1} → statement M
-create-component-spec =
+pub create_component_spec : {M : Type 1} → statement M
+create_component_spec =
     tie.close
     (tie.spec
     invariant-loop
