@@ -52,6 +52,7 @@ has_own r (x ∷ l) h =
     (has_own r l (λ c e. h c (or_right (same_numbers c x) (has_corner l c) e)))
 
 passes : (p : Ring → Bool) (x : Ring) (l : List Ring) → every p l ≡ true → Memᴰ x l → p x ≡ true
+passes p x [] e x3 = elim x3 [ ]
 passes p x (y ∷ l) e (Memᴰ.head i) = ap p i ∙ and_left (p y) (every p l) e
 passes p x (y ∷ l) e (Memᴰ.tail m) = passes p x l (and_right (p y) (every p l) e) m
 
