@@ -1,17 +1,17 @@
 -- The rows of the call: columns of an accepted mesh can be sorted, and the marks of a scan over them are the first uses of the rules.
 -- Assumes nothing.
-use mathlib.Core.Path.{◌≡◌, refl, sym, ap, ap₂, ◌∙◌, subst}
+use mathlib.Core.Path.{◌≡◌, refl, sym, ap₂, ◌∙◌, subst}
 use mathlib.Core.Bool.{Bool, true, false}
 use mathlib.Core.List.{List, [], ◌∷◌, ◌++◌, map, map-map, map-append}
-use Prim.Native.Nat.{ℕ, suc, ◌/◌, ◌≤◌, ◌<◌}
+use Prim.Native.Nat.{ℕ, suc, ◌/◌, ◌≤◌}
 use native.Mathlib.Omega.{arith}
-use lib.ListN.{length, get_or, take, replicate, length-map}
+use lib.ListN.{length, get_or, take, replicate}
 use Rattle.lists.specs.Lists.{every}
 use Rattle.lists.proofs.Buckets.{length_front}
 use Rattle.mesh.specs.Limits.{width, corner_limit, corner_numbers}
 use Rattle.mesh.specs.Mesh.{Ring, rings}
 use Rattle.mesh.specs.Edges.{ring_edges}
-use Rattle.columns.specs.Keys.{key_of, face_keys, Use, uses_from, use_faces, no_use, FirstOf, FirstUses}
+use Rattle.columns.specs.Keys.{key_of, face_keys, Use, uses_from, use_faces, FirstUses}
 use Rattle.columns.specs.Columns.{Keyable, few_uses, FewRoom, chosen, entry_of, column, face_uses, Digits}
 use Rattle.keys.specs.Firsts.{KeyColumns, Plain, TwoRows, Marked}
 use Rattle.keys.proofs.Valid.{good_key, uses_good, faces_good, key_columns, key_plain, same_key, uses_corners}

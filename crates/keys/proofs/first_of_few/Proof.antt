@@ -5,39 +5,39 @@ use borrow.Author.Rules.{rules}
 use Rattle.keys.proofs.first_of_few.Statement.{statement}
 use Rattle.keys.proofs.first_of_few.Tie as tie
 
-array-borrow-prefix-lower : tie.Need-array-borrow-prefix-lower
+array-borrow-prefix-lower : tie.Need-slice_bounds-lower-end
 array-borrow-prefix-lower c = search rules
 
-slice-aggregate-first-uses-in : tie.Need-slice-aggregate-first-uses-in
-slice-aggregate-first-uses-in c = sym (few_row _ _ _ c.before.before.before.before.requires)
+slice-aggregate-first-uses-in : tie.Need-slice_bounds-first_uses_in-end
+slice-aggregate-first-uses-in c = sym (few_row _ _ _ c.requires)
 
-array-borrow-prefix-higher : tie.Need-array-borrow-prefix-higher
+array-borrow-prefix-higher : tie.Need-slice_bounds-higher-end
 array-borrow-prefix-higher c = search rules
 
-slice-aggregate-first-uses-in-2 : tie.Need-slice-aggregate-first-uses-in-2
-slice-aggregate-first-uses-in-2 c = sym (few_row _ _ _ c.before.before.before.before.before.requires)
+slice-aggregate-first-uses-in-2 : tie.Need-slice_bounds-first_uses_in-end-2
+slice-aggregate-first-uses-in-2 c = sym (few_row _ _ _ c.requires)
 
-array-borrow-prefix-n : tie.Need-array-borrow-prefix-n
+array-borrow-prefix-n : tie.Need-slice_bounds-n-end
 array-borrow-prefix-n c = search rules
 
-slice-aggregate-first-uses-in-3 : tie.Need-slice-aggregate-first-uses-in-3
-slice-aggregate-first-uses-in-3 c = sym (few_row _ _ _ c.before.before.before.before.before.before.requires)
+slice-aggregate-first-uses-in-3 : tie.Need-slice_bounds-first_uses_in-end-3
+slice-aggregate-first-uses-in-3 c = sym (few_row _ _ _ c.requires)
 
-array-borrow-prefix-m : tie.Need-array-borrow-prefix-m
+array-borrow-prefix-m : tie.Need-slice_bounds-m-end
 array-borrow-prefix-m c = search rules
 
-slice-aggregate-first-uses-in-4 : tie.Need-slice-aggregate-first-uses-in-4
-slice-aggregate-first-uses-in-4 c = sym (few_row _ _ _ c.before.before.before.before.before.before.before.requires)
+slice-aggregate-first-uses-in-4 : tie.Need-slice_bounds-first_uses_in-end-4
+slice-aggregate-first-uses-in-4 c = sym (few_row _ _ _ c.requires)
 
-array-borrow-prefix-order : tie.Need-array-borrow-prefix-order
+array-borrow-prefix-order : tie.Need-slice_bounds-order-end
 array-borrow-prefix-order c = search rules
 
-slice-aggregate-first-uses-in-5 : tie.Need-slice-aggregate-first-uses-in-5
-slice-aggregate-first-uses-in-5 c = sym (few_row _ _ _ c.before.before.before.before.before.before.before.before.requires)
+slice-aggregate-first-uses-in-5 : tie.Need-slice_bounds-first_uses_in-end-5
+slice-aggregate-first-uses-in-5 c = sym (few_row _ _ _ c.requires)
 
-first-uses-in-requires : tie.Need-first-uses-in-requires
+first-uses-in-requires : tie.Need-first_uses_in-requires
 first-uses-in-requires c κs =
-    let pre = c.before.before.before.before.before.before.before.before.before.requires in
+    let pre = c.requires in
     let row = few_row _ _ _ pre in
     record {
       keyable = pre.first.keyable;
@@ -49,14 +49,14 @@ first-uses-in-requires c κs =
       firsts_long = pre.first.room;
     }
 
-same_length : tie.Need-same-length
+same_length : tie.Need-shape_of-firsts
 same_length c = search rules
 
 returns : tie.Need-returns
-returns c = c.before.before.before.before.before.before.before.first-uses-in.ensures
+returns c = c.first_uses_in.ensures
 
-pub first-of-few-spec : {M : Type 1} → statement M
-first-of-few-spec =
+pub first_of_few_spec : {M : Type 1} → statement M
+first_of_few_spec =
     tie.close
     (tie.spec
     array-borrow-prefix-lower
