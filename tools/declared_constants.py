@@ -61,17 +61,17 @@ class Unreadable(Exception):
 LIMIT_PLACES = {
     "MISSING": ((LIMITS, r"^largest = (\d+)$"), (CONSTS, r"const LARGEST: u32 = (\d+);")),
     "CORNER_WIDTH": ((LIMITS, r"^width = (\d+)$"), (CONSTS, r"const WIDTH: usize = (\d+);")),
-    "MAX_ENTRIES": ((LIMITS, r"^entryLimit = (\d+)$"), (CONSTS, r"const ENTRIES: usize = (\d+);")),
-    "MAX_CORNERS": ((LIMITS, r"^cornerLimit = (\d+)$"), (CONSTS, r"const CORNERS: usize = (\d+);")),
-    "MAX_FACES": ((LIMITS, r"^faceLimit = (\d+)$"), (CONSTS, r"const FACES: usize = (\d+);")),
-    "MAX_FACE_CORNERS": ((LIMITS, r"^ringLimit = (\d+)$"), (CONSTS, r"const RING: usize = (\d+);")),
-    "COSINES": ((SMOOTHED, r"^cosineCount = (\d+)$"), (SMOOTHABLE, r"const COSINES: usize = (\d+);")),
-    "MAX_COORDINATE": ((DISTANCES, r"^coordinateLimit = (\d+)$"), (REACHING, r"^pub const COORDINATES: u64 = (\d+);$")),
+    "MAX_ENTRIES": ((LIMITS, r"^entry_limit = (\d+)$"), (CONSTS, r"const ENTRIES: usize = (\d+);")),
+    "MAX_CORNERS": ((LIMITS, r"^corner_limit = (\d+)$"), (CONSTS, r"const CORNERS: usize = (\d+);")),
+    "MAX_FACES": ((LIMITS, r"^face_limit = (\d+)$"), (CONSTS, r"const FACES: usize = (\d+);")),
+    "MAX_FACE_CORNERS": ((LIMITS, r"^ring_limit = (\d+)$"), (CONSTS, r"const RING: usize = (\d+);")),
+    "COSINES": ((SMOOTHED, r"^cosine_count = (\d+)$"), (SMOOTHABLE, r"const COSINES: usize = (\d+);")),
+    "MAX_COORDINATE": ((DISTANCES, r"^coordinate_limit = (\d+)$"), (REACHING, r"^pub const COORDINATES: u64 = (\d+);$")),
     "MAX_FILE": (
-        (SHEET, r"^fileLimit = (\d+)$"), (SHEET_CONSTS, r"const FILE: usize = (\d+);"),
-        (HEM_FILE, r"^fileLimit = (\d+)$"), (HEM_FILE_CONSTS, r"^pub const FILE: usize = (\d+);$"),
+        (SHEET, r"^file_limit = (\d+)$"), (SHEET_CONSTS, r"const FILE: usize = (\d+);"),
+        (HEM_FILE, r"^file_limit = (\d+)$"), (HEM_FILE_CONSTS, r"^pub const FILE: usize = (\d+);$"),
     ),
-    "SHEET_ROOM": ((LINES, r"^sheetRoom = (\d+)$"), (SHEET_CONSTS, r"const ROOM: usize = (\d+);")),
+    "SHEET_ROOM": ((LINES, r"^sheet_room = (\d+)$"), (SHEET_CONSTS, r"const ROOM: usize = (\d+);")),
 }
 
 # The mark of a missing index is the largest number, by its name: each place, and the name that must stand there.
@@ -79,61 +79,61 @@ MISSING_PLACES = ((MESH, r"^missing = (.*)$", "largest"), (CONSTS, r"const MISSI
 
 # A number of the table: its name behind BH_, its name in the wrapper, and the row that gives it.
 NUMBER_ROWS = {
-    ("OVER_LIMIT", "OverLimit"): (TABLE, r"when \(overLimits m\) (\d+)"),
+    ("OVER_LIMIT", "OverLimit"): (TABLE, r"when \(over_limits m\) (\d+)"),
     ("MISFIT", "Misfit"): (TABLE, r"when \(uneven m\) (\d+)"),
     ("FACE_SIZE", "FaceSize"): (TABLE, r"when \(misfit m\) (\d+)"),
     ("UNGROUPED", "Ungrouped"): (TABLE, r"when \(ungrouped m\) (\d+)"),
     ("INDEX", "Index"): (TABLE, r"when \(astray m\) (\d+)"),
     ("TOLERANCE", "Tolerance"): (MERGING, r"when \(unfit t\) (\d+)"),
-    ("COORDINATE", "Coordinate"): (MERGING, r"when \(anyBoundless m\) (\d+)"),
-    ("QUOTIENT", "Quotient"): (MERGING, r"when \(anyDistant m t\) (\d+)"),
-    ("ROOM", "Room"): (COMPACTION, r"when \(tooShort m r\) (\d+)"),
+    ("COORDINATE", "Coordinate"): (MERGING, r"when \(any_boundless m\) (\d+)"),
+    ("QUOTIENT", "Quotient"): (MERGING, r"when \(any_distant m t\) (\d+)"),
+    ("ROOM", "Room"): (COMPACTION, r"when \(too_short m r\) (\d+)"),
     ("NO_HOUSE_WIRES", "NoHouseWires"): (HOUSE, r"when \(unwired m\) (\d+)"),
-    ("FILE_CUT", "FileCut"): (RECORDS, r"when \(ltb \(length s - at\) headerLength\) (\d+)"),
-    ("RECORD", "Record"): (RECORDS, r"when \(ltb lastKind kind\) (\d+)"),
-    ("AFTER_END", "AfterEnd"): (READING, r"when \(ltb \(x \.at\) \(length s\)\) (\d+)"),
-    ("NOT_FINITE", "NotFinite"): (RECORDS, r"when \(not \(every finite \(valuesOf r\)\)\) (\d+)"),
-    ("NOT_TRIANGLE", "NotTriangle"): (SMOOTHED, r"when \(otherFace m\) (\d+)"),
-    ("FOLDED_OR_UNUSED", "FoldedOrUnused"): (SMOOTHED, r"when \(foldedOrIdle m\) (\d+)"),
-    ("UNFIT_COSINES", "UnfitCosines"): (SMOOTHED, r"when \(unfitCosines m ones twos\) (\d+)"),
+    ("FILE_CUT", "FileCut"): (RECORDS, r"when \(ltb \(length s - at\) header_length\) (\d+)"),
+    ("RECORD", "Record"): (RECORDS, r"when \(ltb last_kind kind\) (\d+)"),
+    ("AFTER_END", "AfterEnd"): (READING, r"when \(ltb x\.at \(length s\)\) (\d+)"),
+    ("NOT_FINITE", "NotFinite"): (RECORDS, r"when \(not \(every finite \(values_of r\)\)\) (\d+)"),
+    ("NOT_TRIANGLE", "NotTriangle"): (SMOOTHED, r"when \(other_face m\) (\d+)"),
+    ("FOLDED_OR_UNUSED", "FoldedOrUnused"): (SMOOTHED, r"when \(folded_or_idle m\) (\d+)"),
+    ("UNFIT_COSINES", "UnfitCosines"): (SMOOTHED, r"when \(unfit_cosines m ones twos\) (\d+)"),
     ("TRIPLES", "Triples"): (HEM_LIST, r"when \(unmatched m cs\) (\d+)"),
-    ("TOO_FAR", "TooFar"): (HEM_LIST, r"when \(beyondReach cs\) (\d+)"),
+    ("TOO_FAR", "TooFar"): (HEM_LIST, r"when \(beyond_reach cs\) (\d+)"),
 }
 # The rows of other calls that give one of these numbers too, by a rule of their own.
 OTHER_ROWS = (
-    ("NOT_FINITE", SAVING, r"when \(not \(finiteMesh m\)\) (\d+)"),
-    ("COORDINATE", SMOOTHED, r"when \(boundlessPosition m\) (\d+)"),
+    ("NOT_FINITE", SAVING, r"when \(not \(finite_mesh m\)\) (\d+)"),
+    ("COORDINATE", SMOOTHED, r"when \(boundless_position m\) (\d+)"),
     ("NO_HOUSE_WIRES", SMOOTHED, r"when \(unoriented m\) (\d+)"),
-    ("OVER_LIMIT", SMOOTHED, r"when \(overLimits \(resultOf m ones twos\)\) (\d+)"),
-    ("ROOM", SMOOTHED, r"when \(tooShort m r\) (\d+)"),
-    ("FILE_CUT", SCAN, r"when \(ltb \(length s\) frontBytes\) (\d+)"),
-    ("OVER_LIMIT", SCAN, r"when \(ltb faceLimit \(scanCount s\)\) (\d+)"),
-    ("FILE_CUT", SCAN, r"when \(ltb \(length s\) \(scanLength \(scanCount s\)\)\) (\d+)"),
-    ("AFTER_END", SCAN, r"when \(ltb \(scanLength \(scanCount s\)\) \(length s\)\) (\d+)"),
-    ("NOT_FINITE", SCAN, r"when \(some notFinite ps\) (\d+)"),
-    ("OVER_LIMIT", SCAN, r"when \(ltb entryLimit \(length \(firstUses ps\)\)\) (\d+)"),
+    ("OVER_LIMIT", SMOOTHED, r"when \(over_limits \(result_of m ones twos\)\) (\d+)"),
+    ("ROOM", SMOOTHED, r"when \(too_short m r\) (\d+)"),
+    ("FILE_CUT", SCAN, r"when \(ltb \(length s\) front_bytes\) (\d+)"),
+    ("OVER_LIMIT", SCAN, r"when \(ltb face_limit \(scan_count s\)\) (\d+)"),
+    ("FILE_CUT", SCAN, r"when \(ltb \(length s\) \(scan_length \(scan_count s\)\)\) (\d+)"),
+    ("AFTER_END", SCAN, r"when \(ltb \(scan_length \(scan_count s\)\) \(length s\)\) (\d+)"),
+    ("NOT_FINITE", SCAN, r"when \(some not_finite ps\) (\d+)"),
+    ("OVER_LIMIT", SCAN, r"when \(ltb entry_limit \(length \(first_uses ps\)\)\) (\d+)"),
     ("ROOM", SCAN, r"when \(short rooms\) (\d+)"),
-    ("ROOM", HEM_LIST, r"when \(listShort m panels edges lengths\) (\d+)"),
+    ("ROOM", HEM_LIST, r"when \(list_short m panels edges lengths\) (\d+)"),
     ("NO_HOUSE_WIRES", HEM_LIST, r"when \(unwired m\) (\d+)"),
-    ("OVER_LIMIT", HEM_FILE, r"when \(ltb fileLimit \(length file\)\) (\d+)"),
-    ("FILE_CUT", HEM_FILE, r"when \(ltb \(length file\) countBytes\) (\d+)"),
-    ("FILE_CUT", HEM_FILE, r"when \(ltb \(length file\) \(countBytes \+ panelCount file\)\) (\d+)"),
-    ("TRIPLES", HEM_FILE, r"when \(astrayTriples .*\) (\d+)$"),
-    ("TOO_FAR", HEM_FILE, r"when \(beyondReach .*\) (\d+)$"),
+    ("OVER_LIMIT", HEM_FILE, r"when \(ltb file_limit \(length file\)\) (\d+)"),
+    ("FILE_CUT", HEM_FILE, r"when \(ltb \(length file\) count_bytes\) (\d+)"),
+    ("FILE_CUT", HEM_FILE, r"when \(ltb \(length file\) \(count_bytes \+ panel_count file\)\) (\d+)"),
+    ("TRIPLES", HEM_FILE, r"when \(astray_triples .*\) (\d+)$"),
+    ("TOO_FAR", HEM_FILE, r"when \(beyond_reach .*\) (\d+)$"),
     ("NO_HOUSE_WIRES", HEM_FILE, r"when \(unwired .*\) (\d+)$"),
-    ("ROOM", HEM_FILE, r"when \(short \(lent room hemRoom ∷ \[\]\)\) (\d+)"),
+    ("ROOM", HEM_FILE, r"when \(short \(lent room hem_room ∷ \[\]\)\) (\d+)"),
     ("ROOM", IN_PLACE, r"when \(short \(lent \(length numbers\) \(longest m\) ∷ \[\]\)\) (\d+)"),
 )
 # The record of a face, which no limit of the interface has: the bytes of its header, of its count and of a corner, in each kind, and the most corners of
 # kind 4; by the rules, by the code, and by the wrapper, which has room for it.
-FACE_RECORD = ("headerLength", "wideCount", "markedLength", "byteFaceLimit", "headerLength", "wideCount", "cornerLength", "headerLength", "byteCount", "cornerLength")
+FACE_RECORD = ("header_length", "wide_count", "marked_length", "byte_face_limit", "header_length", "wide_count", "corner_length", "header_length", "byte_count", "corner_length")
 FACE_CODE = {
-    "headerLength": "HEADER_LENGTH",
-    "byteCount": "BYTE_COUNT",
-    "wideCount": "WIDE_COUNT",
-    "cornerLength": "CORNER_LENGTH",
-    "markedLength": "MARKED_LENGTH",
-    "byteFaceLimit": "BYTE_FACE",
+    "header_length": "HEADER_LENGTH",
+    "byte_count": "BYTE_COUNT",
+    "wide_count": "WIDE_COUNT",
+    "corner_length": "CORNER_LENGTH",
+    "marked_length": "MARKED_LENGTH",
+    "byte_face_limit": "BYTE_FACE",
 }
 FACE_OF_WRAPPER = (
     r"fn face_length\(n: usize, is_marked: bool\) -> usize \{\n    match is_marked \{\n        true => (\d+) \+ (\d+) \+ (\d+) \* n,\n"
@@ -141,10 +141,10 @@ FACE_OF_WRAPPER = (
 )
 # What the rules say of that length, in words.
 FACE_RULES = (
-    (r"^faceBytes f = (.*)$", "headerLength + bodyLength (withMarks f) (length f)"),
-    (r"^withMarks f = (.*)$", "anyMark f"),
-    (r"^bodyLength marked n = (.*)$", "countLength (wide marked n) + cornerSize marked * n"),
-    (r"^wide marked n = (.*)$", "marked || ltb byteFaceLimit n"),
+    (r"^face_bytes f = (.*)$", "header_length + body_length (with_marks f) (length f)"),
+    (r"^with_marks f = (.*)$", "any_mark f"),
+    (r"^body_length marked n = (.*)$", "count_length (wide marked n) + corner_size marked * n"),
+    (r"^wide marked n = (.*)$", "marked || ltb byte_face_limit n"),
 )
 # Where it is said how many numbers there are, 0 among them.
 COUNTS = {path: r"^(?:pub )?const NUMBERS: \w+ = (\d+);$" for path in (REPLAY, DAMAGED, ORACLE)}
@@ -152,24 +152,24 @@ VERDICTS = ("Irregular", "Regular", "Oriented", "Closed")
 
 # The rule that has the stated room of each list that a call is lent, in the order of its parameters.
 ROOM_RULES = {
-    "bh_push": (FACES, "tooShort"),
-    "bh_remove_unused_attrs": (COMPACTION, "tooShort"),
-    "bh_compact_in_place": (IN_PLACE, "inPlaceNumber"),
-    "bh_remove_degenerate_faces": (FOLDED, "tooShort"),
-    "bh_put_together_same_attrs": (MERGING, "mergeNumber"),
-    "bh_put_together_by_cell": (MERGING, "mergeNumber"),
-    "bh_loop_subdivision": (SMOOTHED, "tooShort"),
-    "bh_hem_edges": (EDGES, "hemNumber"),
-    "bh_extract_boundaries": (PORTED, "portedShort"),
-    "bh_house_wires": (HOUSE, "houseShort"),
-    "bh_components": (PANELS, "componentsNumber"),
-    "bh_read_panel": (READING, "fullRoom"),
-    "bh_read_scan": (READING, "fullRoom"),
-    "bh_write_panel": (SAVING, "savingNumber"),
-    "bh_clean_panel": (CLEANING, "cleaningNumber"),
-    "bh_sheet": (SHEET, "sheetNumber"),
-    "bh_list_hems": (HEM_LIST, "listShort"),
-    "bh_hem_sheet": (HEM_FILE, "hemSheetNumber"),
+    "bh_push": (FACES, "too_short"),
+    "bh_remove_unused_attrs": (COMPACTION, "too_short"),
+    "bh_compact_in_place": (IN_PLACE, "in_place_number"),
+    "bh_remove_degenerate_faces": (FOLDED, "too_short"),
+    "bh_put_together_same_attrs": (MERGING, "merge_number"),
+    "bh_put_together_by_cell": (MERGING, "merge_number"),
+    "bh_loop_subdivision": (SMOOTHED, "too_short"),
+    "bh_hem_edges": (EDGES, "hem_number"),
+    "bh_extract_boundaries": (PORTED, "ported_short"),
+    "bh_house_wires": (HOUSE, "house_short"),
+    "bh_components": (PANELS, "components_number"),
+    "bh_read_panel": (READING, "full_room"),
+    "bh_read_scan": (READING, "full_room"),
+    "bh_write_panel": (SAVING, "saving_number"),
+    "bh_clean_panel": (CLEANING, "cleaning_number"),
+    "bh_sheet": (SHEET, "sheet_number"),
+    "bh_list_hems": (HEM_LIST, "list_short"),
+    "bh_hem_sheet": (HEM_FILE, "hem_sheet_number"),
 }
 # The lists of the mesh itself that a call changes where they stand: each has the length that it has, and no stated room. They come first.
 CHANGED = {"bh_compact_in_place": ("positions", "textures", "normals", "corners")}
@@ -206,9 +206,9 @@ def limits_of(texts):
 def longest_file(texts, limits):
     """How long the longest file is, which the rules and the code each say by the other limits."""
     numbers = limits["MAX_CORNERS"] * only_one(texts, LIMITS, r"^width = (\d+)$")
-    rules = {"entryLimit": limits["MAX_ENTRIES"], "faceLimit": limits["MAX_FACES"], "cornerNumbers": numbers}
+    rules = {"entry_limit": limits["MAX_ENTRIES"], "face_limit": limits["MAX_FACES"], "corner_numbers": numbers}
     code = {"ENTRIES": limits["MAX_ENTRIES"], "FACES": limits["MAX_FACES"], "CORNER_NUMBERS": numbers}
-    said = value(words_at(texts, PIECES, r"^fileLimit = (.*)$"), rules)
+    said = value(words_at(texts, PIECES, r"^file_limit = (.*)$"), rules)
     if said != value(words_at(texts, WRITER, r"^pub const FILE: usize = (.*);$").replace("mesh::", ""), code):
         raise Unreadable("FILE_ROOM: the code and its rules differ")
     return said
@@ -216,9 +216,9 @@ def longest_file(texts, limits):
 
 def hem_room(texts, limits):
     """How much room every hem sheet has, which the rules and the code each say by the most corners and the longest line."""
-    rules = {"lineRoom": only_one(texts, HEM_TEXT, r"^lineRoom = (\d+)$"), "cornerLimit": limits["MAX_CORNERS"]}
+    rules = {"line_room": only_one(texts, HEM_TEXT, r"^line_room = (\d+)$"), "corner_limit": limits["MAX_CORNERS"]}
     code = {"LINE_ROOM": only_one(texts, HEM_TEXT_CONSTS, r"^const LINE_ROOM: usize = (\d+);$"), "CORNERS": limits["MAX_CORNERS"]}
-    said = value(words_at(texts, HEM_TEXT, r"^hemRoom = (.*)$"), rules)
+    said = value(words_at(texts, HEM_TEXT, r"^hem_room = (.*)$"), rules)
     if said != value(words_at(texts, HEM_TEXT_CONSTS, r"^pub const ROOM: usize = (.*);$").replace("mesh::", ""), code):
         raise Unreadable("HEM_ROOM: the code and its rules differ")
     return said
@@ -240,7 +240,7 @@ def counts_in(texts):
 
 
 def verdicts_of(texts):
-    return {name: only_one(texts, ANSWERS, rf"^verdictNumber Verdict\.{name} = (\d+)$") for name in VERDICTS}
+    return {name: only_one(texts, ANSWERS, rf"^verdict_number Verdict\.{name} = (\d+)$") for name in VERDICTS}
 
 
 # ---- rooms: an expression of the rules and one of the wrapper are the same where they are so on these meshes; 'facebytes' is how many bytes the faces have
@@ -289,14 +289,14 @@ def rooms_of_rule(text, name):
     for behind in re.split(r"\blent ", found[1])[1:]:
         _, rest = term(behind)
         room, _ = term(rest)
-        list_of = r"\b(?:length|cornerCount) \((?:m|given) \.(\w+)\)"
-        rooms.append(counted(re.sub(list_of, lambda w: f"({w[1]} / width)" if "cornerCount" in w[0] else w[1], room)))
+        list_of = r"\b(?:length|corner_count) (?:m|given)\.(\w+)"
+        rooms.append(counted(re.sub(list_of, lambda w: f"({w[1]} / width)" if "corner_count" in w[0] else w[1], room)))
     return rooms
 
 
 def counted(words):
     """The counts of a mesh's entries in this tool's words."""
-    counts = {"positionCount m": "(positions / 3)", "textureCount m": "(textures / 2)", "normalCount m": "(normals / 3)"}
+    counts = {"position_count m": "(positions / 3)", "texture_count m": "(textures / 2)", "normal_count m": "(normals / 3)"}
     for rule, count in counts.items():
         words = words.replace(rule, count)
     return words
@@ -304,16 +304,16 @@ def counted(words):
 
 def file_length(texts):
     """How long the whole file of a mesh is, by the rules, in this tool's words."""
-    words = counted(words_at(texts, PIECES, r"^fileLength m =\s+(.*)$")).replace("sum (map faceBytes (faces m))", "facebytes")
+    words = counted(words_at(texts, PIECES, r"^file_length m =\s+(.*)$")).replace("sum (map face_bytes (faces m))", "facebytes")
     if any(words_at(texts, PIECES, pattern) != said for pattern, said in FACE_RULES):
         raise Unreadable("how long the record of a face is")
-    return re.sub(r"\blength \(m \.(\w+)\)", r"\1", words)
+    return re.sub(r"\blength m\.(\w+)", r"\1", words)
 
 
 def rooms_in(texts):
     """Each call's stated rooms."""
     stated = {call: rooms_of_rule(texts[path], name) for call, (path, name) in ROOM_RULES.items()}
-    known = {"fileLength m": file_length(texts), "longest m": f"max({counted(', '.join(words_at(texts, IN_PLACE, LONGEST)))})"}
+    known = {"file_length m": file_length(texts), "longest m": f"max({counted(', '.join(words_at(texts, IN_PLACE, LONGEST)))})"}
     for rule, room in known.items():
         stated = {call: [words.replace(rule, room) for words in rooms] for call, rooms in stated.items()}
     return {call: [*CHANGED.get(call, ()), *rooms] for call, rooms in stated.items()}

@@ -3,7 +3,7 @@
 use crate::cases::Outcome;
 
 // How many numbers the table has, from 0 on.
-const NUMBERS: u32 = 18;
+const NUMBERS: u32 = 20;
 
 // A row for each kind of record up to the last call's, and one for compaction in place; those of a mesh, of a file and of cosines are no calls,
 // so row 0 is for all of them, and rows 12 and 17 stay empty.
