@@ -6,7 +6,7 @@ use Prim.Native.Nat.{ℕ, zero, suc, ◌+◌, ◌-◌, ◌*◌, ◌≤◌, ◌<�
 use native.Mathlib.Omega.{arith}
 use native.Mathlib.Numerals.{add-one}
 use lib.IntN.{pos}
-use lib.ListN.{length, get_or, take, replicate}
+use lib.ListN.{length, get_or, replicate}
 use lib.Seq.{slice, slice_empty, slice-cons, length-slice}
 use lib.Ieee.{Float, binary64, add, div, lt, of_bits, of_int}
 use Rattle.floating.specs.Points.{point, leading, row}

@@ -2,7 +2,7 @@
 -- other; and what a point becomes is a point of its own group. Assumes nothing.
 use mathlib.Core.Path.{◌≡◌, refl, sym, ◌∙◌, subst}
 use mathlib.Core.Logic.{⊎_elim}
-use mathlib.Core.Bool.{Bool, true, false, cond, ◌&&◌}
+use mathlib.Core.Bool.{Bool, true, false, cond, ◌&&◌, ◌||◌}
 use mathlib.Core.List.{List, [], ◌∷◌}
 use Prim.Native.Nat.{ℕ, ◌/◌, ◌<◌}
 use native.Mathlib.Omega.{arith}
@@ -22,7 +22,7 @@ use Rattle.nearby.specs.Walk.{groups}
 use Rattle.nearby.proofs.Both.{near_both}
 use Rattle.nearby.specs.Promises.{Near, ConnectedSets}
 use Rattle.nearby.proofs.Connected.{groups_connected}
-use Rattle.together.specs.Centre.{Best, best, centre_of, closest, representative, sent_to}
+use Rattle.together.specs.Centre.{Best, best, centre_of, closest, pick, representative, sent_to}
 use Rattle.together.specs.Merging.{merged_to}
 use Rattle.together.specs.Promises.{ChainedBecomeOne, OnlyChainedBecomeOne}
 
@@ -60,10 +60,14 @@ module _ (w : ℕ) (s : List Float) where
   unfolding sent_to
   sent_in [] i h = h
   sent_in (g ∷ gs) i h =
+      let s_in : Bool → Type 0 = λ (b : Bool).
+      ((b && has (pick b (representative w s g) (sent_to w s gs i)) g)
+      || together i (pick b (representative w s g) (sent_to w s gs i)) gs)
+      ≡ true in
       by_cases
       (has i g)
-      (λ e. rw e (or_left (has (representative w s g) g) (together i (representative w s g) gs) (representative_in i g e)))
-      (λ e. rw e (sent_in gs i (⊎_elim (λ p. clash p e) (λ p. p) (in_append i g (joined gs) h))))
+      (λ e. subst s_in (sym e) (or_left (has (representative w s g) g) (together i (representative w s g) gs) (representative_in i g e)))
+      (λ e. subst s_in (sym e) (sent_in gs i (⊎_elim (λ p. clash p e) (λ p. p) (in_append i g (joined gs) h))))
 
   -- both of two that stand together stand in the lists
   both_in : (gs : List (List ℕ)) (i j : ℕ) → together i j gs ≡ true → In i (joined gs) × In j (joined gs)

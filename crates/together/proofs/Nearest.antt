@@ -2,18 +2,18 @@
 -- most, each of at most 2^60 on each axis, so nothing on the way grows too large. Assumes nothing.
 use mathlib.Core.Path.{◌≡◌, refl, sym, ap, ◌∙◌, subst}
 use mathlib.Core.Logic.{◌⊎◌, ⊎_elim, inl, inr}
-use mathlib.Core.Bool.{Bool, true, false, ◌&&◌, cond}
+use mathlib.Core.Bool.{Bool, true, false, cond}
 use mathlib.Core.List.{List, [], ◌∷◌, ◌++◌, map}
-use Prim.Native.Nat.{ℕ, zero, suc, ◌+◌, ◌*◌, ◌/◌, ◌≤◌, ◌<◌}
-use native.Mathlib.Nat.{le_refl, le_trans, mul-le-mul_right}
+use Prim.Native.Nat.{ℕ, zero, suc, ◌+◌, ◌*◌, ◌≤◌, ◌<◌}
+use native.Mathlib.Nat.{le_refl, mul-le-mul_right}
 use native.Mathlib.Omega.{arith}
-use lib.Dec.{T, eqb, ltb, lit≤, lit<}
-use lib.ListN.{length, get_or, take, drop, length-take, replicate}
-use lib.Ieee.{Float, nan, binary64, add, div, lt}
+use lib.Dec.{ltb, lit≤, lit<}
+use lib.ListN.{length, take, drop, length-take, replicate}
+use lib.Ieee.{Float, binary64, div, lt}
 use borrow.Author.Tests.{lt-ltb, le-ltb, ltb-true, ltb-false}
 use Rattle.lists.specs.Lists.{has}
-use Rattle.lists.proofs.Bools.{by_cases, true_false}
-use Rattle.lists.proofs.Members.{In, in_cases, in_head, in_tail}
+use Rattle.lists.proofs.Bools.{true_false}
+use Rattle.lists.proofs.Members.{In, in_cases}
 use Rattle.mesh.specs.Limits.{entry_limit}
 use Rattle.floating.specs.Points.{row}
 use Rattle.floating.specs.Near.{nought, squared}

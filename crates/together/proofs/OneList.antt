@@ -1,18 +1,18 @@
 -- One list, from its coordinates to the numbers that it earns: the engine's answers are the rules'. Assumes nothing.
-use mathlib.Core.Path.{◌≡◌, refl, sym, ap, ◌∙◌, subst}
-use mathlib.Core.Bool.{Bool, true, false}
-use mathlib.Core.List.{List, [], ◌∷◌, ◌++◌}
-use Prim.Native.Nat.{ℕ, zero, suc, ◌+◌, ◌*◌, ◌/◌, ◌≤◌, ◌<◌}
+use mathlib.Core.Path.{◌≡◌, sym, ap, ◌∙◌, subst}
+use mathlib.Core.Bool.{Bool}
+use mathlib.Core.List.{List}
+use Prim.Native.Nat.{ℕ, ◌*◌, ◌/◌, ◌≤◌}
 use native.Mathlib.Nat.{mul-le-mul, mul_comm, mul-div_cancel}
 use native.Mathlib.Omega.{arith}
-use lib.ListN.{length, get_or, take, drop}
+use lib.ListN.{length, take, drop}
 use lib.Seq.{sets, take_at}
 use lib.Ieee.{Float}
 use Rattle.lists.proofs.Writing.{sets_front}
 use Rattle.mesh.specs.Limits.{entry_limit, point_numbers}
 use Rattle.nearby.specs.Pairs.{pairs, compared_at, near_at, compared_pairs}
 use Rattle.nearby.specs.Walk.{groups}
-use Rattle.nearby.specs.Engine.{cells_of, beside_at, near_by, Points, Listed}
+use Rattle.nearby.specs.Engine.{cells_of, beside_at, near_by, Listed}
 use Rattle.nearby.proofs.Agree.{length_cells, cells_small, beside_agrees, near_agrees}
 use Rattle.together.specs.Centre.{sent_to}
 use Rattle.together.specs.Merging.{merged_to}

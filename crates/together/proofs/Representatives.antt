@@ -1,30 +1,27 @@
 -- The promise on representatives, of every group of a mesh that is merged: each group has a point, and 2,048 at most. Assumes nothing.
-use mathlib.Core.Path.{◌≡◌, refl, sym, ap, ◌∙◌, subst}
-use mathlib.Core.Bool.{Bool, true, false}
-use mathlib.Core.List.{List, [], ◌∷◌, ◌++◌}
-use Prim.Native.Nat.{ℕ, zero, suc, ◌+◌, ◌*◌, ◌/◌, ◌≤◌, ◌<◌}
+use mathlib.Core.Path.{◌≡◌, sym}
+use mathlib.Core.Bool.{true}
+use mathlib.Core.List.{List, [], ◌∷◌}
+use Prim.Native.Nat.{ℕ, zero, suc, ◌/◌, ◌≤◌}
 use native.Mathlib.Omega.{arith}
-use lib.Dec.{T, eqb, ltb, lit≤}
+use lib.Dec.{eqb, ltb, lit≤}
 use lib.ListN.{length, get_or, length-append}
 use lib.Ieee.{Float}
 use borrow.Author.Tests.{lt-ltb}
-use Rattle.lists.specs.Lists.{every, has, joined, count}
+use Rattle.lists.specs.Lists.{has, joined, count}
 use Rattle.lists.proofs.Bools.{by_cases, true_false}
 use Rattle.lists.proofs.Counting.{count_none}
 use Rattle.lists.proofs.Members.{Once}
 use Rattle.lists.proofs.Others.{has_every, once_few}
 use Rattle.lists.proofs.Parts.{every_at}
 use Rattle.mesh.specs.Limits.{entry_limit}
-use Rattle.mesh.specs.Mesh.{Mesh}
 use Rattle.mesh.proofs.Accepted.{Accepted, accepted}
-use Rattle.floating.specs.Limits.{boundless}
 use Rattle.floating.specs.Scaling.{scaled_list}
 use Rattle.floating.proofs.InBox.{All, scaled_upto, list_upto}
 use Rattle.nearby.specs.Pairs.{near_at}
 use Rattle.nearby.specs.Walk.{groups}
 use Rattle.nearby.specs.Promises.{ConnectedSets, lowest_first}
 use Rattle.nearby.proofs.Connected.{groups_connected}
-use Rattle.together.specs.Merging.{merge_number}
 use Rattle.together.specs.Nearest.{NearestFirst, InEachGroup, RepresentativesAreNearest}
 use Rattle.together.proofs.Numbers.{clear, positions_bounded, textures_bounded, normals_bounded}
 use Rattle.together.proofs.Scaling.{scaled_length}

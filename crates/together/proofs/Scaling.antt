@@ -1,17 +1,15 @@
 -- Positions, scaled and merged: what the scaled list is good for. Assumes nothing.
 use mathlib.Core.Path.{◌≡◌, refl, sym, ap, ◌∙◌, subst}
-use mathlib.Core.Bool.{Bool, true, false}
 use mathlib.Core.List.{List, [], ◌∷◌, map}
-use Prim.Native.Nat.{ℕ, zero, suc, ◌+◌, ◌*◌, ◌/◌, ◌%◌, ◌≤◌, ◌<◌}
+use Prim.Native.Nat.{ℕ, suc, ◌*◌, ◌/◌, ◌%◌, ◌≤◌, ◌<◌}
 use native.Mathlib.Omega.{arith}
 use lib.Dec.{T, lit≤}
 use lib.ListN.{length, get_or, take, length-map}
 use lib.Seq.{sets}
 use lib.Ieee.{Float, nan, binary64, fits}
-use Rattle.lists.specs.Lists.{some, each}
+use Rattle.lists.specs.Lists.{each}
 use Rattle.lists.proofs.Copies.{take_written}
 use Rattle.mesh.specs.Limits.{point_numbers}
-use Rattle.floating.specs.Limits.{unfit, boundless, distant}
 use Rattle.floating.specs.Points.{coordinates, points_of, Whole}
 use Rattle.floating.specs.Scaling.{box_of, scaled_in, scaled_list}
 use Rattle.floating.proofs.Boxes.{length_points, length_coordinates}

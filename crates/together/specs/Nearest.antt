@@ -1,6 +1,6 @@
 -- What is promised of representatives: in a mesh that is merged, every distance of a group's point to its centre is a finite number,
 -- no point is nearer than the representative, and those before it in walk order are farther. Assumes nothing.
-use Rattle.std.specs.Prelude.{◌≡◌, Bool, true, false, List, [], ◌∷◌, ◌++◌, ℕ, ◌/◌, ◌<◌, length, get_or, Float}
+use Rattle.std.specs.Prelude.{◌≡◌, true, false, List, [], ◌∷◌, ◌++◌, ℕ, ◌/◌, ◌<◌, length, get_or, Float}
 use Rattle.std.specs.Float.Ieee.{lt}
 use Rattle.std.specs.Float.Ieee.Scale as scale
 use Rattle.lists.specs.Lists.{has}

@@ -1,12 +1,11 @@
 -- What the functions under the call ask and leave, for one list. Assumes nothing.
-use Rattle.std.specs.Prelude.{◌≡◌, Bool, true, false, List, [], ◌∷◌, ℕ, ◌+◌, ◌*◌, ◌/◌, ◌%◌, ◌≤◌, ◌<◌, length, get_or, Float}
-use Rattle.std.proofs.Math.Seq.{slice}
+use Rattle.std.specs.Prelude.{◌≡◌, true, false, List, [], ◌∷◌, ℕ, ◌+◌, ◌*◌, ◌/◌, ◌%◌, ◌≤◌, ◌<◌, length, get_or, Float}
 use Rattle.lists.specs.Lists.{some, has}
 use Rattle.mesh.specs.Limits.{width, entry_limit, point_numbers, corner_numbers}
 use Rattle.mesh.specs.Mesh.{Corner, position, texture, normal, mark, missing}
 use Rattle.floating.specs.Limits.{unfit, boundless, distant}
 use Rattle.nearby.specs.Engine.{Laid}
-use Rattle.together.specs.Centre.{representative, sent_to}
+use Rattle.together.specs.Centre.{representative}
 use Rattle.together.specs.Merging.{unless_missing}
 
 -- n points of width w in the list s, and a group of them at the places from `from` to below `to` of `order`
