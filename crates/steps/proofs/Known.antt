@@ -1,13 +1,11 @@
 -- The steps over an answer that is known by an equation, as a function that took the answer apart knows it. Assumes nothing.
 use mathlib.Core.Path.{◌≡◌, sym, ap, ◌∙◌}
 use mathlib.Core.Bool.{Bool}
-use mathlib.Core.List.{List, [], ◌∷◌}
+use mathlib.Core.List.{List}
 use Prim.Native.Nat.{ℕ, ◌+◌, ◌*◌, ◌≤◌, ◌<◌}
 use native.Mathlib.Numerals.{add-one}
 use lib.ListN.{length, set}
 use lib.Seq.{sets}
-use types.Run.{OneOf}
-use denote.Enum.Declared.{tag_of}
 use lib.Ieee.{Float}
 use Rattle.lists.specs.Lists.{joined}
 use Rattle.mesh.specs.Limits.{width, entry_limit, corner_limit, face_limit, point_numbers, texel_numbers, corner_numbers}
@@ -19,7 +17,6 @@ use Rattle.records.specs.declared.Record.{Record}
 use Rattle.records.specs.declared.Record.TheVariants.{Position, Texture, Normal, Face, End, Refused}
 use Rattle.records.specs.Lengths.{corner_size}
 use Rattle.records.specs.Records.{ring_from, number_of}
-use Rattle.records.specs.contracts.Record.{the_type}
 use Rattle.steps.specs.declared.Progress.{Progress}
 use Rattle.steps.specs.Working.{case_of, stopped_with, Able, Stepped}
 use Rattle.steps.proofs.Positions.{at_position, position_over, position_taken}
@@ -35,7 +32,7 @@ module _ (file : List ℕ) (r : Record) (x : Progress) (l : Mesh) where
   end_step size a e n = rw e (end_taken file x l (rw (e, ← n) at a))
 
   pub refusal_step :
-      (size : ℕ) (y : Progress) (k : ℕ) → Able size r x → 4 ≤ case_of r → OneOf (0 ∷ 1 ∷ 2 ∷ 3 ∷ 5 ∷ []) (tag_of the_type r)
+      (size : ℕ) (y : Progress) (k : ℕ) → Able size r x → 4 ≤ case_of r → (r ≡ End → ⊥)
       → k ≡ number_of r → y ≡ stopped_with x k → length file ≡ size → Stepped file r x y l l
   refusal_step size y k a h o e f n =
       let i : r ≡ Refused k = not_end r h o ∙ ap Refused (sym e) in

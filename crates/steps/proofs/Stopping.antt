@@ -9,7 +9,7 @@ use Rattle.mesh.specs.Mesh.{Mesh}
 use Rattle.records.specs.declared.Record.{Record}
 use Rattle.steps.specs.declared.Progress.{Progress}
 use Rattle.steps.specs.Taking.{Reader, reader, limited, take_record}
-use Rattle.steps.specs.Working.{stopped_with, Within, Able, Holds, Stepped}
+use Rattle.steps.specs.Working.{stopped_with, Able, Holds, Stepped}
 
 stopped :
     (z : Reader) (x : Progress) (k : ℕ) (l : Mesh) → x.ended ≡ false → Holds z x l

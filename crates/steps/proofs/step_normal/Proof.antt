@@ -11,59 +11,59 @@ use borrow.Author.Rules.{rules}
 use Rattle.steps.proofs.step_normal.Statement.{statement}
 use Rattle.steps.proofs.step_normal.Tie as tie
 
-enum-known-r : tie.Need-enum-known-r
+enum-known-r : tie.Need-enum_known-r
 enum-known-r c = search rules
 
-step-face-requires : tie.Need-step-face-requires
+step-face-requires : tie.Need-step_face-requires
 step-face-requires c κs =
-    let at-match = c.before.before in
-    let start = at-match.before.before.before.before.before in
-    (start.requires.0, (after_normal start.args.r start.requires.1.0 at-match.match.keys2, start.requires.1.1.1))
+    let at-match = c in
+    let start = c in
+    (start.requires.0, (after_normal start.args.r start.requires.1.0 at-match.in_default.not-Normal, start.requires.1.1.1))
 
-same_length : tie.Need-same-length
+same_length : tie.Need-shape_of-corners-in_default
 same_length c = search rules
 
-same-length-2 : tie.Need-same-length-2
+same-length-2 : tie.Need-shape_of-sizes-in_default
 same-length-2 c = search rules
 
-returns : tie.Need-returns
-returns c = λ p t. c.before.before.before.before.step-face.ensures p t _
+returns : tie.Need-returns-in_default
+returns c = λ p t. c.step_face.ensures p t _
 
 refused-requires : tie.Need-refused-requires
 refused-requires c κs = search rules
 
-returns-2 : tie.Need-returns-2
+returns-2 : tie.Need-returns-then-k-ge-ENTRIES
 returns-2 c =
-    let at-if1 = c.before in
-    let at-r = at-if1.before.before in
-    let start = at-r.before.before.before.before.before.before in
-    λ p t. normal_stop _ _ _ _ start.requires.0 _ at-r.r.given.1 start.requires.1.1.0 at-if1.if1.true _ c.refused.ensures
+    let at-if1 = c in
+    let at-r = c in
+    let start = c in
+    λ p t. normal_stop _ _ _ _ start.requires.0 _ at-r.in-Normal.is start.requires.1.1.0 at-if1.if-k-ge-ENTRIES.true _ c.refused.ensures
 
-put-point-requires : tie.Need-put-point-requires
-put-point-requires c κs = omega (arith, c.before.before.before.before.before.before.before.before.before.requires.1.1.0, c.before.if1.false)
+put-point-requires : tie.Need-put_point-requires
+put-point-requires c κs = omega (arith, c.requires.1.1.0, c.if-k-ge-ENTRIES.false)
 
-add-next : tie.Need-overflow-add-next
+add-next : tie.Need-overflow_add-next
 add-next c =
-    let at-r = c.before.before.before.before.before.before in
-    let start = at-r.before.before.before.before.before.before in
-    omega (arith, subst (λ (r : Record). end_of start.args.x.at r ≤ length start.args.file.now) at-r.r.given.1 start.requires.0.fits)
+    let at-r = c in
+    let start = c in
+    omega (arith, subst (λ (r : Record). end_of start.args.x.at r ≤ length start.args.file.now) at-r.in-Normal.is start.requires.0.fits)
 
-add-more : tie.Need-overflow-add-more
+add-more : tie.Need-overflow_add-more
 add-more c = search rules
 
-same-length-3 : tie.Need-same-length-3
+same-length-3 : tie.Need-shape_of-normals
 same-length-3 c = search rules
 
-returns-3 : tie.Need-returns-3
+returns-3 : tie.Need-returns
 returns-3 c =
-    let at-put-point = c.before.before in
-    let at-if1 = at-put-point.before.before in
-    let at-r = at-if1.before.before in
-    let start = at-r.before.before.before.before.before.before in
-    λ p t. normal_step _ _ _ _ start.requires.0 _ at-r.r.given.1 start.requires.1.1.0 at-if1.if1.false _ at-put-point.put-point.ensures
+    let at-put-point = c in
+    let at-if1 = c in
+    let at-r = c in
+    let start = c in
+    λ p t. normal_step _ _ _ _ start.requires.0 _ at-r.in-Normal.is start.requires.1.1.0 at-if1.if-k-ge-ENTRIES.false _ at-put-point.put_point.ensures
 
-pub step-normal-spec : {M : Type 1} → statement M
-step-normal-spec =
+pub step_normal_spec : {M : Type 1} → statement M
+step_normal_spec =
     tie.close
     (tie.spec
     enum-known-r

@@ -11,75 +11,75 @@ use borrow.Author.Rules.{rules}
 use Rattle.steps.proofs.step_texture.Statement.{statement}
 use Rattle.steps.proofs.step_texture.Tie as tie
 
-enum-known-r : tie.Need-enum-known-r
+enum-known-r : tie.Need-enum_known-r
 enum-known-r c = search rules
 
-step-normal-requires : tie.Need-step-normal-requires
+step-normal-requires : tie.Need-step_normal-requires
 step-normal-requires c κs =
-    let at-match = c.before.before.before in
-    let start = at-match.before.before.before.before.before.before in
-    (start.requires.0, (after_texture start.args.r start.requires.1.0 at-match.match.keys2, start.requires.1.1.1))
+    let at-match = c in
+    let start = c in
+    (start.requires.0, (after_texture start.args.r start.requires.1.0 at-match.in_default.not-Texture, start.requires.1.1.1))
 
-same_length : tie.Need-same-length
+same_length : tie.Need-shape_of-normals-in_default
 same_length c = search rules
 
-same-length-2 : tie.Need-same-length-2
+same-length-2 : tie.Need-shape_of-corners-in_default
 same-length-2 c = search rules
 
-same-length-3 : tie.Need-same-length-3
+same-length-3 : tie.Need-shape_of-sizes-in_default
 same-length-3 c = search rules
 
-returns : tie.Need-returns
-returns c = λ p. c.before.before.before.before.before.before.step-normal.ensures p _
+returns : tie.Need-returns-in_default
+returns c = λ p. c.step_normal.ensures p _
 
 refused-requires : tie.Need-refused-requires
 refused-requires c κs = search rules
 
-returns-2 : tie.Need-returns-2
+returns-2 : tie.Need-returns-then-k-ge-ENTRIES
 returns-2 c =
-    let at-if1 = c.before in
-    let at-r = at-if1.before.before in
-    let start = at-r.before.before.before.before.before.before.before in
-    λ p. texture_stop _ _ _ _ start.requires.0 _ at-r.r.given.1 start.requires.1.1.0 at-if1.if1.true _ c.refused.ensures
+    let at-if1 = c in
+    let at-r = c in
+    let start = c in
+    λ p. texture_stop _ _ _ _ start.requires.0 _ at-r.in-Texture.is start.requires.1.1.0 at-if1.if-k-ge-ENTRIES.true _ c.refused.ensures
 
-mul-b : tie.Need-overflow-mul-b
+mul-b : tie.Need-overflow_mul-b
 mul-b c = search rules
 
-mul-textures : tie.Need-overflow-mul-textures
+mul-textures : tie.Need-offset_bounds-textures-b
 mul-textures c = search rules
 
-slice-write-textures : tie.Need-slice-write-textures
+slice-write-textures : tie.Need-bounds-textures-b
 slice-write-textures c = search rules
 
-add-textures : tie.Need-overflow-add-textures
+add-textures : tie.Need-overflow_add-textures
 add-textures c = search rules
 
-mul-textures-2 : tie.Need-overflow-mul-textures-2
+mul-textures-2 : tie.Need-offset_bounds-textures-b-2
 mul-textures-2 c = search rules
 
-slice-write-textures-2 : tie.Need-slice-write-textures-2
-slice-write-textures-2 c = simp length-set (omega (arith, c.before.before.before.before.before.before.before.before.before.requires.1.1.0, c.if1.false))
+slice-write-textures-2 : tie.Need-bounds-textures-b-2
+slice-write-textures-2 c = simp length-set (omega (arith, c.requires.1.1.0, c.if-k-ge-ENTRIES.false))
 
-add-next : tie.Need-overflow-add-next
+add-next : tie.Need-overflow_add-next
 add-next c =
-    let at-r = c.before.before in
-    let start = at-r.before.before.before.before.before.before.before in
-    omega (arith, subst (λ (r : Record). end_of start.args.x.at r ≤ length start.args.file.now) at-r.r.given.1 start.requires.0.fits)
+    let at-r = c in
+    let start = c in
+    omega (arith, subst (λ (r : Record). end_of start.args.x.at r ≤ length start.args.file.now) at-r.in-Texture.is start.requires.0.fits)
 
-add-more : tie.Need-overflow-add-more
+add-more : tie.Need-overflow_add-more
 add-more c = search rules
 
-same-length-4 : tie.Need-same-length-4
+same-length-4 : tie.Need-shape_of-textures
 same-length-4 c = search rules
 
-returns-3 : tie.Need-returns-3
+returns-3 : tie.Need-returns
 returns-3 c =
-    let at-r = c.before.before in
-    let start = at-r.before.before.before.before.before.before.before in
-    λ p. texture_step _ _ _ _ start.requires.0 _ at-r.r.given.1 start.requires.1.1.0 c.if1.false
+    let at-r = c in
+    let start = c in
+    λ p. texture_step _ _ _ _ start.requires.0 _ at-r.in-Texture.is start.requires.1.1.0 c.if-k-ge-ENTRIES.false
 
-pub step-texture-spec : {M : Type 1} → statement M
-step-texture-spec =
+pub step_texture_spec : {M : Type 1} → statement M
+step_texture_spec =
     tie.close
     (tie.spec
     enum-known-r
