@@ -2,7 +2,7 @@
 use mathlib.Core.Path.{◌≡◌, refl, ◌∙◌}
 use mathlib.Core.Bool.{Bool, true, false}
 use mathlib.Core.List.{List, ◌++◌}
-use Prim.Native.Nat.{ℕ, zero, suc, ◌+◌, ◌*◌}
+use Prim.Native.Nat.{ℕ, zero, suc, ◌+◌}
 use lib.ListN.{length}
 use lib.Dec.{ltb}
 use lib.Ieee.{Float}
@@ -11,7 +11,7 @@ use Rattle.lists.proofs.Bools.{by_cases, and_both}
 use Rattle.lists.proofs.Parts.{every_append}
 use Rattle.mesh.specs.Limits.{corner_limit, point_numbers, texel_numbers}
 use Rattle.grouping.specs.Push.{corner_count}
-use Rattle.floating.specs.Limits.{finite, all_finite}
+use Rattle.floating.specs.Limits.{finite}
 use Rattle.floating.proofs.Finite.{lists_finite}
 use Rattle.records.specs.declared.Record.{Record}
 use Rattle.records.specs.declared.Record.TheVariants.{Position, Texture, Normal, Face, End, Refused}
