@@ -12,43 +12,43 @@ put-requires c κs = search rules
 
 put-requires-2 : tie.Need-put-requires-2
 put-requires-2 c κs =
-    let pre = c.before.before.before.before.before.before.before.before.before.before.requires in
+    let pre = c.requires in
     omega (arith, faces_few _ _ pre.fit, pre.sizes)
 
-slice-relend-prefix-count-up : tie.Need-slice-relend-prefix-count-up
+slice-relend-prefix-count-up : tie.Need-slice_bounds-count_up-end
 slice-relend-prefix-count-up c =
-    let pre = c.before.before.before.before.before.before.before.before.before.before.before.before.before.requires in
+    let pre = c.requires in
     omega (arith, faces_few _ _ pre.fit, pre.origins)
 
-slice-aggregate-count-up : tie.Need-slice-aggregate-count-up
+slice-aggregate-count-up : tie.Need-slice_bounds-count_up-end-2
 slice-aggregate-count-up c =
-    let pre = c.before.before.before.before.before.before.before.before.before.before.before.before.before.before.requires in
+    let pre = c.requires in
     sym (length-take-le _ _ (omega (arith, faces_few _ _ pre.fit, pre.origins)))
 
-count-up-requires : tie.Need-count-up-requires
+count-up-requires : tie.Need-count_up-requires
 count-up-requires c κs =
-    let back = c.before.before.before.before.before.before.before.before.before.before.before.before.before.before in
+    let back = c in
     let pre = back.requires in
     few_numbers _ _ back.args.origins.now pre.fit.sound (omega (arith, faces_few _ _ pre.fit, pre.origins))
 
-same_length : tie.Need-same-length
+same_length : tie.Need-shape_of-newcorners
 same_length c = search rules
 
-same-length-2 : tie.Need-same-length-2
+same-length-2 : tie.Need-shape_of-newsizes
 same-length-2 c = search rules
 
-same-length-3 : tie.Need-same-length-3
+same-length-3 : tie.Need-shape_of-origins
 same-length-3 c = search rules
 
 returns : tie.Need-returns
 returns c =
-    let back = c.before.before.before.before.before.before in
-    let pre = back.before.before.before.before.before.before.before.before.before.before.before.requires in
+    let back = c in
+    let pre = back.requires in
     let room = faces_few _ _ pre.fit in
-    left_all _ _ _ _ _ _ _ _ pre.fit.sound (omega (arith, room, pre.origins)) back.before.before.before.before.put.ensures back.put2.ensures c.before.before.count-up.ensures
+    left_all _ _ _ _ _ _ _ _ pre.fit.sound (omega (arith, room, pre.origins)) back.put.ensures back.put-2.ensures c.count_up.ensures
 
-pub keep-all-spec : {M : Type 1} → statement M
-keep-all-spec =
+pub keep_all_spec : {M : Type 1} → statement M
+keep_all_spec =
     tie.close
     (tie.spec
     put-requires

@@ -5,62 +5,62 @@ use borrow.Author.Rules.{rules}
 use Rattle.folded.proofs.remove_degenerate_faces.Statement.{statement}
 use Rattle.folded.proofs.remove_degenerate_faces.Tie as tie
 
-number-requires : tie.Need-number-requires
+number-requires : tie.Need-number-number-requires
 number-requires c κs = search rules
 
 refused-requires : tie.Need-refused-requires
 refused-requires c κs = search rules
 
-returns : tie.Need-returns
-returns c = refused_mesh _ _ _ _ _ _ c.before.before.number.ensures c.before.if1.true c.refused.ensures
+returns : tie.Need-returns-then-number-ne0
+returns c = refused_mesh _ _ _ _ _ _ c.number-number.ensures c.if-number-ne0.true c.refused.ensures
 
-refused-requires-2 : tie.Need-refused-requires-2
+refused-requires-2 : tie.Need-refused-requires-then-newcorners-corners
 refused-requires-2 c κs = search rules
 
-returns-2 : tie.Need-returns-2
+returns-2 : tie.Need-returns-then-newcorners-corners
 returns-2 c =
-    let accepted = sym c.before.before.before.number.ensures ∙ c.before.before.if1.false in
-    refused_corners _ _ _ _ _ accepted c.before.if2.true c.refused2.ensures
+    let accepted = sym c.number-number.ensures ∙ c.if-number-ne0.false in
+    refused_corners _ _ _ _ _ accepted c.if-newcorners-corners.true c.refused-then-newcorners-corners.ensures
 
-refused-requires-3 : tie.Need-refused-requires-3
+refused-requires-3 : tie.Need-refused-requires-then-newsizes-corners
 refused-requires-3 c κs = search rules
 
-returns-3 : tie.Need-returns-3
+returns-3 : tie.Need-returns-then-newsizes-corners
 returns-3 c =
-    let accepted = sym c.before.before.before.before.number.ensures ∙ c.before.before.before.if1.false in
-    refused_sizes _ _ _ _ _ accepted c.before.before.if2.false c.before.if3.true c.refused3.ensures
+    let accepted = sym c.number-number.ensures ∙ c.if-number-ne0.false in
+    refused_sizes _ _ _ _ _ accepted c.if-newcorners-corners.false c.if-newsizes-corners.true c.refused-then-newsizes-corners.ensures
 
-refused-requires-4 : tie.Need-refused-requires-4
+refused-requires-4 : tie.Need-refused-requires-then-origins-corners
 refused-requires-4 c κs = search rules
 
-returns-4 : tie.Need-returns-4
+returns-4 : tie.Need-returns-then-origins-corners
 returns-4 c =
-    let accepted = sym c.before.before.before.before.before.number.ensures ∙ c.before.before.before.before.if1.false in
-    refused_origins _ _ _ _ _ accepted c.before.before.before.if2.false c.before.before.if3.false c.before.if4.true c.refused4.ensures
+    let accepted = sym c.number-number.ensures ∙ c.if-number-ne0.false in
+    refused_origins _ _ _ _ _ accepted c.if-newcorners-corners.false c.if-newsizes-corners.false c.if-origins-corners.true c.refused-then-origins-corners.ensures
 
-remove-requires : tie.Need-remove-requires
+remove-requires : tie.Need-remove-left-requires
 remove-requires c κs =
-    let accepted = sym c.before.before.before.before.before.before.before.number.ensures ∙ c.before.before.before.before.before.before.if1.false in
-    given _ _ _ _ accepted c.before.before.before.before.before.if2.false c.before.before.before.before.if3.false c.before.before.before.if4.false
+    let accepted = sym c.number-number.ensures ∙ c.if-number-ne0.false in
+    given _ _ _ _ accepted c.if-newcorners-corners.false c.if-newsizes-corners.false c.if-origins-corners.false
 
-same_length : tie.Need-same-length
+same_length : tie.Need-shape_of-newcorners
 same_length c = search rules
 
-same-length-2 : tie.Need-same-length-2
+same-length-2 : tie.Need-shape_of-newsizes
 same-length-2 c = search rules
 
-same-length-3 : tie.Need-same-length-3
+same-length-3 : tie.Need-shape_of-origins
 same-length-3 c = search rules
 
-returns-5 : tie.Need-returns-5
+returns-5 : tie.Need-returns
 returns-5 c =
-    let back = c.before.before.before.before.before.before in
-    let accepted = sym back.before.before.before.before.before.before.before.before.number.ensures ∙ back.before.before.before.before.before.before.before.if1.false in
-    let room = back.before.before.before.before in
-    done _ _ _ _ accepted room.before.before.if2.false room.before.if3.false room.if4.false _ _ _ _ _ back.remove.ensures
+    let back = c in
+    let accepted = sym back.number-number.ensures ∙ back.if-number-ne0.false in
+    let room = c in
+    done _ _ _ _ accepted room.if-newcorners-corners.false room.if-newsizes-corners.false room.if-origins-corners.false _ _ _ _ _ back.remove-left.ensures
 
-pub remove-degenerate-faces-spec : {M : Type 1} → statement M
-remove-degenerate-faces-spec =
+pub remove_degenerate_faces_spec : {M : Type 1} → statement M
+remove_degenerate_faces_spec =
     tie.close
     (tie.spec
     number-requires
