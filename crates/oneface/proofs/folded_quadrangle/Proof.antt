@@ -4,50 +4,50 @@ use borrow.Author.Rules.{rules}
 use Rattle.oneface.proofs.folded_quadrangle.Statement.{statement}
 use Rattle.oneface.proofs.folded_quadrangle.Tie as tie
 
-quad-of-requires : tie.Need-quad-of-requires
+quad-of-requires : tie.Need-quad_of-requires
 quad-of-requires c κs = search rules
 
-degenerate-quadrangle-requires : tie.Need-degenerate-quadrangle-requires
+degenerate-quadrangle-requires : tie.Need-degenerate_quadrangle-requires
 degenerate-quadrangle-requires c κs = search rules
 
-enum_told : tie.Need-enum-told
+enum_told : tie.Need-enum_told-1
 enum_told c = search rules
 
-enum-told-2 : tie.Need-enum-told-2
+enum-told-2 : tie.Need-enum_told-in-WithoutQ1
 enum-told-2 c = search rules
 
-enum-told-3 : tie.Need-enum-told-3
+enum-told-3 : tie.Need-enum_told-in-WithoutQ3
 enum-told-3 c = search rules
 
-enum-told-4 : tie.Need-enum-told-4
+enum-told-4 : tie.Need-enum_told-in-Stays
 enum-told-4 c = search rules
 
-returns : tie.Need-returns
+returns : tie.Need-returns-in-Goes
 returns c =
-    let start = c.before.before.before.before.before in
-    let quad = c.before.before.before.quad-of in
-    quad_tells start.args.face.now quad.result _ _ start.requires quad.ensures c.before.before.degenerate-quadrangle.ensures c.enum_told.given.1
+    let start = c in
+    let quad = c.quad_of in
+    quad_tells start.args.face.now quad.result _ _ start.requires quad.ensures c.degenerate_quadrangle.ensures c.in-Goes.is
 
-returns-2 : tie.Need-returns-2
+returns-2 : tie.Need-returns-in-WithoutQ1
 returns-2 c =
-    let start = c.before.before.before.before.before in
-    let quad = c.before.before.before.quad-of in
-    quad_tells start.args.face.now quad.result _ _ start.requires quad.ensures c.before.before.degenerate-quadrangle.ensures c.enum-told2.given.1
+    let start = c in
+    let quad = c.quad_of in
+    quad_tells start.args.face.now quad.result _ _ start.requires quad.ensures c.degenerate_quadrangle.ensures c.in-WithoutQ1.is
 
-returns-3 : tie.Need-returns-3
+returns-3 : tie.Need-returns-in-WithoutQ3
 returns-3 c =
-    let start = c.before.before.before.before.before in
-    let quad = c.before.before.before.quad-of in
-    quad_tells start.args.face.now quad.result _ _ start.requires quad.ensures c.before.before.degenerate-quadrangle.ensures c.enum-told3.given.1
+    let start = c in
+    let quad = c.quad_of in
+    quad_tells start.args.face.now quad.result _ _ start.requires quad.ensures c.degenerate_quadrangle.ensures c.in-WithoutQ3.is
 
-returns-4 : tie.Need-returns-4
+returns-4 : tie.Need-returns-in-Stays
 returns-4 c =
-    let start = c.before.before.before.before.before in
-    let quad = c.before.before.before.quad-of in
-    quad_tells start.args.face.now quad.result _ _ start.requires quad.ensures c.before.before.degenerate-quadrangle.ensures c.enum-told4.given.1
+    let start = c in
+    let quad = c.quad_of in
+    quad_tells start.args.face.now quad.result _ _ start.requires quad.ensures c.degenerate_quadrangle.ensures c.in-Stays.is
 
-pub folded-quadrangle-spec : {M : Type 1} → statement M
-folded-quadrangle-spec =
+pub folded_quadrangle_spec : {M : Type 1} → statement M
+folded_quadrangle_spec =
     tie.close
     (tie.spec
     quad-of-requires

@@ -5,25 +5,25 @@ use borrow.Author.Rules.{rules}
 use Rattle.oneface.proofs.quad_of.Statement.{statement}
 use Rattle.oneface.proofs.quad_of.Tie as tie
 
-corner-at-requires : tie.Need-corner-at-requires
+corner-at-requires : tie.Need-corner_at-a-requires
 corner-at-requires c κs = search rules
 
-corner-at-requires-2 : tie.Need-corner-at-requires-2
+corner-at-requires-2 : tie.Need-corner_at-b-requires
 corner-at-requires-2 c κs = search rules
 
-corner-at-requires-3 : tie.Need-corner-at-requires-3
+corner-at-requires-3 : tie.Need-corner_at-c-requires
 corner-at-requires-3 c κs = search rules
 
-corner-at-requires-4 : tie.Need-corner-at-requires-4
+corner-at-requires-4 : tie.Need-corner_at-d-requires
 corner-at-requires-4 c κs = search rules
 
 returns : tie.Need-returns
 returns c =
-    rw (c.before.before.before.corner-at.ensures, c.before.before.corner-at2.ensures, c.before.corner-at3.ensures, c.corner-at4.ensures)
-    (sym (corners_in-4 c.before.before.before.before.before.args.face.now c.before.before.before.before.before.requires))
+    rw (c.corner_at-a.ensures, c.corner_at-b.ensures, c.corner_at-c.ensures, c.corner_at-d.ensures)
+    (sym (corners_in-4 c.args.face.now c.requires))
 
-pub quad-of-spec : {M : Type 1} → statement M
-quad-of-spec =
+pub quad_of_spec : {M : Type 1} → statement M
+quad_of_spec =
     tie.close
     (tie.spec
     corner-at-requires

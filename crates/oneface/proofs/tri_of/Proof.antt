@@ -5,20 +5,20 @@ use borrow.Author.Rules.{rules}
 use Rattle.oneface.proofs.tri_of.Statement.{statement}
 use Rattle.oneface.proofs.tri_of.Tie as tie
 
-corner-at-requires : tie.Need-corner-at-requires
+corner-at-requires : tie.Need-corner_at-a-requires
 corner-at-requires c κs = search rules
 
-corner-at-requires-2 : tie.Need-corner-at-requires-2
+corner-at-requires-2 : tie.Need-corner_at-b-requires
 corner-at-requires-2 c κs = search rules
 
-corner-at-requires-3 : tie.Need-corner-at-requires-3
+corner-at-requires-3 : tie.Need-corner_at-c-requires
 corner-at-requires-3 c κs = search rules
 
 returns : tie.Need-returns
 returns c =
-    rw (c.before.before.corner-at.ensures, c.before.corner-at2.ensures, c.corner-at3.ensures)
-    (sym (corners_in-3 c.before.before.before.before.args.face.now c.before.before.before.before.requires))
+    rw (c.corner_at-a.ensures, c.corner_at-b.ensures, c.corner_at-c.ensures)
+    (sym (corners_in-3 c.args.face.now c.requires))
 
-pub tri-of-spec : {M : Type 1} → statement M
-tri-of-spec =
+pub tri_of_spec : {M : Type 1} → statement M
+tri_of_spec =
     tie.close (tie.spec corner-at-requires corner-at-requires-2 corner-at-requires-3 returns)
