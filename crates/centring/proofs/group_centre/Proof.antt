@@ -4,49 +4,49 @@ use Rattle.together.proofs.Centres.{point_in, Summing, sum_begins, sum_turns, su
 use Rattle.centring.proofs.group_centre.Statement.{statement}
 use Rattle.centring.proofs.group_centre.Tie as tie
 
-abbrev invariant-loop : tie.invariant-loop
+abbrev invariant-loop : tie.invariant-loop-k
 invariant-loop s w n order from to sum₀ k₀ sum k = Summing w s order from to k sum
 
-abbrev decreases-loop : tie.decreases-loop
+abbrev decreases-loop : tie.decreases-loop-k
 decreases-loop s w n order from to sum₀ k₀ sum k = to - k
 
-loop-holds : tie.Need-loop-init invariant-loop decreases-loop
-loop-holds c = sum_begins _ _ _ _ _ _ c.before.before.requires
+loop-holds : tie.Need-loop-k-init invariant-loop decreases-loop
+loop-holds c = sum_begins _ _ _ _ _ _ c.requires
 
-mul-attr-at : tie.Need-overflow-mul-attr-at invariant-loop decreases-loop
-mul-attr-at c = omega (arith, c.before.before.before.before.requires.room, c.loop-test.true, c.before.before.before.before.well-formed)
+mul-attr-at : tie.Need-offset_bounds-order-k invariant-loop decreases-loop
+mul-attr-at c = omega (arith, c.requires.room, c.loop-k-test.true, c.well_formed)
 
-shared-slice-read-attr-at : tie.Need-shared-slice-read-attr-at invariant-loop decreases-loop
+shared-slice-read-attr-at : tie.Need-bounds-order-k invariant-loop decreases-loop
 shared-slice-read-attr-at c = search rules
 
-attr-at-requires : tie.Need-attr-at-requires invariant-loop decreases-loop
+attr-at-requires : tie.Need-attr_at-requires invariant-loop decreases-loop
 attr-at-requires c κs =
-    let pre = c.before.before.before.before.before.requires in
-    let test = c.before.loop-test in
+    let pre = c.requires in
+    let test = c.loop-k-test in
     (pre.least, pre.most, point_in _ _ _ _ _ _ pre _ test.true)
 
-plus-requires : tie.Need-plus-requires invariant-loop decreases-loop
+plus-requires : tie.Need-plus-sum-requires invariant-loop decreases-loop
 plus-requires c κs = search rules
 
-add-k : tie.Need-overflow-add-k invariant-loop decreases-loop
+add-k : tie.Need-overflow_add-k invariant-loop decreases-loop
 add-k c = search rules
 
-loop-less : tie.Need-loop-smaller invariant-loop decreases-loop
+loop-less : tie.Need-loop-k-smaller invariant-loop decreases-loop
 loop-less c = search rules
 
-loop-again : tie.Need-loop-preserved invariant-loop decreases-loop
+loop-again : tie.Need-loop-k-preserved invariant-loop decreases-loop
 loop-again c =
-    let pre = c.before.before.before.before.before.before.before.requires in
-    let loop = c.before.before.before.before.loop in
-    let test = c.before.before.before.loop-test in
-    let attr-at = c.before.attr-at in
-    let plus = c.plus in
+    let pre = c.requires in
+    let loop = c.loop-k in
+    let test = c.loop-k-test in
+    let attr-at = c.attr_at in
+    let plus = c.plus-sum in
     sum_turns _ _ _ _ _ _ pre loop.k _ _ _ test.true attr-at.ensures plus.ensures loop.invariant
 
-sub-nearest-u64-to-f64 : tie.Need-overflow-sub-nearest-u64-to-f64 invariant-loop decreases-loop
-sub-nearest-u64-to-f64 c = omega (arith, c.before.before.before.before.requires.some)
+sub-nearest-u64-to-f64 : tie.Need-overflow_sub-to invariant-loop decreases-loop
+sub-nearest-u64-to-f64 c = omega (arith, c.requires.some)
 
-nearest-u64-to-f64-requires : tie.Need-nearest-u64-to-f64-requires invariant-loop decreases-loop
+nearest-u64-to-f64-requires : tie.Need-nearest_u64_to_f64-requires invariant-loop decreases-loop
 nearest-u64-to-f64-requires c κs = search rules
 
 over-requires : tie.Need-over-requires invariant-loop decreases-loop
@@ -54,16 +54,16 @@ over-requires c κs = search rules
 
 returns : tie.Need-returns invariant-loop decreases-loop
 returns c =
-    let args = c.before.before.before.before.before.before.args in
-    let pre = c.before.before.before.before.before.before.requires in
-    let loop = c.before.before.before.loop in
-    let test = c.before.before.loop-test in
-    let nearest-u64-to-f64 = c.before.nearest-u64-to-f64 in
+    let args = c.args in
+    let pre = c.requires in
+    let loop = c.loop-k in
+    let test = c.loop-k-test in
+    let nearest-u64-to-f64 = c.nearest_u64_to_f64 in
     let over = c.over in
     sum_ends _ _ args.s.now args.order.now _ _ pre loop.k _ _ _ test.false nearest-u64-to-f64.ensures over.ensures loop.invariant
 
-pub group-centre-spec : {M : Type 1} → statement M
-group-centre-spec =
+pub group_centre_spec : {M : Type 1} → statement M
+group_centre_spec =
     tie.close
     (tie.spec
     invariant-loop
