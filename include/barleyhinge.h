@@ -1,6 +1,6 @@
 /* Barleyhinge for C: the calls of the verified mesh library (crates/barleyhinge), linked from libbarleyhinge.a.
 
-   'rt staticlib barleyhinge' makes the archive, target/staticlib/libbarleyhinge.a, for x86-64 Linux. tools/check_declarations holds
+   'tools/staticlib' makes the archive, target/staticlib/libbarleyhinge.a, for x86-64 Linux. tools/check_declarations holds
    the declarations below to the source of the library, name by name, order by order, type by type, and each constant to its value.
 
    A MESH is five lists that the caller keeps and the calls only read, but for bh_compact_in_place, which changes all but the sizes where they stand:

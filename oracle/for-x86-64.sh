@@ -64,8 +64,8 @@ find_emulator() {
 make_archive() {
     archive=${LIBRARY:-target/staticlib/libbarleyhinge.a}
     [ -z "${LIBRARY:-}" ] || return 0
-    if [ ! -e "$archive" ] || [ -n "$(find crates crates.txt -newer "$archive" -print -quit)" ]; then
-        rt staticlib barleyhinge >&2
+    if [ ! -e "$archive" ] || [ -n "$(find crates crates.txt -name out -prune -o -type f -newer "$archive" -print -quit)" ]; then
+        tools/staticlib
     fi
 }
 

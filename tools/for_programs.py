@@ -22,12 +22,13 @@ with open(os.path.join(ROOT, "tools", "refusals.txt"), encoding="utf-8") as word
 WRITER = '#!/bin/bash\nread -r -N 7 word\n[ "$word" != refused ] || exec >&2\nprintf %s "$word"\nexec cat\n'
 # In the place of the kit: it takes its time, fails where another is at work, and puts the program there.
 KIT = """#!/bin/sh
-mkdir target/working || { echo 'rt: two at once'; exit 1; }
+name=$(basename "$PWD")
+mkdir ../../target/working || { echo 'rt: two at once'; exit 1; }
 sleep 0.3
-mkdir -p target/bin
-cp "$(dirname "$0")/$2" "target/bin/$2"
-rmdir target/working
-echo built >>target/builds
+mkdir -p out
+cp "$(dirname "$0")/$name" "out/$name"
+rmdir ../../target/working
+echo built >>../../target/builds
 echo 'rt: ok'
 """
 
@@ -55,6 +56,7 @@ class Copy:
             shutil.copy(os.path.join(ROOT, name), os.path.join(self.folder, name))
         put(os.path.join(self.folder, "crates.txt"), "")
         put(os.path.join(self.folder, "crates", "x"), "")
+        os.makedirs(os.path.join(self.folder, "crates", self.NAME))
         # Away from x86-64 the script asks for an emulator: this one runs its last word.
         home = os.path.join(self.top.name, "kit")
         for machine in ("elsewhere", platform.machine()):

@@ -17,8 +17,8 @@
 #   fail WORDS           says that nothing could be read, run or written, and ends with 2
 #   version              prints the version
 #
-# The program is proved and built on first use, and after a change: that takes some minutes, one line per crate goes to standard
-# error, and standard input is left alone. It is an x86-64 program: elsewhere the kit's emulator runs it.
+# The program is proved and built on first use, and after a change: that takes some minutes, what the kit says of it goes to
+# target/NAME.said, and standard input is left alone. It is an x86-64 program: elsewhere the kit's emulator runs it.
 
 fail() {
     echo "$name: $*" >&2
@@ -52,7 +52,7 @@ open_input() {
 
 # Nothing is built where nothing has changed since it was.
 stale() {
-    [ ! -x "target/bin/$name" ] || [ ! -e "$built" ] || [ -n "$(find crates crates.txt -newer "$built" -print -quit)" ]
+    [ ! -x "target/bin/$name" ] || [ ! -e "$built" ] || [ -n "$(find crates crates.txt -name out -prune -o -type f -newer "$built" -print -quit)" ]
 }
 
 # One builds and the others wait for it, whichever program they build: two at once would write the same files.
@@ -68,8 +68,11 @@ build() {
     if stale; then
         echo "$name: proving and building, once" >&2
         touch "$built.begun"
-        rt check "$name" </dev/null 9>&- | grep --line-buffered '^rt: ' >&2 ||
-            fail "it could not be built; 'rt check $name' says more"
+        # the kit proves and builds a program to run it; it is given nothing to read
+        (cd "crates/$name" && rt run </dev/null >"../../target/$name.said" 2>&1 9>&-) ||
+            fail "it could not be built; target/$name.said says more"
+        mkdir -p target/bin
+        cp "crates/$name/out/$name" "target/bin/$name"
         mv "$built.begun" "$built"
     fi
     exec 9>&-

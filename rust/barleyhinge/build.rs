@@ -1,4 +1,4 @@
-//! Links libbarleyhinge.a, which 'rt staticlib barleyhinge' writes to target/staticlib in the repository; the environment variable
+//! Links libbarleyhinge.a, which 'tools/staticlib' writes to target/staticlib in the repository; the environment variable
 //! BARLEYHINGE_LIB names another folder. The archive is for x86-64 Linux; for any other target the build ends here.
 
 use std::path::{Path, PathBuf};
@@ -20,7 +20,7 @@ fn main() {
     let archive = folder.join("libbarleyhinge.a");
     if !Path::new(&archive).exists() {
         stop(format!(
-            "{} is not there: 'rt staticlib barleyhinge' makes it, and BARLEYHINGE_LIB names its folder",
+            "{} is not there: 'tools/staticlib' makes it, and BARLEYHINGE_LIB names its folder",
             archive.display()
         ));
     }
