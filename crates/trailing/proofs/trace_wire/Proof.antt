@@ -8,90 +8,90 @@ use native.Mathlib.Omega.{arith}
 use Rattle.trailing.proofs.trace_wire.Statement.{statement}
 use Rattle.trailing.proofs.trace_wire.Tie as tie
 
-abbrev invariant-loop : tie.invariant-loop
+abbrev invariant-loop : tie.invariant-loop-flat
 invariant-loop starts follows left₀ first flat₀ at m₀ u₀ left flat m u = Walking starts follows left₀ flat₀ first at left flat m u
 
-abbrev decreases-loop : tie.decreases-loop
+abbrev decreases-loop : tie.decreases-loop-flat
 decreases-loop starts follows left₀ first flat₀ at m₀ u₀ left flat m u = left_count left
 
-loop-holds : tie.Need-loop-init invariant-loop decreases-loop
-loop-holds c = walk_begins _ _ _ _ _ _ c.before.before.before.before.requires
+loop-holds : tie.Need-loop-flat-init invariant-loop decreases-loop
+loop-holds c = walk_begins _ _ _ _ _ _ c.requires
 
-is-left-requires : tie.Need-is-left-requires invariant-loop decreases-loop
-is-left-requires c κs = c.before.loop.invariant.inside
+is-left-requires : tie.Need-is_left-requires invariant-loop decreases-loop
+is-left-requires c κs = c.loop-flat.invariant.inside
 
-mul-flat : tie.Need-overflow-mul-flat invariant-loop decreases-loop
+mul-flat : tie.Need-offset_bounds-starts-u invariant-loop decreases-loop
 mul-flat c = search rules
 
-shared-slice-read-flat : tie.Need-shared-slice-read-flat invariant-loop decreases-loop
+shared-slice-read-flat : tie.Need-bounds-starts-u invariant-loop decreases-loop
 shared-slice-read-flat c =
-    let entry = c.before.before.before.before.before.before.before.before.before in
-    let loop = c.before.before.before.before.loop in
+    let entry = c in
+    let loop = c.loop-flat in
     omega (arith, loop.invariant.inside, loop.invariant.long, entry.requires.rows.started)
 
-mul-flat-2 : tie.Need-overflow-mul-flat-2 invariant-loop decreases-loop
+mul-flat-2 : tie.Need-offset_bounds-flat-m invariant-loop decreases-loop
 mul-flat-2 c = search rules
 
-slice-write-flat : tie.Need-slice-write-flat invariant-loop decreases-loop
+slice-write-flat : tie.Need-bounds-flat-m invariant-loop decreases-loop
 slice-write-flat c =
-    let entry = c.before.before.before.before.before.before.before.before.before in
-    let loop = c.before.before.before.before.loop in
-    let is-left = c.before.before.is-left in
-    walk_room entry.requires loop.invariant (sym is-left.ensures ∙ c.before.if1.true)
+    let entry = c in
+    let loop = c.loop-flat in
+    let is-left = c.is_left in
+    walk_room entry.requires loop.invariant (sym is-left.ensures ∙ c.loop-flat-test.true)
 
-mul_left : tie.Need-overflow-mul-left invariant-loop decreases-loop
+mul_left : tie.Need-offset_bounds-left-u invariant-loop decreases-loop
 mul_left c = search rules
 
-slice-write-left : tie.Need-slice-write-left invariant-loop decreases-loop
-slice-write-left c = c.before.before.before.before.loop.invariant.inside
+slice-write-left : tie.Need-bounds-left-u invariant-loop decreases-loop
+slice-write-left c = c.loop-flat.invariant.inside
 
-add-m : tie.Need-overflow-add-m invariant-loop decreases-loop
+add-m : tie.Need-overflow_add-m invariant-loop decreases-loop
 add-m c =
-    let entry = c.before.before.before.before.before.before.before.before.before in
-    let loop = c.before.before.before.before.loop in
-    let is-left = c.before.before.is-left in
-    omega (arith, walk_room entry.requires loop.invariant (sym is-left.ensures ∙ c.before.if1.true), loop.invariant.growing.long)
+    let entry = c in
+    let loop = c.loop-flat in
+    let is-left = c.is_left in
+    omega (arith, walk_room entry.requires loop.invariant (sym is-left.ensures ∙ c.loop-flat-test.true), loop.invariant.growing.long)
 
-mul_wide : tie.Need-overflow-mul-wide invariant-loop decreases-loop
+mul_wide : tie.Need-offset_bounds-follows-u invariant-loop decreases-loop
 mul_wide c = search rules
 
-shared-slice-read-wide : tie.Need-shared-slice-read-wide invariant-loop decreases-loop
+shared-slice-read-wide : tie.Need-bounds-follows-u invariant-loop decreases-loop
 shared-slice-read-wide c =
-    let entry = c.before.before.before.before.before.before.before.before.before.before in
-    let loop = c.before.before.before.before.before.loop in
+    let entry = c in
+    let loop = c.loop-flat in
     omega (arith, loop.invariant.inside, loop.invariant.long, entry.requires.rows.followed)
 
-wide-requires : tie.Need-wide-requires invariant-loop decreases-loop
+wide-requires : tie.Need-wide-u-requires invariant-loop decreases-loop
 wide-requires c κs = search rules
 
-loop-less : tie.Need-loop-smaller invariant-loop decreases-loop
+loop-less : tie.Need-loop-flat-smaller invariant-loop decreases-loop
 loop-less c =
-    let entry = c.before.before.before.before.before.before.before.before.before.before.before in
-    let loop = c.before.before.before.before.before.before.loop in
-    let is-left = c.before.before.before.before.is-left in
-    walk_less entry.requires loop.invariant (sym is-left.ensures ∙ c.before.before.before.if1.true)
+    let entry = c in
+    let loop = c.loop-flat in
+    let is-left = c.is_left in
+    walk_less entry.requires loop.invariant (sym is-left.ensures ∙ c.loop-flat-test.true)
 
-loop-again : tie.Need-loop-preserved invariant-loop decreases-loop
+loop-again : tie.Need-loop-flat-preserved invariant-loop decreases-loop
 loop-again c =
-    let entry = c.before.before.before.before.before.before.before.before.before.before.before in
-    let loop = c.before.before.before.before.before.before.loop in
-    let is-left = c.before.before.before.before.is-left in
-    walk_turns entry.requires loop.invariant (sym is-left.ensures ∙ c.before.before.before.if1.true) _ c.wide.ensures
+    let entry = c in
+    let loop = c.loop-flat in
+    let is-left = c.is_left in
+    walk_turns entry.requires loop.invariant (sym is-left.ensures ∙ c.loop-flat-test.true) _ c.wide-u.ensures
 
-same_length : tie.Need-same-length invariant-loop decreases-loop
-same_length c = c.before.before.before.loop.invariant.long
+same_length : tie.Need-shape_of-left invariant-loop decreases-loop
+same_length c = c.loop-flat.invariant.long
 
-same-length-2 : tie.Need-same-length-2 invariant-loop decreases-loop
-same-length-2 c = c.before.before.before.loop.invariant.growing.long
+same-length-2 : tie.Need-shape_of-flat invariant-loop decreases-loop
+same-length-2 c = c.loop-flat.invariant.growing.long
 
 returns : tie.Need-returns invariant-loop decreases-loop
 returns c =
-    let entry = c.before.before.before.before.before.before.before.before in
-    let loop = c.before.before.before.loop in
-    walk_ends entry.requires loop.invariant (sym c.before.is-left.ensures ∙ c.if1.false)
+    let entry = c in
+    let loop = c.loop-flat in
+    walk_ends entry.requires loop.invariant (sym c.is_left.ensures ∙ c.loop-flat-test.false)
 
-pub trace-wire-spec : {M : Type 1} → statement M
-trace-wire-spec =
+pub trace_wire_spec : {M : Type 1} → statement M
+trace_wire_spec =
     tie.close
     (tie.spec
     invariant-loop
