@@ -7,61 +7,61 @@ use native.Mathlib.Omega.{arith}
 use Rattle.ported.proofs.keep_last.Statement.{statement}
 use Rattle.ported.proofs.keep_last.Tie as tie
 
-abbrev invariant-loop : tie.invariant-loop
+abbrev invariant-loop : tie.invariant-loop-k
 invariant-loop starts firsts₀ k₀ firsts k = Numbering starts firsts₀ firsts k
 
-abbrev decreases-loop : tie.decreases-loop
+abbrev decreases-loop : tie.decreases-loop-k
 decreases-loop starts firsts₀ k₀ firsts k = length starts - k
 
-loop-holds : tie.Need-loop-init invariant-loop decreases-loop
+loop-holds : tie.Need-loop-k-init invariant-loop decreases-loop
 loop-holds c = number_begins _ _
 
-mul_wide : tie.Need-overflow-mul-wide invariant-loop decreases-loop
+mul_wide : tie.Need-offset_bounds-starts-k invariant-loop decreases-loop
 mul_wide c = search rules
 
-shared-slice-read-wide : tie.Need-shared-slice-read-wide invariant-loop decreases-loop
+shared-slice-read-wide : tie.Need-bounds-starts-k invariant-loop decreases-loop
 shared-slice-read-wide c = search rules
 
-wide-requires : tie.Need-wide-requires invariant-loop decreases-loop
+wide-requires : tie.Need-wide-s-requires invariant-loop decreases-loop
 wide-requires c κs = search rules
 
-cast-firsts : tie.Need-overflow-cast-firsts invariant-loop decreases-loop
+cast-firsts : tie.Need-overflow_cast-firsts invariant-loop decreases-loop
 cast-firsts c = search rules
 
-mul-firsts : tie.Need-overflow-mul-firsts invariant-loop decreases-loop
+mul-firsts : tie.Need-offset_bounds-firsts-s invariant-loop decreases-loop
 mul-firsts c =
-    let wide = c.wide in
-    let pre = c.before.before.before.before.before.before.requires in
-    let loop = c.before.before.before.loop in
-    let loop-test = c.before.before.loop-test in
-    let good = c.before.before.before.before.before.before.well-formed in
+    let wide = c.wide-s in
+    let pre = c.requires in
+    let loop = c.loop-k in
+    let loop-test = c.loop-k-test in
+    let good = c.well_formed in
     omega (arith, wide.ensures, pre.from loop.k loop-test.true, good)
 
-slice-write-firsts : tie.Need-slice-write-firsts invariant-loop decreases-loop
+slice-write-firsts : tie.Need-bounds-firsts-s invariant-loop decreases-loop
 slice-write-firsts c =
-    let wide = c.wide in
-    let pre = c.before.before.before.before.before.before.requires in
-    let loop = c.before.before.before.loop in
-    let loop-test = c.before.before.loop-test in
+    let wide = c.wide-s in
+    let pre = c.requires in
+    let loop = c.loop-k in
+    let loop-test = c.loop-k-test in
     omega (arith, wide.ensures, pre.from loop.k loop-test.true, loop.invariant.same)
 
-add-k : tie.Need-overflow-add-k invariant-loop decreases-loop
+add-k : tie.Need-overflow_add-k invariant-loop decreases-loop
 add-k c = search rules
 
-loop-less : tie.Need-loop-smaller invariant-loop decreases-loop
+loop-less : tie.Need-loop-k-smaller invariant-loop decreases-loop
 loop-less c = search rules
 
-loop-again : tie.Need-loop-preserved invariant-loop decreases-loop
-loop-again c = number_turns _ c.before.before.loop-test.true c.wide.ensures c.before.before.before.loop.invariant
+loop-again : tie.Need-loop-k-preserved invariant-loop decreases-loop
+loop-again c = number_turns _ c.loop-k-test.true c.wide-s.ensures c.loop-k.invariant
 
-same_length : tie.Need-same-length invariant-loop decreases-loop
+same_length : tie.Need-shape_of-firsts invariant-loop decreases-loop
 same_length c = search rules
 
 returns : tie.Need-returns invariant-loop decreases-loop
-returns c = number_ends c.loop-test.false c.before.loop.invariant
+returns c = number_ends c.loop-k-test.false c.loop-k.invariant
 
-pub keep-last-spec : {M : Type 1} → statement M
-keep-last-spec =
+pub keep_last_spec : {M : Type 1} → statement M
+keep_last_spec =
     tie.close
     (tie.spec
     invariant-loop
