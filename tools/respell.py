@@ -57,7 +57,7 @@ def apart(files, declared, fields, table, crates):
     """Names that would fall together in a file get different ones."""
     texts = {}
     for p in files:
-        if p.endswith(".antt") and not p.endswith("/Proof.antt"):
+        if p.endswith(".antt") and not p.endswith("/Proof.antt") and "__" not in os.path.basename(p):
             text = open(p, encoding="utf-8").read()
             lines = [l.partition(" -- ")[0] for l in text.split("\n") if not l.lstrip().startswith("--")]
             texts[p] = (set(TOKEN.findall("\n".join(lines))), taken(text, crates))
@@ -88,7 +88,7 @@ def main(root):
     declared = collections.defaultdict(set)
     fields = set()
     for p in files:
-        if not p.endswith(".antt") or p.endswith("/Proof.antt"):
+        if not p.endswith(".antt") or p.endswith("/Proof.antt") or "__" in os.path.basename(p):
             continue
         record = None
         for line in open(p, encoding="utf-8"):
