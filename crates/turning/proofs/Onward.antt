@@ -69,9 +69,9 @@ pub data Crossed (next : Edge → Edge) (h es : List Edge) : Edge → Edge → T
   cross : {a b c : Edge} → Crossed next h es a b → is_hem h b ≡ false → In b es → next (flip b) ≡ c → Crossed next h es a c
 
 module _ (next : Edge → Edge) (h es : List Edge) where
-  crossed_first : {a c : Edge} → is_hem h a ≡ false → In a es → Crossed next h es (next (flip a)) c → Crossed next h es a c
-  crossed_first q m (here p) = cross (here refl) q m p
-  crossed_first q m (cross r q' m' p) = cross (crossed_first q m r) q' m' p
+  crossed_first : {a v c : Edge} → next (flip a) ≡ v → is_hem h a ≡ false → In a es → Crossed next h es v c → Crossed next h es a c
+  crossed_first e q m (here p) = cross (here refl) q m (e ∙ p)
+  crossed_first e q m (cross r q' m' p) = cross (crossed_first e q m r) q' m' p
 
   pub turn_crossed :
       ((e : Edge) → In e es → is_hem h e ≡ false → In (next (flip e)) es)
@@ -84,7 +84,7 @@ module _ (next : Edge → Edge) (h es : List Edge) where
           (b : Bool) → is_hem h e ≡ b → (In (next (flip e)) es → Crossed next h es (next (flip e)) (turn_from next h n (next (flip e))))
           → Crossed next h es e (elim b [ true ↦ e | false ↦ turn_from next h n (next (flip e)) ])
       go true q ih = here refl
-      go false q ih = crossed_first q m (ih (i e m q))
+      go false q ih = crossed_first refl q m (ih (i e m q))
 
   step_inner : (e : Edge) → is_hem h e ≡ false → step_in next h e ≡ next (flip e)
   step_inner e q = rw q
