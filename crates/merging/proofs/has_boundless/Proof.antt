@@ -9,46 +9,46 @@ use Rattle.floating.specs.Limits.{boundless}
 use Rattle.merging.proofs.has_boundless.Statement.{statement}
 use Rattle.merging.proofs.has_boundless.Tie as tie
 
-abbrev invariant-loop : tie.invariant-loop
+abbrev invariant-loop : tie.invariant-loop-k
 invariant-loop s k₀ k = Searching boundless s k
 
-abbrev decreases-loop : tie.decreases-loop
+abbrev decreases-loop : tie.decreases-loop-k
 decreases-loop s k₀ k = length s - k
 
-loop-holds : tie.Need-loop-init invariant-loop decreases-loop
+loop-holds : tie.Need-loop-k-init invariant-loop decreases-loop
 loop-holds c = search_begins boundless nan _
 
-mul-is-boundless : tie.Need-overflow-mul-is-boundless invariant-loop decreases-loop
+mul-is-boundless : tie.Need-offset_bounds-s-k invariant-loop decreases-loop
 mul-is-boundless c = search rules
 
-shared-slice-read-is-boundless : tie.Need-shared-slice-read-is-boundless invariant-loop decreases-loop
+shared-slice-read-is-boundless : tie.Need-bounds-s-k invariant-loop decreases-loop
 shared-slice-read-is-boundless c = search rules
 
-is-boundless-requires : tie.Need-is-boundless-requires invariant-loop decreases-loop
+is-boundless-requires : tie.Need-is_boundless-requires invariant-loop decreases-loop
 is-boundless-requires c κs = search rules
 
-returns : tie.Need-returns invariant-loop decreases-loop
+returns : tie.Need-returns-then-is_boundless invariant-loop decreases-loop
 returns c =
-    let args = c.before.before.before.before.before.before.args in
-    let test = c.before.before.before.loop-test in
-    let is-boundless = c.before.is-boundless in
-    let if1 = c.if1 in
+    let args = c.args in
+    let test = c.loop-k-test in
+    let is-boundless = c.is_boundless in
+    let if1 = c.if-is_boundless in
     search_finds boundless nan args.s.now _ test.true (sym is-boundless.ensures ∙ if1.true)
 
-add-k : tie.Need-overflow-add-k invariant-loop decreases-loop
+add-k : tie.Need-overflow_add-k invariant-loop decreases-loop
 add-k c = search rules
 
-loop-less : tie.Need-loop-smaller invariant-loop decreases-loop
+loop-less : tie.Need-loop-k-smaller invariant-loop decreases-loop
 loop-less c = search rules
 
-loop-again : tie.Need-loop-preserved invariant-loop decreases-loop
-loop-again c = search_turns boundless nan _ _ c.before.before.before.loop-test.true (sym c.before.is-boundless.ensures ∙ c.if1.false) c.before.before.before.before.loop.invariant
+loop-again : tie.Need-loop-k-preserved invariant-loop decreases-loop
+loop-again c = search_turns boundless nan _ _ c.loop-k-test.true (sym c.is_boundless.ensures ∙ c.if-is_boundless.false) c.loop-k.invariant
 
-returns-2 : tie.Need-returns-2 invariant-loop decreases-loop
-returns-2 c = search_ends boundless nan _ _ c.loop-test.false c.before.loop.invariant
+returns-2 : tie.Need-returns invariant-loop decreases-loop
+returns-2 c = search_ends boundless nan _ _ c.loop-k-test.false c.loop-k.invariant
 
-pub has-boundless-spec : {M : Type 1} → statement M
-has-boundless-spec =
+pub has_boundless_spec : {M : Type 1} → statement M
+has_boundless_spec =
     tie.close
     (tie.spec
     invariant-loop

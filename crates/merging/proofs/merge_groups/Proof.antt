@@ -9,50 +9,50 @@ use Rattle.together.proofs.Settling.{settled_as}
 use Rattle.merging.proofs.merge_groups.Statement.{statement}
 use Rattle.merging.proofs.merge_groups.Tie as tie
 
-slice-aggregate-create-components : tie.Need-slice-aggregate-create-components
+slice-aggregate-create-components : tie.Need-slice_bounds-create_components-end
 slice-aggregate-create-components c = search rules
 
-slice-aggregate-create-components-2 : tie.Need-slice-aggregate-create-components-2
+slice-aggregate-create-components-2 : tie.Need-slice_bounds-create_components-end-2
 slice-aggregate-create-components-2 c = search rules
 
-create-components-requires : tie.Need-create-components-requires
+create-components-requires : tie.Need-create_components-count-requires
 create-components-requires c κs = search rules
 
-slice-aggregate-centralize-groups : tie.Need-slice-aggregate-centralize-groups
+slice-aggregate-centralize-groups : tie.Need-slice_bounds-centralize_groups-end
 slice-aggregate-centralize-groups c = search rules
 
-slice-aggregate-centralize-groups-2 : tie.Need-slice-aggregate-centralize-groups-2
+slice-aggregate-centralize-groups-2 : tie.Need-slice_bounds-centralize_groups-end-2
 slice-aggregate-centralize-groups-2 c = search rules
 
-centralize-groups-requires : tie.Need-centralize-groups-requires
+centralize-groups-requires : tie.Need-centralize_groups-requires
 centralize-groups-requires c κs =
-    let pre = c.before.before.before.before.before.before.before.before.before.before.before.requires in
-    let components = c.before.before.before.before.before.create-components in
-    let kept = components.auto.1.1.1.1.1 in (
+    let pre = c.requires in
+    let components = c.create_components-count in
+    let kept = components.auto in (
       record {
         least = pre.0.points.least;
         most = pre.0.points.most;
         few = pre.0.points.few;
         long = pre.0.points.long ∙ sym pre.0.same;
-        order_room = omega (arith, kept.0, length-replicate {A = ℕ} entry_limit 0, pre.0.points.few);
-        ends_room = omega (arith, kept.1.0, length-replicate {A = ℕ} entry_limit 0, pre.0.points.few);
+        order_room = omega (arith, kept.order, length-replicate {A = ℕ} entry_limit 0, pre.0.points.few);
+        ends_room = omega (arith, kept.ends, length-replicate {A = ℕ} entry_limit 0, pre.0.points.few);
         laid = components.ensures.laid;
       },
       pre.1,
     )
 
-same_length : tie.Need-same-length
+same_length : tie.Need-shape_of-map
 same_length c = search rules
 
 returns : tie.Need-returns
 returns c =
-    let args = c.before.before.before.before.before.before.before.before.before.before.before.before.before.before.args in
-    let components = c.before.before.before.before.before.before.before.before.create-components in
-    let sent = c.before.before.centralize-groups in
+    let args = c.args in
+    let components = c.create_components-count in
+    let sent = c.centralize_groups in
     settled_as args.w args.s.now components.ensures.are sent.ensures
 
-pub merge-groups-spec : {M : Type 1} → statement M
-merge-groups-spec =
+pub merge_groups_spec : {M : Type 1} → statement M
+merge_groups_spec =
     tie.close
     (tie.spec
     slice-aggregate-create-components
