@@ -5,56 +5,56 @@ use Rattle.moved.proofs.Filling.{Filling, fill_begins, fill_turns, fill_ends}
 use Rattle.moved.proofs.put_middles.Statement.{statement}
 use Rattle.moved.proofs.put_middles.Tie as tie
 
-abbrev invariant-loop : tie.invariant-loop
+abbrev invariant-loop : tie.invariant-loop-e
 invariant-loop positions lowers highers firsts seconds wings degrees second ones out₀ at e₀ out e =
     Filling (middle_at positions lowers highers firsts seconds wings degrees second ones) out₀ out at (length lowers) e
 
-abbrev decreases-loop : tie.decreases-loop
+abbrev decreases-loop : tie.decreases-loop-e
 decreases-loop positions lowers highers firsts seconds wings degrees second ones out₀ at e₀ out e = length lowers - e
 
-loop-holds : tie.Need-loop-init invariant-loop decreases-loop
+loop-holds : tie.Need-loop-e-init invariant-loop decreases-loop
 loop-holds c = fill_begins _ _ _ _
 
-middle-requires : tie.Need-middle-requires invariant-loop decreases-loop
-middle-requires c κs = (c.before.before.before.before.before.before.before.before.before.before.before.before.requires.0, c.loop-test.true)
+middle-requires : tie.Need-middle-p-requires invariant-loop decreases-loop
+middle-requires c κs = (c.requires.0, c.loop-e-test.true)
 
-add-put-point : tie.Need-overflow-add-put-point invariant-loop decreases-loop
+add-put-point : tie.Need-overflow_add-at invariant-loop decreases-loop
 add-put-point c =
-    let pre = c.before.before.before.before.before.before.before.before.before.before.before.before.before.before.requires in
-    let good = c.before.before.before.before.before.before.before.before.before.before.before.before.before.before.well-formed in
-    let test = c.before.before.loop-test in
+    let pre = c.requires in
+    let good = c.well_formed in
+    let test = c.loop-e-test in
     omega (arith, pre.1, good, test.true)
 
-put-point-requires : tie.Need-put-point-requires invariant-loop decreases-loop
+put-point-requires : tie.Need-put_point-requires invariant-loop decreases-loop
 put-point-requires c κs =
-    let pre = c.before.before.before.before.before.before.before.before.before.before.before.before.before.before.requires in
-    let loop = c.before.before.before.loop in
-    let test = c.before.before.loop-test in
+    let pre = c.requires in
+    let loop = c.loop-e in
+    let test = c.loop-e-test in
     omega (arith, pre.1, loop.invariant.long, test.true)
 
-add-e : tie.Need-overflow-add-e invariant-loop decreases-loop
+add-e : tie.Need-overflow_add-e invariant-loop decreases-loop
 add-e c = search rules
 
-loop-less : tie.Need-loop-smaller invariant-loop decreases-loop
+loop-less : tie.Need-loop-e-smaller invariant-loop decreases-loop
 loop-less c = search rules
 
-loop-again : tie.Need-loop-preserved invariant-loop decreases-loop
+loop-again : tie.Need-loop-e-preserved invariant-loop decreases-loop
 loop-again c =
-    let loop = c.before.before.before.before.before.before.loop in
-    let test = c.before.before.before.before.before.loop-test in
-    let middle = c.before.before.before.before.middle in
-    let put-point = c.before.before.put-point in
+    let loop = c.loop-e in
+    let test = c.loop-e-test in
+    let middle = c.middle-p in
+    let put-point = c.put_point in
     fill_turns _ _ _ _ _ _ loop.e _ _ test.true refl middle.ensures put-point.ensures loop.invariant
 
-same_length : tie.Need-same-length invariant-loop decreases-loop
+same_length : tie.Need-shape_of-out invariant-loop decreases-loop
 same_length c = search rules
 
 returns : tie.Need-returns invariant-loop decreases-loop
 unfolding middle_list
-returns c = fill_ends _ _ _ _ _ c.before.loop.e c.loop-test.false c.before.loop.invariant
+returns c = fill_ends _ _ _ _ _ c.loop-e.e c.loop-e-test.false c.loop-e.invariant
 
-pub put-middles-spec : {M : Type 1} → statement M
-put-middles-spec =
+pub put_middles_spec : {M : Type 1} → statement M
+put_middles_spec =
     tie.close
     (tie.spec
     invariant-loop

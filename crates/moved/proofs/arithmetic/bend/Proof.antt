@@ -10,20 +10,20 @@ minus-requires c κs = search rules
 minus-requires-2 : tie.Need-minus-requires-2
 minus-requires-2 c κs = search rules
 
-plus-requires : tie.Need-plus-requires
+plus-requires : tie.Need-plus-both-requires
 plus-requires c κs = search rules
 
 over-requires : tie.Need-over-requires
 over-requires c κs = search rules
 
-plus-requires-2 : tie.Need-plus-requires-2
+plus-requires-2 : tie.Need-plus-requires
 plus-requires-2 c κs = search rules
 
 returns : tie.Need-returns
-returns c = bent_is _ _ _ _ _ _ _ _ c.before.before.before.before.minus.ensures c.before.before.before.minus2.ensures
-    c.before.before.plus.ensures c.before.over.ensures c.plus2.ensures
+returns c = bent_is _ _ _ _ _ _ _ _ c.minus.ensures c.minus-2.ensures
+    c.plus-both.ensures c.over.ensures c.plus.ensures
 
-pub bend-spec : {M : Type 1} → statement M
-bend-spec =
+pub bend_spec : {M : Type 1} → statement M
+bend_spec =
     tie.close
     (tie.spec minus-requires minus-requires-2 plus-requires over-requires plus-requires-2 returns)

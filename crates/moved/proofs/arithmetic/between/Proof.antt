@@ -10,7 +10,7 @@ minus-requires c κs = search rules
 times-requires : tie.Need-times-requires
 times-requires c κs = search rules
 
-plus-requires : tie.Need-plus-requires
+plus-requires : tie.Need-plus-on-requires
 plus-requires c κs = search rules
 
 minus-requires-2 : tie.Need-minus-requires-2
@@ -19,7 +19,7 @@ minus-requires-2 c κs = search rules
 over-requires : tie.Need-over-requires
 over-requires c κs = search rules
 
-plus-requires-2 : tie.Need-plus-requires-2
+plus-requires-2 : tie.Need-plus-first-requires
 plus-requires-2 c κs = search rules
 
 minus-requires-3 : tie.Need-minus-requires-3
@@ -28,19 +28,19 @@ minus-requires-3 c κs = search rules
 over-requires-2 : tie.Need-over-requires-2
 over-requires-2 c κs = search rules
 
-plus-requires-3 : tie.Need-plus-requires-3
+plus-requires-3 : tie.Need-plus-requires
 plus-requires-3 c κs = search rules
 
 returns : tie.Need-returns
-returns c = let on = c.before.before.before.before.before.before in
-    let first = c.before.before.before in
+returns c = let on = c in
+    let first = c in
     winged_is _ _ _ _ _ _ _ _ _ _ _ _ _ _
-    on.before.before.minus.ensures on.before.times.ensures on.plus.ensures
-    first.before.before.minus2.ensures first.before.over.ensures first.plus2.ensures
-    c.before.before.minus3.ensures c.before.over2.ensures c.plus3.ensures
+    on.minus.ensures on.times.ensures on.plus-on.ensures
+    first.minus-2.ensures first.over.ensures first.plus-first.ensures
+    c.minus-3.ensures c.over-2.ensures c.plus.ensures
 
-pub between-spec : {M : Type 1} → statement M
-between-spec =
+pub between_spec : {M : Type 1} → statement M
+between_spec =
     tie.close
     (tie.spec
     minus-requires

@@ -11,7 +11,7 @@ plus-requires : tie.Need-plus-requires
 plus-requires c κs = search rules
 
 returns : tie.Need-returns
-returns c = drawn_is _ _ _ _ _ c.before.times.ensures c.plus.ensures
+returns c = drawn_is _ _ _ _ _ c.times.ensures c.plus.ensures
 
-pub draw-spec : {M : Type 1} → statement M
-draw-spec = tie.close (tie.spec times-requires plus-requires returns)
+pub draw_spec : {M : Type 1} → statement M
+draw_spec = tie.close (tie.spec times-requires plus-requires returns)

@@ -14,7 +14,7 @@ plus-requires : tie.Need-plus-requires
 plus-requires c κs = search rules
 
 returns : tie.Need-returns
-returns c = halfway_is _ _ _ _ _ c.before.before.minus.ensures c.before.over.ensures c.plus.ensures
+returns c = halfway_is _ _ _ _ _ c.minus.ensures c.over.ensures c.plus.ensures
 
-pub midpoint-spec : {M : Type 1} → statement M
-midpoint-spec = tie.close (tie.spec minus-requires over-requires plus-requires returns)
+pub midpoint_spec : {M : Type 1} → statement M
+midpoint_spec = tie.close (tie.spec minus-requires over-requires plus-requires returns)

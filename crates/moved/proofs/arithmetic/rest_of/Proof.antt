@@ -6,5 +6,5 @@ use Rattle.moved.proofs.arithmetic.rest_of.Tie as tie
 returns : tie.Need-returns
 returns c = cc (five_eighths_is, four_is)
 
-pub rest-of-spec : {M : Type 1} → statement M
-rest-of-spec = tie.close (tie.spec returns)
+pub rest_of_spec : {M : Type 1} → statement M
+rest_of_spec = tie.close (tie.spec returns)

@@ -6,5 +6,5 @@ use Rattle.moved.proofs.arithmetic.spread_of.Tie as tie
 returns : tie.Need-returns
 returns c = cc (three_eighths_is, four_is)
 
-pub spread-of-spec : {M : Type 1} → statement M
-spread-of-spec = tie.close (tie.spec returns)
+pub spread_of_spec : {M : Type 1} → statement M
+spread_of_spec = tie.close (tie.spec returns)
