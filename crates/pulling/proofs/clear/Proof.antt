@@ -8,35 +8,35 @@ use Rattle.pulling.proofs.Pulled.{Clearing, clear_begins, clear_turns, clear_end
 use Rattle.pulling.proofs.clear.Statement.{statement}
 use Rattle.pulling.proofs.clear.Tie as tie
 
-abbrev invariant-loop : tie.invariant-loop
+abbrev invariant-loop : tie.invariant-loop-i
 invariant-loop pulls₀ i₀ pulls i = Clearing pulls₀ pulls i
 
-abbrev decreases-loop : tie.decreases-loop
+abbrev decreases-loop : tie.decreases-loop-i
 decreases-loop pulls₀ i₀ pulls i = length pulls₀ - i
 
-loop-holds : tie.Need-loop-init invariant-loop decreases-loop
+loop-holds : tie.Need-loop-i-init invariant-loop decreases-loop
 loop-holds c = clear_begins _
 
-mul-pulls : tie.Need-overflow-mul-pulls invariant-loop decreases-loop
+mul-pulls : tie.Need-offset_bounds-pulls-i invariant-loop decreases-loop
 mul-pulls c = search rules
 
-slice-write-pulls : tie.Need-slice-write-pulls invariant-loop decreases-loop
+slice-write-pulls : tie.Need-bounds-pulls-i invariant-loop decreases-loop
 slice-write-pulls c = search rules
 
-add-i : tie.Need-overflow-add-i invariant-loop decreases-loop
+add-i : tie.Need-overflow_add-i invariant-loop decreases-loop
 add-i c = search rules
 
-loop-less : tie.Need-loop-smaller invariant-loop decreases-loop
+loop-less : tie.Need-loop-i-smaller invariant-loop decreases-loop
 loop-less c = search rules
 
-loop-again : tie.Need-loop-preserved invariant-loop decreases-loop
-loop-again c = clear_turns _ _ _ _ nought_is (omega (arith, c.before.loop.invariant.long)) c.before.loop.invariant
+loop-again : tie.Need-loop-i-preserved invariant-loop decreases-loop
+loop-again c = clear_turns _ _ _ _ nought_is (omega (arith, c.loop-i.invariant.long)) c.loop-i.invariant
 
-same_length : tie.Need-same-length invariant-loop decreases-loop
+same_length : tie.Need-shape_of-pulls invariant-loop decreases-loop
 same_length c = search rules
 
 returns : tie.Need-returns invariant-loop decreases-loop
-returns c = clear_ends _ _ _ (omega (arith, c.before.loop.invariant.long)) c.before.loop.invariant
+returns c = clear_ends _ _ _ (omega (arith, c.loop-i.invariant.long)) c.loop-i.invariant
 
 pub clear_spec : {M : Type 1} → statement M
 clear_spec =

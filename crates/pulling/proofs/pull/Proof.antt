@@ -4,50 +4,50 @@ use borrow.Author.Rules.{rules}
 use Rattle.pulling.proofs.pull.Statement.{statement}
 use Rattle.pulling.proofs.pull.Tie as tie
 
-mul-p : tie.Need-overflow-mul-p
+mul-p : tie.Need-offset_bounds-positions-i
 mul-p c = search rules
 
-shared-slice-read-p : tie.Need-shared-slice-read-p
+shared-slice-read-p : tie.Need-bounds-positions-i
 shared-slice-read-p c = search rules
 
-mul-q : tie.Need-overflow-mul-q
+mul-q : tie.Need-offset_bounds-positions-j
 mul-q c = search rules
 
-shared-slice-read-q : tie.Need-shared-slice-read-q
+shared-slice-read-q : tie.Need-bounds-positions-j
 shared-slice-read-q c = search rules
 
-mul-pulls : tie.Need-overflow-mul-pulls
+mul-pulls : tie.Need-offset_bounds-pulls-i
 mul-pulls c = search rules
 
-slice-read-pulls : tie.Need-slice-read-pulls
+slice-read-pulls : tie.Need-bounds-pulls-i
 slice-read-pulls c = search rules
 
-mul-pulls-2 : tie.Need-overflow-mul-pulls-2
+mul-pulls-2 : tie.Need-offset_bounds-pulls-i-2
 mul-pulls-2 c = search rules
 
-slice-write-pulls : tie.Need-slice-write-pulls
+slice-write-pulls : tie.Need-bounds-pulls-i-2
 slice-write-pulls c = search rules
 
-mul-pulls-3 : tie.Need-overflow-mul-pulls-3
+mul-pulls-3 : tie.Need-offset_bounds-pulls-j
 mul-pulls-3 c = search rules
 
-slice-read-pulls-2 : tie.Need-slice-read-pulls-2
+slice-read-pulls-2 : tie.Need-bounds-pulls-j
 slice-read-pulls-2 c = search rules
 
-mul-pulls-4 : tie.Need-overflow-mul-pulls-4
+mul-pulls-4 : tie.Need-offset_bounds-pulls-j-2
 mul-pulls-4 c = search rules
 
-slice-write-pulls-2 : tie.Need-slice-write-pulls-2
+slice-write-pulls-2 : tie.Need-bounds-pulls-j-2
 slice-write-pulls-2 c = search rules
 
-same_length : tie.Need-same-length
+same_length : tie.Need-shape_of-pulls
 same_length c = search rules
 
 returns : tie.Need-returns
 returns c = refl
 
-pub pull-spec : {M : Type 1} → statement M
-pull-spec =
+pub pull_spec : {M : Type 1} → statement M
+pull_spec =
     tie.close
     (tie.spec
     mul-p
