@@ -14,47 +14,47 @@ use native.Mathlib.Omega.{arith}
 use Rattle.smoothable.proofs.any_folded.Statement.{statement}
 use Rattle.smoothable.proofs.any_folded.Tie as tie
 
-abbrev invariant-loop : tie.invariant-loop
+abbrev invariant-loop : tie.invariant-loop-k
 invariant-loop corners count k₀ k = Searching folded (triangles corners) k
 
-abbrev decreases-loop : tie.decreases-loop
+abbrev decreases-loop : tie.decreases-loop-k
 decreases-loop corners count k₀ k = length corners / (width * least_ring) - k
 
-loop-holds : tie.Need-loop-init invariant-loop decreases-loop
+loop-holds : tie.Need-loop-k-init invariant-loop decreases-loop
 loop-holds c = search_begins folded [] _
 
-triangle-at-requires : tie.Need-triangle-at-requires invariant-loop decreases-loop
+triangle-at-requires : tie.Need-triangle_at-requires invariant-loop decreases-loop
 triangle-at-requires c κs = search rules
 
-degenerate-triangle-requires : tie.Need-degenerate-triangle-requires invariant-loop decreases-loop
+degenerate-triangle-requires : tie.Need-degenerate_triangle-requires invariant-loop decreases-loop
 degenerate-triangle-requires c κs = search rules
 
-returns : tie.Need-returns invariant-loop decreases-loop
+returns : tie.Need-returns-then-degenerate_triangle invariant-loop decreases-loop
 returns c =
-    let cs = c.before.before.before.before.before.before.args.corners.now in
-    search_finds folded [] (triangles cs) _ (omega (arith, length_triangles cs, c.before.before.before.loop-test.true))
-    (folded_here cs _ _ _ c.before.before.before.loop-test.true c.before.before.triangle-at.ensures c.before.degenerate-triangle.ensures ∙ c.if1.true)
+    let cs = c.args.corners.now in
+    search_finds folded [] (triangles cs) _ (omega (arith, length_triangles cs, c.loop-k-test.true))
+    (folded_here cs _ _ _ c.loop-k-test.true c.triangle_at.ensures c.degenerate_triangle.ensures ∙ c.if-degenerate_triangle.true)
 
-add-k : tie.Need-overflow-add-k invariant-loop decreases-loop
+add-k : tie.Need-overflow_add-k invariant-loop decreases-loop
 add-k c = search rules
 
-loop-less : tie.Need-loop-smaller invariant-loop decreases-loop
+loop-less : tie.Need-loop-k-smaller invariant-loop decreases-loop
 loop-less c = search rules
 
-loop-again : tie.Need-loop-preserved invariant-loop decreases-loop
+loop-again : tie.Need-loop-k-preserved invariant-loop decreases-loop
 loop-again c =
-    let cs = c.before.before.before.before.before.before.args.corners.now in
-    search_turns folded [] (triangles cs) _ (omega (arith, length_triangles cs, c.before.before.before.loop-test.true))
-    (folded_here cs _ _ _ c.before.before.before.loop-test.true c.before.before.triangle-at.ensures c.before.degenerate-triangle.ensures ∙ c.if1.false)
-    c.before.before.before.before.loop.invariant
+    let cs = c.args.corners.now in
+    search_turns folded [] (triangles cs) _ (omega (arith, length_triangles cs, c.loop-k-test.true))
+    (folded_here cs _ _ _ c.loop-k-test.true c.triangle_at.ensures c.degenerate_triangle.ensures ∙ c.if-degenerate_triangle.false)
+    c.loop-k.invariant
 
-returns-2 : tie.Need-returns-2 invariant-loop decreases-loop
+returns-2 : tie.Need-returns invariant-loop decreases-loop
 returns-2 c =
-    let cs = c.before.before.before.args.corners.now in
-    search_ends folded [] (triangles cs) _ (omega (arith, length_triangles cs, c.loop-test.false)) c.before.loop.invariant
+    let cs = c.args.corners.now in
+    search_ends folded [] (triangles cs) _ (omega (arith, length_triangles cs, c.loop-k-test.false)) c.loop-k.invariant
 
-pub any-folded-spec : {M : Type 1} → statement M
-any-folded-spec =
+pub any_folded_spec : {M : Type 1} → statement M
+any_folded_spec =
     tie.close
     (tie.spec
     invariant-loop

@@ -12,21 +12,21 @@ use borrow.Author.Rules.{rules}
 use Rattle.smoothable.proofs.any_idle.Statement.{statement}
 use Rattle.smoothable.proofs.any_idle.Tie as tie
 
-array-borrow-prefix-used : tie.Need-array-borrow-prefix-used
+array-borrow-prefix-used : tie.Need-slice_bounds-used-end
 array-borrow-prefix-used c = search rules
 
-slice-aggregate-idle-in : tie.Need-slice-aggregate-idle-in
-slice-aggregate-idle-in c = sym (length_front 0 c.before.before.args.positions entry_limit c.before.before.requires.entries)
+slice-aggregate-idle-in : tie.Need-slice_bounds-idle_in-end
+slice-aggregate-idle-in c = sym (length_front 0 c.args.positions entry_limit c.requires.entries)
 
-idle-in-requires : tie.Need-idle-in-requires
-idle-in-requires c κs = fresh_row _ c.before.before.args.positions entry_limit c.before.before.requires.entries c.before.before.requires
+idle-in-requires : tie.Need-idle_in-requires
+idle-in-requires c κs = fresh_row _ c.args.positions entry_limit c.requires.entries c.requires
 
 returns : tie.Need-returns
 returns c =
-    let cs = c.before.before.before.before.args.corners.now in
-    let long = length_front {B = ℕ} 0 c.before.before.before.before.args.positions entry_limit c.before.before.before.before.requires.entries in
-    c.before.idle-in.ensures ∙ ap (λ (n : ℕ). not (all_used n (triangles cs))) long
+    let cs = c.args.corners.now in
+    let long = length_front {B = ℕ} 0 c.args.positions entry_limit c.requires.entries in
+    c.idle_in.ensures ∙ ap (λ (n : ℕ). not (all_used n (triangles cs))) long
 
-pub any-idle-spec : {M : Type 1} → statement M
-any-idle-spec =
+pub any_idle_spec : {M : Type 1} → statement M
+any_idle_spec =
     tie.close (tie.spec array-borrow-prefix-used slice-aggregate-idle-in idle-in-requires returns)

@@ -5,17 +5,17 @@ use borrow.Author.Rules.{rules}
 use Rattle.smoothable.proofs.folded_or_idle.Statement.{statement}
 use Rattle.smoothable.proofs.folded_or_idle.Tie as tie
 
-any-folded-requires : tie.Need-any-folded-requires
+any-folded-requires : tie.Need-any_folded-requires
 any-folded-requires c κs = search rules
 
-returns : tie.Need-returns
-returns c = rw (sym c.before.any-folded.ensures ∙ c.if1.true)
+returns : tie.Need-returns-then-any_folded
+returns c = rw (sym c.any_folded.ensures ∙ c.if-any_folded.true)
 
-any-idle-requires : tie.Need-any-idle-requires
+any-idle-requires : tie.Need-any_idle-requires
 any-idle-requires c κs = search rules
 
-returns-2 : tie.Need-returns-2
-returns-2 c = rw (sym c.before.before.any-folded.ensures ∙ c.before.if1.false) c.any-idle.ensures
+returns-2 : tie.Need-returns
+returns-2 c = rw (sym c.any_folded.ensures ∙ c.if-any_folded.false) c.any_idle.ensures
 
-pub folded-or-idle-spec : {M : Type 1} → statement M
-folded-or-idle-spec = tie.close (tie.spec any-folded-requires returns any-idle-requires returns-2)
+pub folded_or_idle_spec : {M : Type 1} → statement M
+folded_or_idle_spec = tie.close (tie.spec any-folded-requires returns any-idle-requires returns-2)

@@ -6,5 +6,5 @@ use Rattle.smoothable.proofs.is_within_one.Tie as tie
 returns : tie.Need-returns
 returns c = within_one_lem c.args.c
 
-pub is-within-one-spec : {M : Type 1} → statement M
-is-within-one-spec = tie.close (tie.spec returns)
+pub is_within_one_spec : {M : Type 1} → statement M
+is_within_one_spec = tie.close (tie.spec returns)

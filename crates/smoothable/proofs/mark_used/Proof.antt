@@ -8,54 +8,54 @@ use native.Mathlib.Omega.{arith}
 use Rattle.smoothable.proofs.mark_used.Statement.{statement}
 use Rattle.smoothable.proofs.mark_used.Tie as tie
 
-abbrev invariant-loop : tie.invariant-loop
+abbrev invariant-loop : tie.invariant-loop-k
 invariant-loop corners used₀ count k₀ used k = Marking corners used₀ used k
 
-abbrev decreases-loop : tie.decreases-loop
+abbrev decreases-loop : tie.decreases-loop-k
 decreases-loop corners used₀ count k₀ used k = length corners / width - k
 
-loop-holds : tie.Need-loop-init invariant-loop decreases-loop
-loop-holds c = marking_begins _ _ c.before.before.requires
+loop-holds : tie.Need-loop-k-init invariant-loop decreases-loop
+loop-holds c = marking_begins _ _ c.requires
 
-mul_wide : tie.Need-overflow-mul-wide invariant-loop decreases-loop
+mul_wide : tie.Need-overflow_mul-k invariant-loop decreases-loop
 mul_wide c = search rules
 
-mul-wide-2 : tie.Need-overflow-mul-wide-2 invariant-loop decreases-loop
+mul-wide-2 : tie.Need-offset_bounds-corners-k invariant-loop decreases-loop
 mul-wide-2 c = search rules
 
-shared-slice-read-wide : tie.Need-shared-slice-read-wide invariant-loop decreases-loop
+shared-slice-read-wide : tie.Need-bounds-corners-k invariant-loop decreases-loop
 shared-slice-read-wide c = search rules
 
-wide-requires : tie.Need-wide-requires invariant-loop decreases-loop
+wide-requires : tie.Need-wide-p-requires invariant-loop decreases-loop
 wide-requires c κs = search rules
 
-mul-used : tie.Need-overflow-mul-used invariant-loop decreases-loop
-mul-used c = omega (arith, c.wide.ensures, c.before.before.before.before.before.before.requires.below c.before.before.before.loop.k c.before.before.loop-test.true)
+mul-used : tie.Need-offset_bounds-used-p invariant-loop decreases-loop
+mul-used c = omega (arith, c.wide-p.ensures, c.requires.below c.loop-k.k c.loop-k-test.true)
 
-slice-write-used : tie.Need-slice-write-used invariant-loop decreases-loop
+slice-write-used : tie.Need-bounds-used-p invariant-loop decreases-loop
 slice-write-used c =
-    let loop-test-at = c.before.before in
-    let loop-at = loop-test-at.before in
-    let start = loop-at.before.before.before in
-    omega (arith, c.wide.ensures, start.requires.below loop-at.loop.k loop-test-at.loop-test.true, loop-at.loop.invariant.long)
+    let loop-test-at = c in
+    let loop-at = c in
+    let start = c in
+    omega (arith, c.wide-p.ensures, start.requires.below loop-at.loop-k.k loop-test-at.loop-k-test.true, loop-at.loop-k.invariant.long)
 
-add-k : tie.Need-overflow-add-k invariant-loop decreases-loop
+add-k : tie.Need-overflow_add-k invariant-loop decreases-loop
 add-k c = search rules
 
-loop-less : tie.Need-loop-smaller invariant-loop decreases-loop
+loop-less : tie.Need-loop-k-smaller invariant-loop decreases-loop
 loop-less c = search rules
 
-loop-again : tie.Need-loop-preserved invariant-loop decreases-loop
-loop-again c = marking_turns _ _ _ _ _ c.before.before.before.before.before.before.requires c.wide.ensures c.before.before.loop-test.true c.before.before.before.loop.invariant
+loop-again : tie.Need-loop-k-preserved invariant-loop decreases-loop
+loop-again c = marking_turns _ _ _ _ _ c.requires c.wide-p.ensures c.loop-k-test.true c.loop-k.invariant
 
-same_length : tie.Need-same-length invariant-loop decreases-loop
+same_length : tie.Need-shape_of-used invariant-loop decreases-loop
 same_length c = search rules
 
 returns : tie.Need-returns invariant-loop decreases-loop
-returns c = marking_ends _ _ _ _ c.loop-test.false c.before.loop.invariant
+returns c = marking_ends _ _ _ _ c.loop-k-test.false c.loop-k.invariant
 
-pub mark-used-spec : {M : Type 1} → statement M
-mark-used-spec =
+pub mark_used_spec : {M : Type 1} → statement M
+mark_used_spec =
     tie.close
     (tie.spec
     invariant-loop

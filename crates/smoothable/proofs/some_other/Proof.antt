@@ -11,44 +11,44 @@ use native.Mathlib.Omega.{arith}
 use Rattle.smoothable.proofs.some_other.Statement.{statement}
 use Rattle.smoothable.proofs.some_other.Tie as tie
 
-abbrev invariant-loop : tie.invariant-loop
+abbrev invariant-loop : tie.invariant-loop-k
 invariant-loop list x k₀ k = Searching (λ n. not (eqb n x)) list k
 
-abbrev decreases-loop : tie.decreases-loop
+abbrev decreases-loop : tie.decreases-loop-k
 decreases-loop list x k₀ k = length list - k
 
-loop-holds : tie.Need-loop-init invariant-loop decreases-loop
+loop-holds : tie.Need-loop-k-init invariant-loop decreases-loop
 loop-holds c = search_begins (λ n. not (eqb n c.args.x)) 0 _
 
-mul-if1 : tie.Need-overflow-mul-if1 invariant-loop decreases-loop
+mul-if1 : tie.Need-offset_bounds-list-k invariant-loop decreases-loop
 mul-if1 c = search rules
 
-shared-slice-read-if1 : tie.Need-shared-slice-read-if1 invariant-loop decreases-loop
+shared-slice-read-if1 : tie.Need-bounds-list-k invariant-loop decreases-loop
 shared-slice-read-if1 c = search rules
 
-returns : tie.Need-returns invariant-loop decreases-loop
+returns : tie.Need-returns-then-list-k invariant-loop decreases-loop
 returns c =
-    let list = c.before.before.before.before.args.list.now in
-    search_finds (λ n. not (eqb n c.before.before.before.before.args.x)) 0 list _ c.before.before.loop-test.true (ap not (ne_eqb _ _ c.if1.true))
+    let list = c.args.list.now in
+    search_finds (λ n. not (eqb n c.args.x)) 0 list _ c.loop-k-test.true (ap not (ne_eqb _ _ c.if-list-k.true))
 
-add-k : tie.Need-overflow-add-k invariant-loop decreases-loop
+add-k : tie.Need-overflow_add-k invariant-loop decreases-loop
 add-k c = search rules
 
-loop-less : tie.Need-loop-smaller invariant-loop decreases-loop
+loop-less : tie.Need-loop-k-smaller invariant-loop decreases-loop
 loop-less c = search rules
 
-loop-again : tie.Need-loop-preserved invariant-loop decreases-loop
+loop-again : tie.Need-loop-k-preserved invariant-loop decreases-loop
 loop-again c =
-    let loop-test-at = c.before.before in
-    let loop-at = loop-test-at.before in
-    let args_at = loop-at.before in
-    search_turns (λ n. not (eqb n args_at.args.x)) 0 _ _ loop-test-at.loop-test.true (ap not (eq-eqb _ _ c.if1.false)) loop-at.loop.invariant
+    let loop-test-at = c in
+    let loop-at = c in
+    let args_at = c in
+    search_turns (λ n. not (eqb n args_at.args.x)) 0 _ _ loop-test-at.loop-k-test.true (ap not (eq-eqb _ _ c.if-list-k.false)) loop-at.loop-k.invariant
 
-returns-2 : tie.Need-returns-2 invariant-loop decreases-loop
-returns-2 c = search_ends (λ n. not (eqb n c.before.before.args.x)) 0 _ _ c.loop-test.false c.before.loop.invariant
+returns-2 : tie.Need-returns invariant-loop decreases-loop
+returns-2 c = search_ends (λ n. not (eqb n c.args.x)) 0 _ _ c.loop-k-test.false c.loop-k.invariant
 
-pub some-other-spec : {M : Type 1} → statement M
-some-other-spec =
+pub some_other_spec : {M : Type 1} → statement M
+some_other_spec =
     tie.close
     (tie.spec
     invariant-loop

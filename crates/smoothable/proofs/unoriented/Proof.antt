@@ -7,14 +7,14 @@ use borrow.Author.Rules.{rules}
 use Rattle.smoothable.proofs.unoriented.Statement.{statement}
 use Rattle.smoothable.proofs.unoriented.Tie as tie
 
-verdict-of-requires : tie.Need-verdict-of-requires
+verdict-of-requires : tie.Need-verdict_of-requires
 verdict-of-requires c κs = search rules
 
-is-oriented-requires : tie.Need-is-oriented-requires
+is-oriented-requires : tie.Need-is_oriented-requires
 is-oriented-requires c κs = search rules
 
 returns : tie.Need-returns
-returns c = ap not (c.is-oriented.ensures ∙ ap oriented c.before.verdict-of.ensures)
+returns c = ap not (c.is_oriented.ensures ∙ ap oriented c.verdict_of.ensures)
 
-pub unoriented-spec : {M : Type 1} → statement M
-unoriented-spec = tie.close (tie.spec verdict-of-requires is-oriented-requires returns)
+pub unoriented_spec : {M : Type 1} → statement M
+unoriented_spec = tie.close (tie.spec verdict-of-requires is-oriented-requires returns)
