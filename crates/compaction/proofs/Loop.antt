@@ -17,7 +17,6 @@ use Rattle.lists.proofs.Writing.{sets_append, sets_snoc, sets_front}
 use Rattle.mesh.specs.Limits.{point_width, texel_width, width, entry_limit}
 use Rattle.mesh.specs.Mesh.{Corner, Ring, missing, corners_in, corner_at}
 use Rattle.mesh.proofs.Corners.{length-corners_in, get_or-corners_in}
-use Rattle.unused.specs.declared.Compacted.{Compacted}
 use Rattle.unused.specs.Compaction.{uses_of, renumber, entries, Result}
 use Rattle.unused.specs.Working.{column, new_corner, Pointed, Ready, Done}
 use Rattle.oneindex.specs.Working.{index_at, uses_to, Tables, Before, Taken}
