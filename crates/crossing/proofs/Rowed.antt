@@ -22,7 +22,6 @@ use Rattle.uses.proofs.Gathering.{uses_ready}
 use Rattle.turning.specs.Rows.{nil, edge_at, place_count, begin_of, Rows}
 use Rattle.turning.proofs.Next.{ring_firsts}
 use Rattle.turning.proofs.Places.{next_below, place_below, place_of}
-use Rattle.turning.proofs.Tables.{after_is}
 use Rattle.crossing.specs.Crossing.{ring_row, after_from, AfterRoom, TwinRoom, Crossable}
 use Rattle.crossing.specs.Turned.{Rowed, faces_in}
 use Rattle.crossing.proofs.After.{length_ring_row, ring_row_at, length_after_from}

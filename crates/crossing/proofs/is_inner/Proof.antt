@@ -7,25 +7,25 @@ use borrow.Author.Rules.{rules}
 use Rattle.crossing.proofs.is_inner.Statement.{statement}
 use Rattle.crossing.proofs.is_inner.Tie as tie
 
-returns : tie.Need-returns
+returns : tie.Need-returns-then-left-eq0
 returns c =
-    let entry = c.before.before in
-    inner_none entry.args.twins.now entry.args.place entry.args.left c.if1.true
+    let entry = c in
+    inner_none entry.args.twins.now entry.args.place entry.args.left c.if-left-eq0.true
 
-mul_wide : tie.Need-overflow-mul-wide
+mul_wide : tie.Need-offset_bounds-twins-place
 mul_wide c = search rules
 
-shared-slice-read-wide : tie.Need-shared-slice-read-wide
+shared-slice-read-wide : tie.Need-bounds-twins-place
 shared-slice-read-wide c = search rules
 
 wide-requires : tie.Need-wide-requires
 wide-requires c κs = search rules
 
-returns-2 : tie.Need-returns-2
+returns-2 : tie.Need-returns
 returns-2 c =
-    let entry = c.before.before.before.before in
-    inner_some entry.args.twins.now entry.args.place entry.args.left _ c.before.before.if1.false (ap (λ x. not (eqb x entry.args.place)) c.wide.ensures)
+    let entry = c in
+    inner_some entry.args.twins.now entry.args.place entry.args.left _ c.if-left-eq0.false (ap (λ x. not (eqb x entry.args.place)) c.wide.ensures)
 
-pub is-inner-spec : {M : Type 1} → statement M
-is-inner-spec =
+pub is_inner_spec : {M : Type 1} → statement M
+is_inner_spec =
     tie.close (tie.spec returns mul_wide shared-slice-read-wide wide-requires returns-2)

@@ -8,57 +8,57 @@ use borrow.Author.Rules.{rules}
 use Rattle.crossing.proofs.put_ring.Statement.{statement}
 use Rattle.crossing.proofs.put_ring.Tie as tie
 
-abbrev invariant-loop : tie.invariant-loop
+abbrev invariant-loop : tie.invariant-loop-i
 invariant-loop n after₀ at i₀ after i = Copying (ring_row at n) after₀ after at i
 
-abbrev decreases-loop : tie.decreases-loop
+abbrev decreases-loop : tie.decreases-loop-i
 decreases-loop n after₀ at i₀ after i = n - i
 
-loop-holds : tie.Need-loop-init invariant-loop decreases-loop
+loop-holds : tie.Need-loop-i-init invariant-loop decreases-loop
 loop-holds c = ring_begins _ _ _
 
-next-of-requires : tie.Need-next-of-requires invariant-loop decreases-loop
+next-of-requires : tie.Need-next_of-requires invariant-loop decreases-loop
 next-of-requires c κs = search rules
 
-add-next : tie.Need-overflow-add-next invariant-loop decreases-loop
+add-next : tie.Need-overflow_add-next invariant-loop decreases-loop
 add-next c = search rules
 
-cast-after : tie.Need-overflow-cast-after invariant-loop decreases-loop
+cast-after : tie.Need-overflow_cast-after invariant-loop decreases-loop
 cast-after c = search rules
 
-add-after : tie.Need-overflow-add-after invariant-loop decreases-loop
+add-after : tie.Need-overflow_add-after invariant-loop decreases-loop
 add-after c = search rules
 
-mul-after : tie.Need-overflow-mul-after invariant-loop decreases-loop
+mul-after : tie.Need-offset_bounds-after-at invariant-loop decreases-loop
 mul-after c = search rules
 
-slice-write-after : tie.Need-slice-write-after invariant-loop decreases-loop
+slice-write-after : tie.Need-bounds-after-at invariant-loop decreases-loop
 slice-write-after c = search rules
 
-add-i : tie.Need-overflow-add-i invariant-loop decreases-loop
+add-i : tie.Need-overflow_add-i invariant-loop decreases-loop
 add-i c = search rules
 
-loop-less : tie.Need-loop-smaller invariant-loop decreases-loop
+loop-less : tie.Need-loop-i-smaller invariant-loop decreases-loop
 loop-less c = search rules
 
-loop-again : tie.Need-loop-preserved invariant-loop decreases-loop
+loop-again : tie.Need-loop-i-preserved invariant-loop decreases-loop
 loop-again c =
-    let entry = c.before.before.before.before in
-    let loop = c.before.before.loop in
-    ring_turns entry.args.at entry.args.n _ _ loop.i _ c.before.loop-test.true
+    let entry = c in
+    let loop = c.loop-i in
+    ring_turns entry.args.at entry.args.n _ _ loop.i _ c.loop-i-test.true
     (ap (λ x. entry.args.at + x) c.next_of.ensures.0) loop.invariant
 
-same_length : tie.Need-same-length invariant-loop decreases-loop
+same_length : tie.Need-shape_of-after invariant-loop decreases-loop
 same_length c = search rules
 
 returns : tie.Need-returns invariant-loop decreases-loop
 returns c =
-    let entry = c.before.before.before in
-    let loop = c.before.loop in
-    ring_ends entry.args.at entry.args.n _ _ loop.i c.loop-test.false loop.invariant
+    let entry = c in
+    let loop = c.loop-i in
+    ring_ends entry.args.at entry.args.n _ _ loop.i c.loop-i-test.false loop.invariant
 
-pub put-ring-spec : {M : Type 1} → statement M
-put-ring-spec =
+pub put_ring_spec : {M : Type 1} → statement M
+put_ring_spec =
     tie.close
     (tie.spec
     invariant-loop

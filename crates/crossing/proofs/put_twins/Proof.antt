@@ -7,76 +7,76 @@ use native.Mathlib.Omega.{arith}
 use Rattle.crossing.proofs.put_twins.Statement.{statement}
 use Rattle.crossing.proofs.put_twins.Tie as tie
 
-abbrev invariant-loop : tie.invariant-loop
+abbrev invariant-loop : tie.invariant-loop-i
 invariant-loop lowers highers downs order twins₀ back₀ i₀ twins back i = Pairing lowers highers order twins₀ twins back i
 
-abbrev decreases-loop : tie.decreases-loop
+abbrev decreases-loop : tie.decreases-loop-i
 decreases-loop lowers highers downs order twins₀ back₀ i₀ twins back i = length order - i
 
-loop-holds : tie.Need-loop-init invariant-loop decreases-loop
+loop-holds : tie.Need-loop-i-init invariant-loop decreases-loop
 loop-holds c =
-    let entry = c.before.before.before.before.before in
+    let entry = c in
     pair_begins entry.args.lowers.now entry.args.highers.now entry.args.order.now _
 
-mul_wide : tie.Need-overflow-mul-wide invariant-loop decreases-loop
+mul_wide : tie.Need-offset_bounds-order-i invariant-loop decreases-loop
 mul_wide c = search rules
 
-shared-slice-read-wide : tie.Need-shared-slice-read-wide invariant-loop decreases-loop
+shared-slice-read-wide : tie.Need-bounds-order-i invariant-loop decreases-loop
 shared-slice-read-wide c = search rules
 
-wide-requires : tie.Need-wide-requires invariant-loop decreases-loop
+wide-requires : tie.Need-wide-u-requires invariant-loop decreases-loop
 wide-requires c κs = search rules
 
-goes-on-requires : tie.Need-goes-on-requires invariant-loop decreases-loop
+goes-on-requires : tie.Need-goes_on-on-requires invariant-loop decreases-loop
 goes-on-requires c κs =
-    let entry = c.before.before.before.before.before.before.before.before.before in
-    record { ready = entry.requires.ready; inside = c.before.before.loop-test.true }
+    let entry = c in
+    record { ready = entry.requires.ready; inside = c.loop-i-test.true }
 
-twin-at-requires : tie.Need-twin-at-requires invariant-loop decreases-loop
+twin-at-requires : tie.Need-twin_at-requires invariant-loop decreases-loop
 twin-at-requires c κs =
-    let entry = c.before.before.before.before.before.before.before.before.before.before in
-    let loop = c.before.before.before.before.loop in
+    let entry = c in
+    let loop = c.loop-i in
     between entry.args.lowers.now entry.args.highers.now entry.args.order.now loop.i loop.back _
-    c.before.before.before.loop-test.true loop.invariant.back_is c.goes_on.ensures
+    c.loop-i-test.true loop.invariant.back_is c.goes_on-on.ensures
 
-mul-twins : tie.Need-overflow-mul-twins invariant-loop decreases-loop
+mul-twins : tie.Need-offset_bounds-twins-u invariant-loop decreases-loop
 mul-twins c =
-    let entry = c.before.before.before.before.before.before.before.before.before.before.before in
-    let loop = c.before.before.before.before.before.loop in
-    let known = entry.requires.ready.known loop.i c.before.before.before.before.loop-test.true in
-    omega (arith, c.before.before.wide.ensures, known, entry.requires.room, loop.invariant.long)
+    let entry = c in
+    let loop = c.loop-i in
+    let known = entry.requires.ready.known loop.i c.loop-i-test.true in
+    omega (arith, c.wide-u.ensures, known, entry.requires.room, loop.invariant.long)
 
-slice-write-twins : tie.Need-slice-write-twins invariant-loop decreases-loop
+slice-write-twins : tie.Need-bounds-twins-u invariant-loop decreases-loop
 slice-write-twins c =
-    let entry = c.before.before.before.before.before.before.before.before.before.before.before in
-    let loop = c.before.before.before.before.before.loop in
-    let known = entry.requires.ready.known loop.i c.before.before.before.before.loop-test.true in
-    omega (arith, c.before.before.wide.ensures, known, entry.requires.room, loop.invariant.long)
+    let entry = c in
+    let loop = c.loop-i in
+    let known = entry.requires.ready.known loop.i c.loop-i-test.true in
+    omega (arith, c.wide-u.ensures, known, entry.requires.room, loop.invariant.long)
 
-add-i : tie.Need-overflow-add-i invariant-loop decreases-loop
+add-i : tie.Need-overflow_add-i invariant-loop decreases-loop
 add-i c = search rules
 
-loop-less : tie.Need-loop-smaller invariant-loop decreases-loop
+loop-less : tie.Need-loop-i-smaller invariant-loop decreases-loop
 loop-less c = search rules
 
-loop-again : tie.Need-loop-preserved invariant-loop decreases-loop
+loop-again : tie.Need-loop-i-preserved invariant-loop decreases-loop
 loop-again c =
-    let entry = c.before.before.before.before.before.before.before.before.before.before.before in
-    let loop = c.before.before.before.before.before.loop in
+    let entry = c in
+    let loop = c.loop-i in
     pair_turns entry.args.lowers.now entry.args.highers.now entry.args.order.now _ _ loop.back _ loop.i _ _
-    c.before.before.before.before.loop-test.true c.before.before.wide.ensures c.before.goes_on.ensures c.twin-at.ensures loop.invariant
+    c.loop-i-test.true c.wide-u.ensures c.goes_on-on.ensures c.twin_at.ensures loop.invariant
 
-same_length : tie.Need-same-length invariant-loop decreases-loop
+same_length : tie.Need-shape_of-twins invariant-loop decreases-loop
 same_length c = search rules
 
 returns : tie.Need-returns invariant-loop decreases-loop
 returns c =
-    let entry = c.before.before.before.before.before.before.before in
-    let loop = c.before.loop in
-    pair_ends entry.args.lowers.now entry.args.highers.now entry.args.order.now _ _ loop.back loop.i c.loop-test.false loop.invariant
+    let entry = c in
+    let loop = c.loop-i in
+    pair_ends entry.args.lowers.now entry.args.highers.now entry.args.order.now _ _ loop.back loop.i c.loop-i-test.false loop.invariant
 
-pub put-twins-spec : {M : Type 1} → statement M
-put-twins-spec =
+pub put_twins_spec : {M : Type 1} → statement M
+put_twins_spec =
     tie.close
     (tie.spec
     invariant-loop

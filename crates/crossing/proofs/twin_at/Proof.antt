@@ -4,47 +4,47 @@ use borrow.Author.Rules.{rules}
 use Rattle.crossing.proofs.twin_at.Statement.{statement}
 use Rattle.crossing.proofs.twin_at.Tie as tie
 
-sub-result : tie.Need-overflow-sub-result
-sub-result c = c.before.requires.not_first c.if1.true
+sub-result : tie.Need-overflow_sub-result
+sub-result c = c.requires.not_first c.if-back.true
 
-mul-result : tie.Need-overflow-mul-result
+mul-result : tie.Need-offset_bounds-order-i
 mul-result c = search rules
 
-shared-slice-read-result : tie.Need-shared-slice-read-result
+shared-slice-read-result : tie.Need-bounds-order-i
 shared-slice-read-result c = search rules
 
-returns : tie.Need-returns
+returns : tie.Need-returns-then-back
 returns c =
-    let args = c.before.before.args in
-    by_back args.order.now args.i args.back args.on c.before.if1.true
+    let args = c.args in
+    by_back args.order.now args.i args.back args.on c.if-back.true
 
-add-result : tie.Need-overflow-add-result
+add-result : tie.Need-overflow_add-result
 add-result c = search rules
 
-mul-result-2 : tie.Need-overflow-mul-result-2
+mul-result-2 : tie.Need-offset_bounds-order-i-then-on
 mul-result-2 c = search rules
 
-shared-slice-read-result-2 : tie.Need-shared-slice-read-result-2
-shared-slice-read-result-2 c = c.before.before.before.requires.not_last c.before.if2.true
+shared-slice-read-result-2 : tie.Need-bounds-order-i-then-on
+shared-slice-read-result-2 c = c.requires.not_last c.if-on.true
 
-returns-2 : tie.Need-returns-2
+returns-2 : tie.Need-returns-then-on
 returns-2 c =
-    let args = c.before.before.before.args in
-    by_on args.order.now args.i args.back args.on c.before.before.if1.false c.before.if2.true
+    let args = c.args in
+    by_on args.order.now args.i args.back args.on c.if-back.false c.if-on.true
 
-mul-result-3 : tie.Need-overflow-mul-result-3
+mul-result-3 : tie.Need-offset_bounds-order-i-2
 mul-result-3 c = search rules
 
-shared-slice-read-result-3 : tie.Need-shared-slice-read-result-3
+shared-slice-read-result-3 : tie.Need-bounds-order-i-2
 shared-slice-read-result-3 c = search rules
 
-returns-3 : tie.Need-returns-3
+returns-3 : tie.Need-returns
 returns-3 c =
-    let args = c.before.before.before.args in
-    by_own args.order.now args.i args.back args.on c.before.before.if1.false c.before.if2.false
+    let args = c.args in
+    by_own args.order.now args.i args.back args.on c.if-back.false c.if-on.false
 
-pub twin-at-spec : {M : Type 1} → statement M
-twin-at-spec =
+pub twin_at_spec : {M : Type 1} → statement M
+twin_at_spec =
     tie.close
     (tie.spec
     sub-result
