@@ -7,22 +7,22 @@ use borrow.Author.Rules.{rules}
 use Rattle.drawing.proofs.gather.Statement.{statement}
 use Rattle.drawing.proofs.gather.Tie as tie
 
-mul-nc : tie.Need-overflow-mul-nc
+mul-nc : tie.Need-overflow_mul-nc
 mul-nc c = search rules
 
-slice-aggregate-push-all : tie.Need-slice-aggregate-push-all
+slice-aggregate-push-all : tie.Need-slice_bounds-push_all-end
 slice-aggregate-push-all c =
-    let start = c.before.before.before.before.before.before.before.before.before.before in
+    let start = c in
     sym (front_corners _ _ _ start.requires.drawing)
 
-slice-aggregate-push-all-2 : tie.Need-slice-aggregate-push-all-2
+slice-aggregate-push-all-2 : tie.Need-slice_bounds-push_all-end-2
 slice-aggregate-push-all-2 c =
-    let start = c.before.before.before.before.before.before.before.before.before.before.before in
+    let start = c in
     sym (front_sizes _ _ _ start.requires.drawing)
 
-push-all-requires : tie.Need-push-all-requires
+push-all-requires : tie.Need-push_all-filled-requires
 push-all-requires c κs =
-    let start = c.before.before.before.before.before.before.before.before.before.before.before.before.before in
+    let start = c in
     let drawing = start.requires.drawing in
     let w = drawing.within in (
       own_sound _ _ _ drawing,
@@ -32,20 +32,20 @@ push-all-requires c κs =
       ),
     )
 
-same_length : tie.Need-same-length
+same_length : tie.Need-shape_of-corners
 same_length c = search rules
 
-same-length-2 : tie.Need-same-length-2
+same-length-2 : tie.Need-shape_of-sizes
 same-length-2 c = search rules
 
 returns : tie.Need-returns
 returns c =
-    let at-push-all = c.before.before.before.before in
-    let start = c.before.before.before.before.before.before.before.before.before.before.before.before.before.before.before.before.before.before in
-    gathered _ _ _ start.requires.drawing _ _ _ _ _ _ at-push-all.push-all.ensures
+    let at-push-all = c in
+    let start = c in
+    gathered _ _ _ start.requires.drawing _ _ _ _ _ _ at-push-all.push_all-filled.ensures
 
-pub gather-spec : {M : Type 1} → statement M
-gather-spec =
+pub gather_spec : {M : Type 1} → statement M
+gather_spec =
     tie.close
     (tie.spec
     mul-nc

@@ -3,11 +3,11 @@ use borrow.Author.Rules.{rules}
 use Rattle.drawing.proofs.goes_on.Statement.{statement}
 use Rattle.drawing.proofs.goes_on.Tie as tie
 
-returns : tie.Need-returns
+returns : tie.Need-returns-then-x
 returns c = search rules
 
-returns-2 : tie.Need-returns-2
-returns-2 c = rw c.before.if1.false
+returns-2 : tie.Need-returns
+returns-2 c = rw c.if-x.false
 
-pub goes-on-spec : {M : Type 1} → statement M
-goes-on-spec = tie.close (tie.spec returns returns-2)
+pub goes_on_spec : {M : Type 1} → statement M
+goes_on_spec = tie.close (tie.spec returns returns-2)

@@ -6,25 +6,25 @@ use Rattle.reading.specs.Reading.{full_room}
 use Rattle.drawing.proofs.is_short.Statement.{statement}
 use Rattle.drawing.proofs.is_short.Tie as tie
 
-returns : tie.Need-returns
+returns : tie.Need-returns-then-p-lt-POINT_NUMBERS
 unfolding short full_room
-returns c = rw (lt-ltb _ _ c.if1.true)
+returns c = rw (lt-ltb _ _ c.if-p-lt-POINT_NUMBERS.true)
 
-returns-2 : tie.Need-returns-2
+returns-2 : tie.Need-returns-then-t-lt-TEXEL_NUMBERS
 unfolding short full_room
-returns-2 c = rw (le-ltb _ _ c.before.if1.false, lt-ltb _ _ c.if2.true)
+returns-2 c = rw (le-ltb _ _ c.if-p-lt-POINT_NUMBERS.false, lt-ltb _ _ c.if-t-lt-TEXEL_NUMBERS.true)
 
-returns-3 : tie.Need-returns-3
+returns-3 : tie.Need-returns-then-n-lt-POINT_NUMBERS
 unfolding short full_room
-returns-3 c = rw (le-ltb _ _ c.before.before.if1.false, le-ltb _ _ c.before.if2.false, lt-ltb _ _ c.if3.true)
+returns-3 c = rw (le-ltb _ _ c.if-p-lt-POINT_NUMBERS.false, le-ltb _ _ c.if-t-lt-TEXEL_NUMBERS.false, lt-ltb _ _ c.if-n-lt-POINT_NUMBERS.true)
 
-returns-4 : tie.Need-returns-4
+returns-4 : tie.Need-returns-then-c-lt-CORNER_NUMBERS
 unfolding short full_room
-returns-4 c = rw (le-ltb _ _ c.before.before.before.if1.false, le-ltb _ _ c.before.before.if2.false, le-ltb _ _ c.before.if3.false, lt-ltb _ _ c.if4.true)
+returns-4 c = rw (le-ltb _ _ c.if-p-lt-POINT_NUMBERS.false, le-ltb _ _ c.if-t-lt-TEXEL_NUMBERS.false, le-ltb _ _ c.if-n-lt-POINT_NUMBERS.false, lt-ltb _ _ c.if-c-lt-CORNER_NUMBERS.true)
 
-returns-5 : tie.Need-returns-5
+returns-5 : tie.Need-returns
 unfolding short full_room
-returns-5 c = rw (le-ltb _ _ c.before.before.before.if1.false, le-ltb _ _ c.before.before.if2.false, le-ltb _ _ c.before.if3.false, le-ltb _ _ c.if4.false, or-false)
+returns-5 c = rw (le-ltb _ _ c.if-p-lt-POINT_NUMBERS.false, le-ltb _ _ c.if-t-lt-TEXEL_NUMBERS.false, le-ltb _ _ c.if-n-lt-POINT_NUMBERS.false, le-ltb _ _ c.if-c-lt-CORNER_NUMBERS.false, or-false)
 
-pub is-short-spec : {M : Type 1} → statement M
-is-short-spec = tie.close (tie.spec returns returns-2 returns-3 returns-4 returns-5)
+pub is_short_spec : {M : Type 1} → statement M
+is_short_spec = tie.close (tie.spec returns returns-2 returns-3 returns-4 returns-5)
