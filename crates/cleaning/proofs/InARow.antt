@@ -1,6 +1,6 @@
 -- Removal and compaction in a row: what removal hands on is the mesh without folded faces, the faces afterwards are its faces renumbered,
 -- and so the origins that removal wrote hold of them. Assumes nothing.
-use mathlib.Core.Path.{◌≡◌, refl, sym, ap, ap₂, ◌∙◌, subst}
+use mathlib.Core.Path.{◌≡◌, sym, ap, ap₂, ◌∙◌, subst}
 use mathlib.Core.Bool.{false}
 use mathlib.Core.List.{List, [], ◌∷◌, map}
 use Prim.Native.Nat.{ℕ, ◌*◌, ◌/◌, ◌≤◌, ◌<◌}
@@ -15,7 +15,7 @@ use Rattle.lists.proofs.Bools.{or_false_left, or_false_right}
 use Rattle.lists.proofs.Fronts.{front}
 use Rattle.mesh.specs.Limits.{width, least_ring}
 use Rattle.mesh.specs.Mesh.{Mesh, Ring, rings, faces}
-use Rattle.mesh.specs.Table.{mesh_number, when, short, lent}
+use Rattle.mesh.specs.Table.{mesh_number, when, short}
 use Rattle.mesh.proofs.After.{after_done}
 use Rattle.mesh.proofs.Numbers.{first_head, first_tail, when_not}
 use Rattle.mesh.proofs.Accepted.{accepted}
