@@ -19,11 +19,11 @@ use Rattle.lists.proofs.Writing.{sets_front}
 use Rattle.mesh.proofs.Numbers.{first_is, first_head, first_tail, when_not}
 use Rattle.mesh.proofs.Accepted.{accepted}
 use Rattle.unused.specs.declared.Compacted.{Compacted}
-use Rattle.unused.specs.Compaction.{compacted, Result, Compaction}
+use Rattle.unused.specs.Compaction.{compacted}
 use Rattle.unused.proofs.Laws.{positions_long, positions_counted, positions_fewer, textures_long, textures_counted, textures_fewer, normals_long, normals_counted, normals_fewer, corners_kept}
 use Rattle.unused.proofs.Using.{Given, given}
 use Rattle.inplace.specs.InPlace.{zero_bits, in_room_of, longest, in_place_number, InPlace}
-use Rattle.inplace.specs.Promises.{MeshFirst, NothingCounted, NothingMoves, Kept, FirstEntries, Counted, EntriesCounted, NoBitSet, Cleared, NumbersCleared, AsOrdinary, GivesTheOrdinary, GivesAllCorners}
+use Rattle.inplace.specs.Promises.{MeshFirst, NothingCounted, NothingMoves, Kept, FirstEntries, EntriesCounted, NoBitSet, NumbersCleared, GivesTheOrdinary, GivesAllCorners}
 
 -- ---- a list in the room of another
 
