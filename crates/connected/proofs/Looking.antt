@@ -109,7 +109,12 @@ looked m old (y ∷ l) stack seen b =
               (λ p.
               ⊎_elim
               inl
-              (λ z. inr (q.keep_stack x (rw z (in_head y stack)), rw z (in_head y l), rw z f.0))
+              (λ z.
+              inr (
+                q.keep_stack x (subst (λ (w : ℕ). In w (y ∷ stack)) (sym z) (in_head y stack)),
+                subst (λ (w : ℕ). In w (y ∷ l)) (sym z) (in_head y l),
+                rw z f.0,
+              ))
               (in_snoc x y seen p))
               (λ p. inr (p.0, in_tail x y l p.1, p.2))
               (q.new x h);

@@ -1,5 +1,5 @@
 -- The panels that joins between faces make, listed as document 01 has them. Assumes nothing.
-use Rattle.std.specs.Prelude.{Bool, true, false, cond, ◌||◌, List, [], ◌∷◌, ◌++◌, ℕ, zero, suc, eqb}
+use Rattle.std.specs.Prelude.{true, false, cond, ◌||◌, List, [], ◌∷◌, ◌++◌, ℕ, zero, suc, eqb}
 use Rattle.lists.specs.Lists.{has, joined, keep_if}
 
 -- a join of two faces: that of a later use of a key, and the first face that had the key
