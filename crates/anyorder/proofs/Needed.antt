@@ -1,7 +1,7 @@
 -- An order that is not sensible gives another mesh: positions are left that no face uses, or a folded face is. Numbers change with compaction,
 -- and origins with a second removal. And of a mesh that is not accepted it does not hold. By computation. Assumes nothing.
 use mathlib.Core.Path.{◌≡◌, refl, sym, ap, ◌∙◌}
-use mathlib.Core.Bool.{Bool, true, false}
+use mathlib.Core.Bool.{false}
 use mathlib.Core.List.{List, [], ◌∷◌}
 use Rattle.lists.specs.Lists.{some}
 use Rattle.lists.proofs.Bools.{true_false}
