@@ -12,7 +12,7 @@ plain-requires : tie.Need-plain-requires
 plain-requires c κs = search rules
 
 returns : tie.Need-returns
-returns c = (c.plain.ensures.0 ∙ ap plain c.before.word.ensures, c.plain.ensures.1)
+returns c = (c.plain.ensures.0 ∙ ap plain c.word.ensures, c.plain.ensures.1)
 
-pub bits-at-spec : {M : Type 1} → statement M
-bits-at-spec = tie.close (tie.spec word-requires plain-requires returns)
+pub bits_at_spec : {M : Type 1} → statement M
+bits_at_spec = tie.close (tie.spec word-requires plain-requires returns)

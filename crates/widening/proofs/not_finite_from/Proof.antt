@@ -10,15 +10,15 @@ use borrow.Author.Rules.{rules}
 use Rattle.widening.proofs.not_finite_from.Statement.{statement}
 use Rattle.widening.proofs.not_finite_from.Tie as tie
 
-point-from-requires : tie.Need-point-from-requires
+point-from-requires : tie.Need-point_from-requires
 point-from-requires c κs = search rules
 
-not-finite-requires : tie.Need-not-finite-requires
+not-finite-requires : tie.Need-not_finite-requires
 not-finite-requires c κs = search rules
 
 returns : tie.Need-returns
 unfolding not_finite
-returns c = c.not-Finite.ensures ∙ ap (λ (l : List Float). not (every finite l)) c.before.point-from.ensures
+returns c = c.not_finite.ensures ∙ ap (λ (l : List Float). not (every finite l)) c.point_from.ensures
 
-pub not-finite-from-spec : {M : Type 1} → statement M
-not-finite-from-spec = tie.close (tie.spec point-from-requires not-finite-requires returns)
+pub not_finite_from_spec : {M : Type 1} → statement M
+not_finite_from_spec = tie.close (tie.spec point-from-requires not-finite-requires returns)

@@ -4,11 +4,11 @@ use native.Mathlib.Omega.{arith}
 use Rattle.widening.proofs.plain.Statement.{statement}
 use Rattle.widening.proofs.plain.Tie as tie
 
-returns : tie.Need-returns
-returns c = (plain_zero _ c.if1.true, omega arith)
+returns : tie.Need-returns-then-n-eq-MINUS_ZERO
+returns c = (plain_zero _ c.if-n-eq-MINUS_ZERO.true, omega arith)
 
-returns-2 : tie.Need-returns-2
-returns-2 c = (plain_other _ c.if1.false, omega arith)
+returns-2 : tie.Need-returns
+returns-2 c = (plain_other _ c.if-n-eq-MINUS_ZERO.false, omega arith)
 
-pub plain-spec : {M : Type 1} → statement M
-plain-spec = tie.close (tie.spec returns returns-2)
+pub plain_spec : {M : Type 1} → statement M
+plain_spec = tie.close (tie.spec returns returns-2)

@@ -4,22 +4,22 @@ use borrow.Author.Rules.{rules}
 use Rattle.widening.proofs.point_from.Statement.{statement}
 use Rattle.widening.proofs.point_from.Tie as tie
 
-bits-at-requires : tie.Need-bits-at-requires
+bits-at-requires : tie.Need-bits_at-x-requires
 bits-at-requires c κs = search rules
 
-add-bits-at : tie.Need-overflow-add-bits-at
+add-bits-at : tie.Need-overflow_add-i
 add-bits-at c = search rules
 
-bits-at-requires-2 : tie.Need-bits-at-requires-2
+bits-at-requires-2 : tie.Need-bits_at-y-requires
 bits-at-requires-2 c κs = search rules
 
-mul-bits-at : tie.Need-overflow-mul-bits-at
+mul-bits-at : tie.Need-overflow_mul-bits_at
 mul-bits-at c = search rules
 
-add-bits-at-2 : tie.Need-overflow-add-bits-at-2
+add-bits-at-2 : tie.Need-overflow_add-i-2
 add-bits-at-2 c = search rules
 
-bits-at-requires-3 : tie.Need-bits-at-requires-3
+bits-at-requires-3 : tie.Need-bits_at-z-requires
 bits-at-requires-3 c κs = search rules
 
 widened-requires : tie.Need-widened-requires
@@ -33,14 +33,14 @@ widened-requires-3 c κs = search rules
 
 returns : tie.Need-returns
 returns c =
-    let at-z = c.before.before.before in
-    let at_y = at-z.before in
-    let at_x = at_y.before in
-    point_made _ _ _ _ _ _ _ _ at_x.bits_at.ensures at_y.bits-at2.ensures at-z.bits-at3.ensures
-    c.before.before.widened.ensures c.before.widened2.ensures c.widened3.ensures
+    let at-z = c in
+    let at_y = c in
+    let at_x = c in
+    point_made _ _ _ _ _ _ _ _ at_x.bits_at-x.ensures at_y.bits_at-y.ensures at-z.bits_at-z.ensures
+    c.widened.ensures c.widened-2.ensures c.widened-3.ensures
 
-pub point-from-spec : {M : Type 1} → statement M
-point-from-spec =
+pub point_from_spec : {M : Type 1} → statement M
+point_from_spec =
     tie.close
     (tie.spec
     bits-at-requires
