@@ -1,25 +1,24 @@
 -- The format both ways: a file of triangles is read as their points; and a file as long as its count asks is the file of its triangles.
 -- Assumes nothing.
 use mathlib.Core.Path.{◌≡◌, refl, sym, ap, ap₂, ◌∙◌, subst}
-use mathlib.Core.Bool.{Bool, true, false}
-use mathlib.Core.List.{List, [], ◌∷◌, ◌++◌, map, append_assoc, append-nil}
+use mathlib.Core.List.{List, [], ◌∷◌, ◌++◌, map, append_assoc}
 use Prim.Native.Nat.{ℕ, zero, suc, ◌+◌, ◌*◌, ◌/◌, ◌%◌, ◌-◌, ◌≤◌, ◌<◌}
-use native.Mathlib.Nat.{not-suc-le-zero, le_of_suc-le-suc, add-zero, mod-eq_of_lt}
+use native.Mathlib.Nat.{not-suc-le-zero, le_of_suc-le-suc, mod-eq_of_lt}
 use native.Mathlib.Omega.{arith}
-use lib.ListN.{length, get_or, take, drop, length-append, length-drop, length-map, take-append-drop}
+use lib.ListN.{length, get_or, take, drop, length-append, length-drop, take-append-drop}
 use lib.Seq.{drop_at, drop-drop, drop-cons, drop-length, length-take-le}
 use borrow.Author.Tests.{le-ltb}
 use Rattle.lists.specs.Lists.{each, span}
-use Rattle.lists.proofs.Buckets.{length_table, table_at, length_span, each_span_cong}
+use Rattle.lists.proofs.Buckets.{length_table, table_at, each_span_cong}
 use Rattle.lists.proofs.Mapping.{each_map, map_span}
-use Rattle.mesh.specs.Limits.{least_ring, face_limit}
+use Rattle.mesh.specs.Limits.{face_limit}
 use Rattle.little.specs.Little.{word_values, word, half, word_bytes, Bytes}
 use Rattle.little.proofs.Written.{length_word, behind, word_written, word_again}
 use Rattle.scanned.specs.Scan.{header_bytes, front_bytes, coordinate_bytes, normal_bytes, field_bytes, triangle_bytes, scan_count, scan_length}
 use Rattle.scanned.specs.Scan.{point_place, plain, point, point_from, point_at, points_in, length_number}
 use Rattle.scanned.specs.Format.{Triangle, Formed, nine, bytes_of, file_of, point_of, points_of, words_from, triangle_from, triangle_place, triangles_in, no_triangle}
 use Rattle.scanned.proofs.Lengths.{right}
-use Rattle.scanned.specs.Promises.{AllFormed, Points, WrittenIsRead, Written, ReadIsWritten}
+use Rattle.scanned.specs.Promises.{AllFormed, WrittenIsRead, ReadIsWritten}
 
 -- ---- words one behind the other
 

@@ -1,11 +1,10 @@
 -- Two files that differ only in what is passed over, or in the sign of zeros. Assumes nothing.
-use mathlib.Core.Path.{◌≡◌, refl, sym, ap, ap₂, ◌∙◌}
+use mathlib.Core.Path.{◌≡◌, ap, ap₂, ◌∙◌}
 use mathlib.Core.List.{List, [], ◌∷◌}
-use Prim.Native.Nat.{ℕ, ◌+◌, ◌*◌, ◌<◌}
-use lib.ListN.{length}
+use Prim.Native.Nat.{ℕ, ◌*◌, ◌<◌}
 use Rattle.lists.proofs.Buckets.{length_table, table_at, table_ext}
 use Rattle.mesh.specs.Limits.{least_ring}
-use Rattle.mesh.specs.Table.{Lent, when, first_of, short}
+use Rattle.mesh.specs.Table.{when, first_of, short}
 use Rattle.scanned.specs.Scan.{scan_count, point, point_from, point_at, points_in, mesh_from, scan_mesh, length_number, points_number, scan_number}
 use Rattle.scanned.specs.Seen.{upto}
 use Rattle.scanned.specs.Promises.{Likewise, LikewiseRead}

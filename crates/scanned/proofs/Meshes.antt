@@ -1,15 +1,15 @@
 -- The mesh of points: it is accepted, its positions are finite, pairwise different and used, and each corner has its point. Assumes nothing.
-use mathlib.Core.Path.{◌≡◌, refl, sym, ap, ◌∙◌, subst}
-use mathlib.Core.Bool.{Bool, true, false, not, ◌&&◌}
-use mathlib.Core.List.{List, [], ◌∷◌, ◌++◌, map}
+use mathlib.Core.Path.{◌≡◌, refl, sym, ap, ◌∙◌}
+use mathlib.Core.Bool.{Bool, true, false, ◌&&◌}
+use mathlib.Core.List.{List, [], ◌∷◌, map}
 use Prim.Native.Nat.{ℕ, zero, suc, ◌+◌, ◌*◌, ◌/◌, ◌%◌, ◌≤◌, ◌<◌}
 use native.Mathlib.Omega.{arith}
 use lib.Dec.{ltb}
 use lib.ListN.{length, get_or, take, replicate, length-replicate, get_or-replicate}
-use lib.Ieee.{Float, nan, inf, fin, binary32, of_bits, to_bits, is_nan}
+use lib.Ieee.{Float, nan, inf, fin, binary32, to_bits, is_nan}
 use lib.Ieee.Bits.{to_bits-of_bits}
 use borrow.Author.Tests.{ltb-false, not-false}
-use Rattle.lists.specs.Lists.{some, every, each, has, sum, span}
+use Rattle.lists.specs.Lists.{some, every, each, has, sum}
 use Rattle.lists.specs.FirstUses.{first_uses, place}
 use Rattle.lists.proofs.Bools.{by_cases, and_left, and_right, and_both}
 use Rattle.lists.proofs.Buckets.{length_table, table_at}
@@ -17,8 +17,8 @@ use Rattle.lists.proofs.Parts.{some_false_at, every_append}
 use Rattle.lists.proofs.Places.{place_below, get_or-place, in_at, place-get_or, has_get_d}
 use Rattle.lists.proofs.FirstUses.{has-first_uses, first_uses-once}
 use Rattle.mesh.specs.Limits.{width, point_width, least_ring, entry_limit, face_limit}
-use Rattle.mesh.specs.Mesh.{Mesh, mesh_of, missing, position_count}
-use Rattle.mesh.specs.Table.{Lent, when, first_of, falls, kind, ungrouped, mesh_number, short}
+use Rattle.mesh.specs.Mesh.{missing}
+use Rattle.mesh.specs.Table.{when, first_of, falls, kind, ungrouped, mesh_number, short}
 use Rattle.mesh.proofs.Numbers.{first_head, first_tail, when_not, clear_0}
 use Rattle.mesh.proofs.Accepted.{within_back, even_back, sizes_back, found_back}
 use Rattle.floating.specs.Limits.{finite}
@@ -27,7 +27,7 @@ use Rattle.little.specs.Little.{word_values, word, half, Bytes}
 use Rattle.scanned.specs.Scan.{scan_count, point_place, coordinate_bytes, plain, point, point_from, point_at, points_in, widened, coordinates_of, not_finite}
 use Rattle.scanned.specs.Scan.{corner_of, mesh_from, scan_mesh, length_number, points_number, scan_number}
 use Rattle.scanned.specs.Seen.{upto, seen}
-use Rattle.scanned.specs.Promises.{Read, NumberSaysRead, ReadIsAccepted, ReadIsFinite, position_at_lem, index_at, PositionsDiffer, PositionsUsed, CornerIsPoint, CornersArePoints, PointsAreWidened}
+use Rattle.scanned.specs.Promises.{NumberSaysRead, ReadIsAccepted, ReadIsFinite, position_at_lem, index_at, PositionsDiffer, PositionsUsed, CornersArePoints, PointsAreWidened}
 use Rattle.scanned.proofs.Points.{plain_below, coordinates_point}
 use Rattle.scanned.proofs.Lengths.{right}
 use Rattle.scanned.proofs.Pieces.{length_pieces, pieces_at, piece_at, length_coordinates, length_positions}
