@@ -6,33 +6,33 @@ use borrow.Author.Rules.{rules}
 use Rattle.saving.proofs.write_panel.Statement.{statement}
 use Rattle.saving.proofs.write_panel.Tie as tie
 
-number-requires : tie.Need-number-requires
+number-requires : tie.Need-number-number-requires
 number-requires c κs = search rules
 
-returns : tie.Need-returns
+returns : tie.Need-returns-then-number-ne0
 returns c =
-    let at-number = c.before in
-    call_refused _ _ _ at-number.number.ensures c.if1.true
+    let at-number = c in
+    call_refused _ _ _ at-number.number-number.ensures c.if-number-ne0.true
 
-put-mesh-requires : tie.Need-put-mesh-requires
+put-mesh-requires : tie.Need-put_mesh-length-requires
 put-mesh-requires c κs =
-    let at-if1 = c.before in
-    let at-number = at-if1.before in
-    ready _ _ (sym at-number.number.ensures ∙ at-if1.if1.false)
+    let at-if1 = c in
+    let at-number = c in
+    ready _ _ (sym at-number.number-number.ensures ∙ at-if1.if-number-ne0.false)
 
-same_length : tie.Need-same-length
+same_length : tie.Need-shape_of-out
 same_length c = search rules
 
-returns-2 : tie.Need-returns-2
+returns-2 : tie.Need-returns
 returns-2 c =
-    let at-put-mesh = c.before.before in
-    let at-if1 = at-put-mesh.before.before in
-    let at-number = at-if1.before in
-    let stored = at-put-mesh.put-mesh.ensures in
-    call_done _ _ _ _ (sym (sym at-number.number.ensures ∙ at-if1.if1.false)) stored.file (stored.place ∙ zero-add _)
+    let at-put-mesh = c in
+    let at-if1 = c in
+    let at-number = c in
+    let stored = at-put-mesh.put_mesh-length.ensures in
+    call_done _ _ _ _ (sym (sym at-number.number-number.ensures ∙ at-if1.if-number-ne0.false)) stored.file (stored.place ∙ zero-add _)
 
-pub write-panel-spec : {M : Type 1} → statement M
-write-panel-spec =
+pub write_panel_spec : {M : Type 1} → statement M
+write_panel_spec =
     tie.close
     (tie.spec
     number-requires

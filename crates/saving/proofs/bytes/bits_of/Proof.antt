@@ -4,11 +4,11 @@ use borrow.Author.Rules.{rules}
 use Rattle.saving.proofs.bytes.bits_of.Statement.{statement}
 use Rattle.saving.proofs.bytes.bits_of.Tie as tie
 
-float-to-bits-result : tie.Need-float-to-bits-result
+float-to-bits-result : tie.Need-float_to_bits-result
 float-to-bits-result c = no_nan c.args.x c.requires
 
 returns : tie.Need-returns
 returns c = search rules
 
-pub bits-of-spec : {M : Type 1} → statement M
-bits-of-spec = tie.close (tie.spec float-to-bits-result returns)
+pub bits_of_spec : {M : Type 1} → statement M
+bits_of_spec = tie.close (tie.spec float-to-bits-result returns)

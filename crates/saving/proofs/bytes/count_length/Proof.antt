@@ -5,14 +5,14 @@ use borrow.Author.Rules.{rules}
 use Rattle.saving.proofs.bytes.count_length.Statement.{statement}
 use Rattle.saving.proofs.bytes.count_length.Tie as tie
 
-is-wide-requires : tie.Need-is-wide-requires
+is-wide-requires : tie.Need-is_wide-requires
 is-wide-requires c κs = search rules
 
-returns : tie.Need-returns
-returns c = length_wide c.before.before.args.marked c.before.before.args.n (sym c.before.is_IsWide.ensures ∙ c.if1.true)
+returns : tie.Need-returns-then-is_wide
+returns c = length_wide c.args.marked c.args.n (sym c.is_wide.ensures ∙ c.if-is_wide.true)
 
-returns-2 : tie.Need-returns-2
-returns-2 c = length_byte c.before.before.args.marked c.before.before.args.n (sym c.before.is_IsWide.ensures ∙ c.if1.false)
+returns-2 : tie.Need-returns
+returns-2 c = length_byte c.args.marked c.args.n (sym c.is_wide.ensures ∙ c.if-is_wide.false)
 
-pub count-length-spec : {M : Type 1} → statement M
-count-length-spec = tie.close (tie.spec is-wide-requires returns returns-2)
+pub count_length_spec : {M : Type 1} → statement M
+count_length_spec = tie.close (tie.spec is-wide-requires returns returns-2)

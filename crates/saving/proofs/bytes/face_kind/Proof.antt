@@ -5,21 +5,21 @@ use borrow.Author.Rules.{rules}
 use Rattle.saving.proofs.bytes.face_kind.Statement.{statement}
 use Rattle.saving.proofs.bytes.face_kind.Tie as tie
 
-returns : tie.Need-returns
-returns c = kind_marked c.before.args.marked c.before.args.n c.if1.true
+returns : tie.Need-returns-then-marked
+returns c = kind_marked c.args.marked c.args.n c.if-marked.true
 
-is-wide-requires : tie.Need-is-wide-requires
+is-wide-requires : tie.Need-is_wide-requires
 is-wide-requires c κs = search rules
 
-returns-2 : tie.Need-returns-2
+returns-2 : tie.Need-returns-then-is_wide
 returns-2 c =
-    let a = c.before.before.before.args in
-    kind_wide a.marked a.n c.before.before.if1.false (sym c.before.is_IsWide.ensures ∙ c.if2.true)
+    let a = c.args in
+    kind_wide a.marked a.n c.if-marked.false (sym c.is_wide.ensures ∙ c.if-is_wide.true)
 
-returns-3 : tie.Need-returns-3
+returns-3 : tie.Need-returns
 returns-3 c =
-    let a = c.before.before.before.args in
-    kind_byte a.marked a.n c.before.before.if1.false (sym c.before.is_IsWide.ensures ∙ c.if2.false)
+    let a = c.args in
+    kind_byte a.marked a.n c.if-marked.false (sym c.is_wide.ensures ∙ c.if-is_wide.false)
 
-pub face-kind-spec : {M : Type 1} → statement M
-face-kind-spec = tie.close (tie.spec returns is-wide-requires returns-2 returns-3)
+pub face_kind_spec : {M : Type 1} → statement M
+face_kind_spec = tie.close (tie.spec returns is-wide-requires returns-2 returns-3)

@@ -5,19 +5,19 @@ use borrow.Author.Rules.{rules}
 use Rattle.saving.proofs.bytes.face_length.Statement.{statement}
 use Rattle.saving.proofs.bytes.face_length.Tie as tie
 
-any-mark-requires : tie.Need-any-mark-requires
+any-mark-requires : tie.Need-any_mark-requires
 any-mark-requires c κs = search rules
 
-body-length-requires : tie.Need-body-length-requires
+body-length-requires : tie.Need-body_length-requires
 body-length-requires c κs = search rules
 
-add-result : tie.Need-overflow-add-result
+add-result : tie.Need-overflow_add-result
 add-result c =
-    let start = c.before.before.before in
-    omega (arith, face_small start.args.part.now _ _ c.before.any-mark.ensures c.body-length.ensures start.requires)
+    let start = c in
+    omega (arith, face_small start.args.part.now _ _ c.any_mark.ensures c.body_length.ensures start.requires)
 
 returns : tie.Need-returns
-returns c = face_is c.before.before.before.args.part.now _ _ c.before.any-mark.ensures c.body-length.ensures
+returns c = face_is c.args.part.now _ _ c.any_mark.ensures c.body_length.ensures
 
-pub face-length-spec : {M : Type 1} → statement M
-face-length-spec = tie.close (tie.spec any-mark-requires body-length-requires add-result returns)
+pub face_length_spec : {M : Type 1} → statement M
+face_length_spec = tie.close (tie.spec any-mark-requires body-length-requires add-result returns)

@@ -8,69 +8,69 @@ use native.Mathlib.Omega.{arith}
 use Rattle.saving.proofs.bytes.face_lengths.Statement.{statement}
 use Rattle.saving.proofs.bytes.face_lengths.Tie as tie
 
-abbrev invariant-loop : tie.invariant-loop
+abbrev invariant-loop : tie.invariant-loop-k
 invariant-loop corners sizes total₀ from₀ k₀ total from k = Totalling corners sizes total from k
 
-abbrev decreases-loop : tie.decreases-loop
+abbrev decreases-loop : tie.decreases-loop-k
 decreases-loop corners sizes total₀ from₀ k₀ total from k = length sizes - k
 
-loop-holds : tie.Need-loop-init invariant-loop decreases-loop
+loop-holds : tie.Need-loop-k-init invariant-loop decreases-loop
 loop-holds c = total_begins _ _
 
-face-at-requires : tie.Need-face-at-requires invariant-loop decreases-loop
+face-at-requires : tie.Need-face_at-face-requires invariant-loop decreases-loop
 face-at-requires c κs =
-    let at-loop = c.before in
-    let start = at-loop.before.before.before in
-    record { sound = start.requires; is_face = c.loop-test.true; offset = at-loop.loop.invariant.offset }
+    let at-loop = c in
+    let start = c in
+    record { sound = start.requires; is_face = c.loop-k-test.true; offset = at-loop.loop-k.invariant.offset }
 
-face-length-requires : tie.Need-face-length-requires invariant-loop decreases-loop
+face-length-requires : tie.Need-face_length-total-requires invariant-loop decreases-loop
 face-length-requires c κs =
-    let at-loop = c.before.before in
-    let start = at-loop.before.before.before in
-    part_small _ _ start.requires _ _ _ _ c.before.loop-test.true c.face-at.ensures at-loop.loop.invariant
+    let at-loop = c in
+    let start = c in
+    part_small _ _ start.requires _ _ _ _ c.loop-k-test.true c.face_at-face.ensures at-loop.loop-k.invariant
 
-add_total : tie.Need-overflow-add-total invariant-loop decreases-loop
+add_total : tie.Need-overflow_add-total invariant-loop decreases-loop
 add_total c =
-    let at-loop-test = c.before.before in
-    let at-loop = at-loop-test.before in
-    let start = at-loop.before.before.before in
-    omega (arith, total_fits _ _ start.requires _ _ _ _ at-loop-test.loop-test.true c.before.face-at.ensures at-loop.loop.invariant _ c.face-length.ensures)
+    let at-loop-test = c in
+    let at-loop = c in
+    let start = c in
+    omega (arith, total_fits _ _ start.requires _ _ _ _ at-loop-test.loop-k-test.true c.face_at-face.ensures at-loop.loop-k.invariant _ c.face_length-total.ensures)
 
-mul-from : tie.Need-overflow-mul-from invariant-loop decreases-loop
+mul-from : tie.Need-offset_bounds-sizes-k invariant-loop decreases-loop
 mul-from c = search rules
 
-shared-slice-read-from : tie.Need-shared-slice-read-from invariant-loop decreases-loop
+shared-slice-read-from : tie.Need-bounds-sizes-k invariant-loop decreases-loop
 shared-slice-read-from c = search rules
 
-cast-from : tie.Need-overflow-cast-from invariant-loop decreases-loop
-cast-from c = omega (arith, c.shared-slice-known3.given c.before.before.before.before.loop.k)
+cast-from : tie.Need-overflow_cast-from invariant-loop decreases-loop
+cast-from c = omega (arith, c.shared_slice_known-in-loop-k-1.given c.loop-k.k)
 
-add-from : tie.Need-overflow-add-from invariant-loop decreases-loop
+add-from : tie.Need-overflow_add-from invariant-loop decreases-loop
 add-from c =
-    let at-loop-test = c.before.before.before in
-    let at-loop = at-loop-test.before in
-    let start = at-loop.before.before.before in
-    omega (arith, face_fits _ _ start.requires at-loop.loop.k at-loop-test.loop-test.true, at-loop.loop.invariant.offset, start.requires.fits)
+    let at-loop-test = c in
+    let at-loop = c in
+    let start = c in
+    omega (arith, face_fits _ _ start.requires at-loop.loop-k.k at-loop-test.loop-k-test.true, at-loop.loop-k.invariant.offset, start.requires.fits)
 
-add-k : tie.Need-overflow-add-k invariant-loop decreases-loop
+add-k : tie.Need-overflow_add-k invariant-loop decreases-loop
 add-k c = search rules
 
-loop-less : tie.Need-loop-smaller invariant-loop decreases-loop
+loop-less : tie.Need-loop-k-smaller invariant-loop decreases-loop
 loop-less c = search rules
 
-loop-again : tie.Need-loop-preserved invariant-loop decreases-loop
+loop-again : tie.Need-loop-k-preserved invariant-loop decreases-loop
 loop-again c =
-    let at-face-at = c.before.before in
-    let at-loop-test = at-face-at.before in
-    let at-loop = at-loop-test.before in
-    let start = at-loop.before.before.before in
-    total_turns _ _ start.requires _ _ _ _ at-loop-test.loop-test.true at-face-at.face_at.ensures at-loop.loop.invariant _ c.before.face-length.ensures
+    let at-face-at = c in
+    let at-loop-test = c in
+    let at-loop = c in
+    let start = c in
+    total_turns _ _ start.requires _ _ _ _ at-loop-test.loop-k-test.true at-face-at.face_at-face.ensures at-loop.loop-k.invariant _ c.face_length-total.ensures
 
 returns : tie.Need-returns invariant-loop decreases-loop
-returns c = total_ends _ _ _ _ _ c.loop-test.false c.before.loop.invariant
+returns c = total_ends _ _ _ _ _ c.loop-k-test.false c.loop-k.invariant
 
-pub face-lengths-spec : {M : Type 1} → statement M
-face-lengths-spec =
+pub face_lengths_spec : {M : Type 1} → statement M
+face_lengths_spec =
     tie.close
     (tie.spec
     invariant-loop

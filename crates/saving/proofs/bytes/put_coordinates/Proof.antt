@@ -13,66 +13,66 @@ use native.Mathlib.Omega.{arith}
 use Rattle.saving.proofs.bytes.put_coordinates.Statement.{statement}
 use Rattle.saving.proofs.bytes.put_coordinates.Tie as tie
 
-abbrev invariant-loop : tie.invariant-loop
+abbrev invariant-loop : tie.invariant-loop-k
 invariant-loop s out₀ at to₀ k₀ out to k = Putting coordinate_bytes s out₀ out at to k
 
-abbrev decreases-loop : tie.decreases-loop
+abbrev decreases-loop : tie.decreases-loop-k
 decreases-loop s out₀ at to₀ k₀ out to k = length s - k
 
-loop-holds : tie.Need-loop-init invariant-loop decreases-loop
+loop-holds : tie.Need-loop-k-init invariant-loop decreases-loop
 loop-holds c = putting_begins coordinate_bytes _ _ _
 
-mul-bits-of : tie.Need-overflow-mul-bits-of invariant-loop decreases-loop
+mul-bits-of : tie.Need-offset_bounds-s-k invariant-loop decreases-loop
 mul-bits-of c = search rules
 
-shared-slice-read-bits-of : tie.Need-shared-slice-read-bits-of invariant-loop decreases-loop
+shared-slice-read-bits-of : tie.Need-bounds-s-k invariant-loop decreases-loop
 shared-slice-read-bits-of c = search rules
 
-bits-of-requires : tie.Need-bits-of-requires invariant-loop decreases-loop
+bits-of-requires : tie.Need-bits_of-requires invariant-loop decreases-loop
 bits-of-requires c κs =
-    let at-loop-test = c.before.before in
-    let start = at-loop-test.before.before.before.before in
-    every_at finite nan start.args.s.now _ start.requires.are_finite at-loop-test.loop-test.true
+    let at-loop-test = c in
+    let start = c in
+    every_at finite nan start.args.s.now _ start.requires.are_finite at-loop-test.loop-k-test.true
 
-put-long-requires : tie.Need-put-long-requires invariant-loop decreases-loop
+put-long-requires : tie.Need-put_long-requires invariant-loop decreases-loop
 put-long-requires c κs =
-    let at-loop-test = c.before.before.before in
-    let at-loop = at-loop-test.before in
-    let start = at-loop.before.before.before in
-    coordinate_room _ _ _ _ _ _ at-loop-test.loop-test.true at-loop.loop.invariant start.requires.fits
+    let at-loop-test = c in
+    let at-loop = c in
+    let start = c in
+    coordinate_room _ _ _ _ _ _ at-loop-test.loop-k-test.true at-loop.loop-k.invariant start.requires.fits
 
-add-to : tie.Need-overflow-add-to invariant-loop decreases-loop
+add-to : tie.Need-overflow_add-to invariant-loop decreases-loop
 add-to c =
-    let at-loop-test = c.before.before.before.before.before.before in
-    let at-loop = at-loop-test.before in
-    let start = at-loop.before.before.before in
-    omega (arith, coordinate_room _ _ _ _ _ _ at-loop-test.loop-test.true at-loop.loop.invariant start.requires.fits)
+    let at-loop-test = c in
+    let at-loop = c in
+    let start = c in
+    omega (arith, coordinate_room _ _ _ _ _ _ at-loop-test.loop-k-test.true at-loop.loop-k.invariant start.requires.fits)
 
-add-k : tie.Need-overflow-add-k invariant-loop decreases-loop
+add-k : tie.Need-overflow_add-k invariant-loop decreases-loop
 add-k c = search rules
 
-loop-less : tie.Need-loop-smaller invariant-loop decreases-loop
+loop-less : tie.Need-loop-k-smaller invariant-loop decreases-loop
 loop-less c = search rules
 
-loop-again : tie.Need-loop-preserved invariant-loop decreases-loop
+loop-again : tie.Need-loop-k-preserved invariant-loop decreases-loop
 loop-again c =
-    let at-put-long = c.before.before in
-    let at-bits-of = at-put-long.before in
-    let at-loop-test = at-bits-of.before.before.before in
-    let at-loop = at-loop-test.before in
-    putting_turns coordinate_bytes nan _ _ _ _ _ _ _ at-loop-test.loop-test.true refl at-loop.loop.invariant _ _
-    (coordinate_stored _ _ _ _ _ at-bits-of.bits_of.ensures at-put-long.put-long.ensures)
+    let at-put-long = c in
+    let at-bits-of = c in
+    let at-loop-test = c in
+    let at-loop = c in
+    putting_turns coordinate_bytes nan _ _ _ _ _ _ _ at-loop-test.loop-k-test.true refl at-loop.loop-k.invariant _ _
+    (coordinate_stored _ _ _ _ _ at-bits-of.bits_of.ensures at-put-long.put_long.ensures)
 
-same_length : tie.Need-same-length invariant-loop decreases-loop
+same_length : tie.Need-shape_of-out invariant-loop decreases-loop
 same_length c = search rules
 
 returns : tie.Need-returns invariant-loop decreases-loop
 returns c =
-    let at-loop = c.before in
-    putting_ends coordinate_bytes _ _ _ _ _ _ c.loop-test.false at-loop.loop.invariant
+    let at-loop = c in
+    putting_ends coordinate_bytes _ _ _ _ _ _ c.loop-k-test.false at-loop.loop-k.invariant
 
-pub put-coordinates-spec : {M : Type 1} → statement M
-put-coordinates-spec =
+pub put_coordinates_spec : {M : Type 1} → statement M
+put_coordinates_spec =
     tie.close
     (tie.spec
     invariant-loop

@@ -8,72 +8,72 @@ use borrow.Author.Rules.{rules}
 use Rattle.saving.proofs.bytes.put_faces.Statement.{statement}
 use Rattle.saving.proofs.bytes.put_faces.Tie as tie
 
-abbrev invariant-loop : tie.invariant-loop
+abbrev invariant-loop : tie.invariant-loop-k
 invariant-loop corners sizes out₀ at to₀ from₀ k₀ out to from k = PuttingFaces corners sizes out₀ out at to from k
 
-abbrev decreases-loop : tie.decreases-loop
+abbrev decreases-loop : tie.decreases-loop-k
 decreases-loop corners sizes out₀ at to₀ from₀ k₀ out to from k = length sizes - k
 
-loop-holds : tie.Need-loop-init invariant-loop decreases-loop
+loop-holds : tie.Need-loop-k-init invariant-loop decreases-loop
 loop-holds c = faces_begin _ _ _ _
 
-face-at-requires : tie.Need-face-at-requires invariant-loop decreases-loop
+face-at-requires : tie.Need-face_at-face-requires invariant-loop decreases-loop
 face-at-requires c κs =
-    let at-loop = c.before in
-    let start = at-loop.before.before.before.before in
-    record { sound = start.requires.sound; is_face = c.loop-test.true; offset = at-loop.loop.invariant.offset }
+    let at-loop = c in
+    let start = c in
+    record { sound = start.requires.sound; is_face = c.loop-k-test.true; offset = at-loop.loop-k.invariant.offset }
 
-put-face-requires : tie.Need-put-face-requires invariant-loop decreases-loop
+put-face-requires : tie.Need-put_face-to-requires invariant-loop decreases-loop
 put-face-requires c κs =
-    let at-face-at = c.before in
-    let at-loop-test = at-face-at.before in
-    let at-loop = at-loop-test.before in
-    let start = at-loop.before.before.before.before in
-    a_face _ _ _ _ _ _ _ _ _ at-loop-test.loop-test.true at-face-at.face_at.ensures start.requires at-loop.loop.invariant
+    let at-face-at = c in
+    let at-loop-test = c in
+    let at-loop = c in
+    let start = c in
+    a_face _ _ _ _ _ _ _ _ _ at-loop-test.loop-k-test.true at-face-at.face_at-face.ensures start.requires at-loop.loop-k.invariant
 
-mul-from : tie.Need-overflow-mul-from invariant-loop decreases-loop
+mul-from : tie.Need-offset_bounds-sizes-k invariant-loop decreases-loop
 mul-from c = search rules
 
-shared-slice-read-from : tie.Need-shared-slice-read-from invariant-loop decreases-loop
+shared-slice-read-from : tie.Need-bounds-sizes-k invariant-loop decreases-loop
 shared-slice-read-from c = search rules
 
-cast-from : tie.Need-overflow-cast-from invariant-loop decreases-loop
+cast-from : tie.Need-overflow_cast-from invariant-loop decreases-loop
 cast-from c =
-    let at-loop = c.before.before.before.before.before.before.before in
-    omega (arith, c.shared-slice-known3.given at-loop.loop.k)
+    let at-loop = c in
+    omega (arith, c.shared_slice_known-in-loop-k-1.given at-loop.loop-k.k)
 
-add-from : tie.Need-overflow-add-from invariant-loop decreases-loop
+add-from : tie.Need-overflow_add-from invariant-loop decreases-loop
 add-from c =
-    let at-loop-test = c.before.before.before.before.before.before in
-    let at-loop = at-loop-test.before in
-    let start = at-loop.before.before.before.before in
-    omega (arith, face_fits _ _ start.requires.sound at-loop.loop.k at-loop-test.loop-test.true, at-loop.loop.invariant.offset, start.requires.sound.fits)
+    let at-loop-test = c in
+    let at-loop = c in
+    let start = c in
+    omega (arith, face_fits _ _ start.requires.sound at-loop.loop-k.k at-loop-test.loop-k-test.true, at-loop.loop-k.invariant.offset, start.requires.sound.fits)
 
-add-k : tie.Need-overflow-add-k invariant-loop decreases-loop
+add-k : tie.Need-overflow_add-k invariant-loop decreases-loop
 add-k c = search rules
 
-loop-less : tie.Need-loop-smaller invariant-loop decreases-loop
+loop-less : tie.Need-loop-k-smaller invariant-loop decreases-loop
 loop-less c = search rules
 
-loop-again : tie.Need-loop-preserved invariant-loop decreases-loop
+loop-again : tie.Need-loop-k-preserved invariant-loop decreases-loop
 loop-again c =
-    let at-put-face = c.before.before.before in
-    let at-face-at = at-put-face.before.before in
-    let at-loop-test = at-face-at.before in
-    let at-loop = at-loop-test.before in
-    let start = at-loop.before.before.before.before in
-    faces_turn _ _ _ _ _ _ _ _ _ at-loop-test.loop-test.true at-face-at.face_at.ensures start.requires at-loop.loop.invariant _ _ at-put-face.put-face.ensures
+    let at-put-face = c in
+    let at-face-at = c in
+    let at-loop-test = c in
+    let at-loop = c in
+    let start = c in
+    faces_turn _ _ _ _ _ _ _ _ _ at-loop-test.loop-k-test.true at-face-at.face_at-face.ensures start.requires at-loop.loop-k.invariant _ _ at-put-face.put_face-to.ensures
 
-same_length : tie.Need-same-length invariant-loop decreases-loop
+same_length : tie.Need-shape_of-out invariant-loop decreases-loop
 same_length c = search rules
 
 returns : tie.Need-returns invariant-loop decreases-loop
 returns c =
-    let at-loop = c.before in
-    faces_end _ _ _ _ _ _ _ _ c.loop-test.false at-loop.loop.invariant
+    let at-loop = c in
+    faces_end _ _ _ _ _ _ _ _ c.loop-k-test.false at-loop.loop-k.invariant
 
-pub put-faces-spec : {M : Type 1} → statement M
-put-faces-spec =
+pub put_faces_spec : {M : Type 1} → statement M
+put_faces_spec =
     tie.close
     (tie.spec
     invariant-loop
