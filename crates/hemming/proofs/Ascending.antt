@@ -1,10 +1,10 @@
 -- The order of the uses is by lower and higher position. Sorted by start it is by start and end: from one start the lower ends come first.
 -- Assumes nothing.
-use mathlib.Core.Path.{◌≡◌, refl, sym, ap, ap₂, ◌∙◌, subst}
-use mathlib.Core.Logic.{◌⊎◌, inl, inr, ⊎_elim}
+use mathlib.Core.Path.{◌≡◌, refl, sym, ap, ◌∙◌, subst}
+use mathlib.Core.Logic.{◌⊎◌, inl, inr}
 use mathlib.Core.Bool.{Bool, true, false, cond}
 use mathlib.Core.List.{List, [], ◌∷◌, map}
-use Prim.Native.Nat.{ℕ, zero, suc, ◌+◌, ◌*◌, ◌/◌, ◌≤◌, ◌<◌}
+use Prim.Native.Nat.{ℕ, suc, ◌*◌, ◌≤◌, ◌<◌}
 use native.Mathlib.Omega.{arith}
 use lib.Dec.{eqb, leb}
 use lib.ListN.{length, get_or}
@@ -12,11 +12,11 @@ use borrow.Author.Tests.{leb-true, leb-false}
 use Rattle.lists.specs.Lists.{count, span}
 use Rattle.lists.specs.FirstUses.{place}
 use Rattle.lists.proofs.Bools.{by_cases}
-use Rattle.lists.proofs.Members.{In, Once}
+use Rattle.lists.proofs.Members.{Once}
 use Rattle.lists.proofs.Places.{in_at, place-get_or}
 use Rattle.lists.proofs.Buckets.{length_table, table_at}
 use Rattle.sorting.specs.Sorting.{sorted_by}
-use Rattle.sorting.specs.Digits.{Digit, digit, passed, Column}
+use Rattle.sorting.specs.Digits.{Digit, digit, passed}
 use Rattle.sorting.proofs.Rows.{Row, row_span}
 use Rattle.sorting.proofs.Digits.{Columns, Upto, passed_row, passed_upto}
 use Rattle.mesh.specs.Limits.{width}

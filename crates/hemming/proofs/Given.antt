@@ -1,18 +1,17 @@
 -- What the functions are given, of a mesh that is accepted and whose verdict allows wires; and that the wires by the rows are the house
 -- wires. Assumes nothing.
 use mathlib.Core.Path.{◌≡◌, refl, sym, ap, ◌∙◌, subst}
-use mathlib.Core.Bool.{Bool, true, false}
+use mathlib.Core.Bool.{true, false}
 use mathlib.Core.List.{List, map}
 use Prim.Native.Nat.{ℕ, ◌*◌, ◌≤◌, ◌<◌}
 use native.Mathlib.Omega.{arith}
-use lib.Dec.{eqb}
 use lib.ListN.{length, get_or, length-map}
 use Rattle.lists.specs.Lists.{only, has}
 use Rattle.lists.proofs.Bools.{and_both}
 use Rattle.lists.proofs.Counting.{count_all}
 use Rattle.lists.proofs.Alike.{Alike, some_alike}
 use Rattle.lists.proofs.Members.{In}
-use Rattle.lists.proofs.Only.{some_only, only_length, only_all, every_self}
+use Rattle.lists.proofs.Only.{only_length, only_all, every_self}
 use Rattle.lists.proofs.Others.{has_only}
 use Rattle.lists.proofs.Places.{in_at, has_get_d}
 use Rattle.sorting.specs.Sorting.{All}
@@ -43,7 +42,7 @@ use Rattle.crossing.proofs.Turned.{rows_turn}
 use Rattle.trailing.specs.Trailing.{wires_by, AllLeft}
 use Rattle.hemming.specs.Rows.{Hemmable, twins_of, Turnable, TurnedBy, hem_places, by_start, wires_from, Beginning, starts_in, wires_in, Traceable}
 use Rattle.hemming.proofs.Started.{length_started, started_at, sorted_agree}
-use Rattle.hemming.proofs.Trails.{left_at, Goes, Rising, Below, rising_only, below_only, wires_are}
+use Rattle.hemming.proofs.Trails.{left_at, Goes, Rising, Below, rising_only, wires_are}
 use Rattle.hemming.proofs.HemPlaces.{hems_alike}
 use Rattle.hemming.proofs.Ascending.{start_row, all_by_start, uses_count, start_at, start_below, sorted_row, sorted_all, sorted_rises}
 

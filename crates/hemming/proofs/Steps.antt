@@ -8,12 +8,12 @@ use lib.ListN.{length, take}
 use lib.Seq.{sets, length-sets, length-take-le}
 use Rattle.lists.proofs.Copies.{sets_whole, take_written}
 use Rattle.lists.proofs.Only.{only_length}
-use Rattle.sorting.specs.Sorting.{sorted_by, Sortable}
+use Rattle.sorting.specs.Sorting.{sorted_by}
 use Rattle.sorting.proofs.Laws.{sorted_length}
 use Rattle.tracing.specs.Hems.{Written}
 use Rattle.crossing.specs.Crossing.{after_row, follow_row, alone, FollowRoom}
 use Rattle.trailing.specs.Trailing.{wires_by, AllLeft}
-use Rattle.hemming.specs.Rows.{twins_of, Turnable, TurnedBy, hem_places, Kept, by_start, wires_from, Beginning, starts_in, wires_in, Traceable}
+use Rattle.hemming.specs.Rows.{twins_of, Turnable, TurnedBy, hem_places, Kept, by_start, wires_from, Beginning, wires_in, Traceable}
 
 -- ---- how a hem turns
 

@@ -9,8 +9,8 @@ use native.Mathlib.Omega.{arith}
 use lib.Dec.{eqb}
 use lib.ListN.{length, get_or, length-set}
 use borrow.Author.Tests.{eqb-true, eqb-false}
-use Rattle.lists.specs.Lists.{keep_if, only, some, every, count}
-use Rattle.lists.proofs.Bools.{by_cases, true_false, or_left, or_right}
+use Rattle.lists.specs.Lists.{keep_if, only, some, count}
+use Rattle.lists.proofs.Bools.{by_cases, or_left, or_right}
 use Rattle.lists.proofs.Counting.{clash, or_either, count_all}
 use Rattle.lists.proofs.Members.{In, in_cases, in_head, in_tail}
 use Rattle.lists.proofs.Changing.{only_same}
@@ -19,7 +19,7 @@ use Rattle.lists.proofs.Only.{some_only, every_only}
 use Rattle.lists.proofs.Others.{has_every}
 use Rattle.mesh.specs.Limits.{corner_limit}
 use Rattle.edges.specs.Edges.{Edge, same, before, mesh_edges, thrice, alike}
-use Rattle.edges.proofs.SameEdge.{same_true, same_refl, same_of, before_true, before_asym}
+use Rattle.edges.proofs.SameEdge.{same_true, same_of, before_true, before_asym}
 use Rattle.tracing.specs.Tables.{nobody}
 use Rattle.tracing.specs.Following.{without, Walk}
 use Rattle.tracing.proofs.Starts.{taken_length}

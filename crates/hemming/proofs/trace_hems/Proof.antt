@@ -2,78 +2,77 @@
 use mathlib.Core.Path.{sym}
 use lib.Seq.{length-take-le}
 use Rattle.hemming.proofs.Steps.{hems_fit, hems_sort, rows_begin, rows_traced}
-use native.Mathlib.Omega.{arith}
 use borrow.Author.Rules.{rules}
 use Rattle.hemming.proofs.trace_hems.Statement.{statement}
 use Rattle.hemming.proofs.trace_hems.Tie as tie
 
-keep-hems-requires : tie.Need-keep-hems-requires
+keep-hems-requires : tie.Need-keep_hems-m-requires
 keep-hems-requires c κs =
-    c.before.before.before.before.before.before.before.before.before.before.before.before.requires.keeping
+    c.requires.keeping
 
-slice-reshare-prefix-trace-from : tie.Need-slice-reshare-prefix-trace-from
+slice-reshare-prefix-trace-from : tie.Need-slice_bounds-trace_from-end
 slice-reshare-prefix-trace-from c =
-    let entry = c.before.before.before.before.before.before.before.before.before.before.before.before.before.before.before.before.before.before in
-    let keep-hems = c.before.before.before.before.before.keep-hems in
+    let entry = c in
+    let keep-hems = c.keep_hems-m in
     hems_fit entry.requires keep-hems.ensures
 
-slice-aggregate-trace-from : tie.Need-slice-aggregate-trace-from
+slice-aggregate-trace-from : tie.Need-slice_bounds-trace_from-end-2
 slice-aggregate-trace-from c =
-    let far = c.before.before.before.before.before.before.before.before.before.before.before.before.before.before.before.before.before.before in
-    let entry = far.before in
-    let keep-hems = c.before.before.before.before.before.before.keep-hems in
+    let far = c in
+    let entry = c in
+    let keep-hems = c.keep_hems-m in
     sym (length-take-le _ _ (hems_fit entry.requires keep-hems.ensures))
 
-slice-relend-prefix-trace-from : tie.Need-slice-relend-prefix-trace-from
+slice-relend-prefix-trace-from : tie.Need-slice_bounds-trace_from-end-3
 slice-relend-prefix-trace-from c =
-    let far = c.before.before.before.before.before.before.before.before.before.before.before.before.before.before.before.before.before.before in
-    let entry = far.before in
-    let keep-hems = c.before.before.before.before.before.before.keep-hems in
+    let far = c in
+    let entry = c in
+    let keep-hems = c.keep_hems-m in
     hems_sort entry.requires keep-hems.ensures
 
-slice-aggregate-trace-from-2 : tie.Need-slice-aggregate-trace-from-2
+slice-aggregate-trace-from-2 : tie.Need-slice_bounds-trace_from-end-4
 slice-aggregate-trace-from-2 c =
-    let far = c.before.before.before.before.before.before.before.before.before.before.before.before.before.before.before.before.before.before in
-    let entry = far.before.before in
-    let keep-hems = c.before.before.before.before.before.before.before.keep-hems in
+    let far = c in
+    let entry = c in
+    let keep-hems = c.keep_hems-m in
     sym (length-take-le _ _ (hems_sort entry.requires keep-hems.ensures))
 
-trace-from-requires : tie.Need-trace-from-requires
+trace-from-requires : tie.Need-trace_from-requires
 trace-from-requires c κs =
-    let far = c.before.before.before.before.before.before.before.before.before.before.before.before.before.before.before.before.before.before in
-    let entry = far.before.before.before.before.before in
-    let keep-hems = c.before.before.before.before.before.before.before.before.before.before.keep-hems in
+    let far = c in
+    let entry = c in
+    let keep-hems = c.keep_hems-m in
     rows_begin entry.requires keep-hems.ensures
 
-same_length : tie.Need-same-length
-same_length c = c.before.before.before.before.before.before.before.before.before.before.before.before.before.before.before.before.before.before.starts.given
+same_length : tie.Need-shape_of-starts
+same_length c = c.starts-1.given
 
-same-length-2 : tie.Need-same-length-2
+same-length-2 : tie.Need-shape_of-sorted
 same-length-2 c = search rules
 
-same-length-3 : tie.Need-same-length-3
-same-length-3 c = c.before.before.before.before.before.before.before.before.before.before.before.before.before.before.before.before.kept.given
+same-length-3 : tie.Need-shape_of-kept
+same-length-3 c = c.kept-1.given
 
-same-length-4 : tie.Need-same-length-4
-same-length-4 c = c.before.before.before.before.before.left.given
+same-length-4 : tie.Need-shape_of-left
+same-length-4 c = c.left-1.given
 
-same-length-5 : tie.Need-same-length-5
-same-length-5 c = c.before.before.before.flat.given
+same-length-5 : tie.Need-shape_of-flat
+same-length-5 c = c.flat-1.given
 
-same-length-6 : tie.Need-same-length-6
-same-length-6 c = c.before.lengths.given
+same-length-6 : tie.Need-shape_of-lengths
+same-length-6 c = c.lengths-1.given
 
 returns : tie.Need-returns
 returns c =
-    let far = c.before.before.before.before.before.before.before.before.before.before.before.before.before.before.before.before.before.before in
-    let entry = far.before.before.before.before.before.before.before.before.before.before.before.before.before.before in
-    let far = c.before.before.before.before.before.before.before.before.before.before.before.before.before.before.before.before.before.before in
-    let keep-hems = far.before.keep-hems in
-    let trace-from = c.before.before.before.before.before.before.before.before.trace-from in
+    let far = c in
+    let entry = c in
+    let far = c in
+    let keep-hems = far.keep_hems-m in
+    let trace-from = c.trace_from in
     rows_traced entry.requires keep-hems.ensures trace-from.ensures
 
-pub trace-hems-spec : {M : Type 1} → statement M
-trace-hems-spec =
+pub trace_hems_spec : {M : Type 1} → statement M
+trace_hems_spec =
     tie.close
     (tie.spec
     keep-hems-requires
