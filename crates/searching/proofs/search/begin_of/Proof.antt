@@ -4,24 +4,24 @@ use borrow.Author.Rules.{rules}
 use Rattle.searching.proofs.search.begin_of.Statement.{statement}
 use Rattle.searching.proofs.search.begin_of.Tie as tie
 
-returns : tie.Need-returns
-returns c = begin_zero _ _ c.if1.true
+returns : tie.Need-returns-then-x-eq0
+returns c = begin_zero _ _ c.if-x-eq0.true
 
-sub_wide : tie.Need-overflow-sub-wide
+sub_wide : tie.Need-overflow_sub-x
 sub_wide c = search rules
 
-mul_wide : tie.Need-overflow-mul-wide
+mul_wide : tie.Need-offset_bounds-ends-x
 mul_wide c = search rules
 
-shared-slice-read-wide : tie.Need-shared-slice-read-wide
+shared-slice-read-wide : tie.Need-bounds-ends-x
 shared-slice-read-wide c = search rules
 
 wide-requires : tie.Need-wide-requires
 wide-requires c κs = search rules
 
-returns-2 : tie.Need-returns-2
-returns-2 c = begin_suc _ _ _ c.before.before.if1.false c.wide.ensures
+returns-2 : tie.Need-returns
+returns-2 c = begin_suc _ _ _ c.if-x-eq0.false c.wide.ensures
 
-pub begin-of-spec : {M : Type 1} → statement M
-begin-of-spec =
+pub begin_of_spec : {M : Type 1} → statement M
+begin_of_spec =
     tie.close (tie.spec returns sub_wide mul_wide shared-slice-read-wide wide-requires returns-2)

@@ -9,74 +9,74 @@ use native.Mathlib.Omega.{arith}
 use Rattle.searching.proofs.search.look.Statement.{statement}
 use Rattle.searching.proofs.search.look.Tie as tie
 
-abbrev invariant-loop : tie.invariant-loop
+abbrev invariant-loop : tie.invariant-loop-p
 invariant-loop joins order from to seen₀ stack₀ flat₀ top n height₀ listed₀ p₀ seen stack flat height listed p =
     LookingOn (length seen₀) joins order from to (state_of stack₀ top flat₀ n) flat₀ n seen stack flat height listed p
 
-abbrev decreases-loop : tie.decreases-loop
+abbrev decreases-loop : tie.decreases-loop-p
 decreases-loop joins order from to seen₀ stack₀ flat₀ top n height₀ listed₀ p₀ seen stack flat height listed p = to - p
 
-loop-holds : tie.Need-loop-init invariant-loop decreases-loop
-loop-holds c = look_begins _ _ _ _ _ _ _ _ _ _ c.before.before.before.before.before.requires.listing
+loop-holds : tie.Need-loop-p-init invariant-loop decreases-loop
+loop-holds c = look_begins _ _ _ _ _ _ _ _ _ _ c.requires.listing
 
-mul_wide : tie.Need-overflow-mul-wide invariant-loop decreases-loop
+mul_wide : tie.Need-offset_bounds-order-p invariant-loop decreases-loop
 mul_wide c = search rules
 
-shared-slice-read-wide : tie.Need-shared-slice-read-wide invariant-loop decreases-loop
+shared-slice-read-wide : tie.Need-bounds-order-p invariant-loop decreases-loop
 shared-slice-read-wide c = search rules
 
 wide-requires : tie.Need-wide-requires invariant-loop decreases-loop
 wide-requires c κs = search rules
 
-other-end-requires : tie.Need-other-end-requires invariant-loop decreases-loop
+other-end-requires : tie.Need-other_end-x-requires invariant-loop decreases-loop
 other-end-requires c κs =
-    let pre = c.before.before.before.before.before.before.before.before.before.requires in
-    let loop = c.before.before.before.loop in
+    let pre = c.requires in
+    let loop = c.loop-p in
     record { whole = pre.whole; fits = pre.fits; inside = omega (arith, c.wide.ensures, pre.entries loop.p (omega (arith, pre.within))) }
 
-visit-requires : tie.Need-visit-requires invariant-loop decreases-loop
+visit-requires : tie.Need-visit-marks-requires invariant-loop decreases-loop
 visit-requires c κs =
-    let entry = c.before.before.before.before.before.before.before.before.before.before.before.before.before in
+    let entry = c in
     let pre = entry.requires in
-    let loop = c.before.before.before.before.before.before.before.loop in
-    let wide = c.before.before.before.before.wide in
+    let loop = c.loop-p in
+    let wide = c.wide in
     let inside = pre.entries loop.p (omega (arith, pre.within)) in
     record {
       listing = relisted _ _ _ _ _ _ loop.invariant.listing;
       face =
           let below = other_below _ entry.args.joins.now wide.result pre.whole pre.below (omega (arith, wide.ensures, inside)) in
-          omega (arith, c.before.before.before.other-end.ensures, below, loop.invariant.listing.seen_long);
+          omega (arith, c.other_end-x.ensures, below, loop.invariant.listing.seen_long);
     }
 
-add-p : tie.Need-overflow-add-p invariant-loop decreases-loop
+add-p : tie.Need-overflow_add-p invariant-loop decreases-loop
 add-p c = search rules
 
-loop-less : tie.Need-loop-smaller invariant-loop decreases-loop
+loop-less : tie.Need-loop-p-smaller invariant-loop decreases-loop
 loop-less c = search rules
 
-loop-again : tie.Need-loop-preserved invariant-loop decreases-loop
+loop-again : tie.Need-loop-p-preserved invariant-loop decreases-loop
 loop-again c =
-    let pre = c.before.before.before.before.before.before.before.before.before.before.before.before.before.before.before.before.before.before.before.before.requires in
-    let given = c.before.before.before.before.before.before.before.before.before.before.before.before.before.before.before.before.before.before.before.before.args in
-    let loop = c.before.before.before.before.before.before.before.before.before.before.before.before.before.before.loop in
-    let loop-test = c.before.before.before.before.before.before.before.before.before.before.before.before.before.loop-test in
-    let wide = c.before.before.before.before.before.before.before.before.before.before.before.wide in
-    let other-end = c.before.before.before.before.before.before.before.before.before.before.other-end in
-    let visited = c.before.before.before.before.before.before.visit in
+    let pre = c.requires in
+    let given = c.args in
+    let loop = c.loop-p in
+    let loop-test = c.loop-p-test in
+    let wide = c.wide in
+    let other-end = c.other_end-x in
+    let visited = c.visit-marks in
     look_turns _ _ _ _ _ _ _ _ _ _ _ _ _ _ loop.invariant _ _ _ _ _ _ loop-test.true pre.within
-    (other-end.ensures ∙ ap (other_end given.joins.now) wide.ensures) visited.ensures visited.auto.1.1.1.0
+    (other-end.ensures ∙ ap (other_end given.joins.now) wide.ensures) visited.ensures visited.auto.flat
 
-same_length : tie.Need-same-length invariant-loop decreases-loop
+same_length : tie.Need-shape_of-seen invariant-loop decreases-loop
 same_length c = search rules
 
-same-length-2 : tie.Need-same-length-2 invariant-loop decreases-loop
+same-length-2 : tie.Need-shape_of-stack invariant-loop decreases-loop
 same-length-2 c = search rules
 
-same-length-3 : tie.Need-same-length-3 invariant-loop decreases-loop
-same-length-3 c = c.before.loop.invariant.long
+same-length-3 : tie.Need-shape_of-flat invariant-loop decreases-loop
+same-length-3 c = c.loop-p.invariant.long
 
 returns : tie.Need-returns invariant-loop decreases-loop
-returns c = look_ends _ _ _ _ _ _ _ _ _ _ _ _ _ _ c.before.loop.invariant c.loop-test.false
+returns c = look_ends _ _ _ _ _ _ _ _ _ _ _ _ _ _ c.loop-p.invariant c.loop-p-test.false
 
 pub look_spec : {M : Type 1} → statement M
 look_spec =

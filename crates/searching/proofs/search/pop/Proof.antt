@@ -5,61 +5,61 @@ use borrow.Author.Rules.{rules}
 use Rattle.searching.proofs.search.pop.Statement.{statement}
 use Rattle.searching.proofs.search.pop.Tie as tie
 
-sub-left : tie.Need-overflow-sub-left
+sub-left : tie.Need-overflow_sub-left
 sub-left c = search rules
 
-mul_wide : tie.Need-overflow-mul-wide
+mul_wide : tie.Need-offset_bounds-stack-left
 mul_wide c = search rules
 
-slice-read-wide : tie.Need-slice-read-wide
+slice-read-wide : tie.Need-bounds-stack-left
 slice-read-wide c = search rules
 
-wide-requires : tie.Need-wide-requires
+wide-requires : tie.Need-wide-x-requires
 wide-requires c κs = search rules
 
-begin-of-requires : tie.Need-begin-of-requires
+begin-of-requires : tie.Need-begin_of-from-requires
 begin-of-requires c κs =
-    let pre = c.before.before.before.before.before.before.before.before.requires in
-    omega (arith, c.wide.ensures, top_below _ _ _ pre.adjacent _ _ _ _ _ pre.listing pre.some)
+    let pre = c.requires in
+    omega (arith, c.wide-x.ensures, top_below _ _ _ pre.adjacent _ _ _ _ _ pre.listing pre.some)
 
-mul-wide-2 : tie.Need-overflow-mul-wide-2
+mul-wide-2 : tie.Need-offset_bounds-ends-x
 mul-wide-2 c =
-    let pre = c.before.before.before.before.before.before.before.before.before.requires in
-    omega (arith, c.before.wide.ensures, top_below _ _ _ pre.adjacent _ _ _ _ _ pre.listing pre.some, pre.listing.small)
+    let pre = c.requires in
+    omega (arith, c.wide-x.ensures, top_below _ _ _ pre.adjacent _ _ _ _ _ pre.listing pre.some, pre.listing.small)
 
-shared-slice-read-wide : tie.Need-shared-slice-read-wide
+shared-slice-read-wide : tie.Need-bounds-ends-x
 shared-slice-read-wide c =
-    let pre = c.before.before.before.before.before.before.before.before.before.before.requires in
-    let wide = c.before.before.wide in
+    let pre = c.requires in
+    let wide = c.wide-x in
     omega (arith, wide.ensures, top_below _ _ _ pre.adjacent _ _ _ _ _ pre.listing pre.some)
 
-wide-requires-2 : tie.Need-wide-requires-2
+wide-requires-2 : tie.Need-wide-to-requires
 wide-requires-2 c κs = search rules
 
 look-requires : tie.Need-look-requires
 look-requires c κs =
-    let pre = c.before.before.before.before.before.before.before.before.before.before.before.before.before.before.requires in
-    let wide = c.before.before.before.before.before.before.wide in
-    let wide2 = c.before.before.before.wide2 in
+    let pre = c.requires in
+    let wide = c.wide-x in
+    let wide2 = c.wide-to in
     pop_looks _ _ _ pre.adjacent _ _ _ _ _ pre.listing pre.some _ _ wide.ensures wide2.ensures
 
-same_length : tie.Need-same-length
+same_length : tie.Need-shape_of-seen
 same_length c = search rules
 
-same-length-2 : tie.Need-same-length-2
+same-length-2 : tie.Need-shape_of-stack
 same-length-2 c = search rules
 
-same-length-3 : tie.Need-same-length-3
+same-length-3 : tie.Need-shape_of-flat
 same-length-3 c = search rules
 
 returns : tie.Need-returns
 returns c =
-    let far = c.before.before.before.before.before.before.before.before.before.before.before.before.before.before.before.before.before.before in
-    let pre = far.before.before.before.requires in
-    let wide = c.before.before.before.before.before.before.before.before.before.before.before.before.before.wide in
-    let begin-of = c.before.before.before.before.before.before.before.before.before.before.before.before.begin-of in
-    let wide2 = c.before.before.before.before.before.before.before.before.before.before.wide2 in
-    let looked = c.before.before.before.before.before.before.look in
+    let far = c in
+    let pre = far.requires in
+    let wide = c.wide-x in
+    let begin-of = c.begin_of-from in
+    let wide2 = c.wide-to in
+    let looked = c.look in
     pop_steps _ _ _ pre.adjacent _ _ _ _ _ pre.listing pre.some _ _ _ _ _ _ _ _ wide.ensures begin-of.ensures wide2.ensures
     looked.ensures
 

@@ -4,68 +4,68 @@ use borrow.Author.Rules.{rules}
 use Rattle.searching.proofs.search.visit.Statement.{statement}
 use Rattle.searching.proofs.search.visit.Tie as tie
 
-wide-requires : tie.Need-wide-requires
+wide-requires : tie.Need-wide-i-requires
 wide-requires c κs = search rules
 
-mul-if1 : tie.Need-overflow-mul-if1
+mul-if1 : tie.Need-offset_bounds-seen-i
 mul-if1 c = search rules
 
-slice-read-if1 : tie.Need-slice-read-if1
+slice-read-if1 : tie.Need-bounds-seen-i
 slice-read-if1 c = search rules
 
-returns : tie.Need-returns
+returns : tie.Need-returns-then-seen-i-ne0
 returns c =
-    let pre = c.before.before.before.before.before.before.requires in
-    let wide = c.before.before.wide in
-    skips_at _ _ _ _ _ _ _ pre.listing pre.face _ wide.ensures c.if1.true
+    let pre = c.requires in
+    let wide = c.wide-i in
+    skips_at _ _ _ _ _ _ _ pre.listing pre.face _ wide.ensures c.if-seen-i-ne0.true
 
-mul-seen : tie.Need-overflow-mul-seen
+mul-seen : tie.Need-offset_bounds-seen-i-2
 mul-seen c = search rules
 
-slice-write-seen : tie.Need-slice-write-seen
+slice-write-seen : tie.Need-bounds-seen-i-2
 slice-write-seen c = search rules
 
-mul-stack : tie.Need-overflow-mul-stack
+mul-stack : tie.Need-offset_bounds-stack-top
 mul-stack c = search rules
 
-slice-write-stack : tie.Need-slice-write-stack
+slice-write-stack : tie.Need-bounds-stack-top
 slice-write-stack c =
-    let pre = c.before.before.before.before.before.before.requires in
-    let wide = c.before.before.wide in
-    (fits_at _ _ _ _ _ _ _ pre.listing pre.face _ wide.ensures c.if1.false).1
+    let pre = c.requires in
+    let wide = c.wide-i in
+    (fits_at _ _ _ _ _ _ _ pre.listing pre.face _ wide.ensures c.if-seen-i-ne0.false).1
 
-mul-flat : tie.Need-overflow-mul-flat
+mul-flat : tie.Need-offset_bounds-flat-n
 mul-flat c = search rules
 
-slice-write-flat : tie.Need-slice-write-flat
+slice-write-flat : tie.Need-bounds-flat-n
 slice-write-flat c =
-    let pre = c.before.before.before.before.before.before.requires in
-    let wide = c.before.before.wide in
-    (fits_at _ _ _ _ _ _ _ pre.listing pre.face _ wide.ensures c.if1.false).0
+    let pre = c.requires in
+    let wide = c.wide-i in
+    (fits_at _ _ _ _ _ _ _ pre.listing pre.face _ wide.ensures c.if-seen-i-ne0.false).0
 
-add-t8 : tie.Need-overflow-add-t8
+add-t8 : tie.Need-overflow_add-result
 add-t8 c = search rules
 
-add-t15 : tie.Need-overflow-add-t15
+add-t15 : tie.Need-overflow_add-result-2
 add-t15 c = search rules
 
-same_length : tie.Need-same-length
+same_length : tie.Need-shape_of-seen
 same_length c = search rules
 
-same-length-2 : tie.Need-same-length-2
+same-length-2 : tie.Need-shape_of-stack
 same-length-2 c = search rules
 
-same-length-3 : tie.Need-same-length-3
+same-length-3 : tie.Need-shape_of-flat
 same-length-3 c = search rules
 
-returns-2 : tie.Need-returns-2
+returns-2 : tie.Need-returns
 returns-2 c =
-    let pre = c.before.before.before.before.before.before.requires in
-    let wide = c.before.before.wide in
-    pushes_at _ _ _ _ _ _ _ pre.listing pre.face _ wide.ensures c.if1.false
+    let pre = c.requires in
+    let wide = c.wide-i in
+    pushes_at _ _ _ _ _ _ _ pre.listing pre.face _ wide.ensures c.if-seen-i-ne0.false
 
-pub visit-spec : {M : Type 1} → statement M
-visit-spec =
+pub visit_spec : {M : Type 1} → statement M
+visit_spec =
     tie.close
     (tie.spec
     wide-requires
