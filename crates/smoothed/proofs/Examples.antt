@@ -12,7 +12,6 @@ use Rattle.mesh.specs.Mesh.{faces}
 use Rattle.mesh.specs.Table.{mesh_number, shape_number, over_limits, uneven, misfit, ungrouped, astray, short}
 use Rattle.verdicts.specs.Edges.{key, edges_of, Irregular, Oriented, Closed, verdict}
 use Rattle.splitting.specs.Splitting.{folded_by}
-use Rattle.folding.specs.Folding.{folded}
 use Rattle.smoothed.specs.Smoothed.{place, middle, edges_by_use, smoothed_faces, smoothed_count, Smoothable, repeated, all_used}
 use Rattle.smoothed.specs.Around.{wings, neighbours, along_hem, Corner, Boundary, Inner, condition}
 use Rattle.smoothed.specs.Positions.{half, pull, weight, smoothed_positions}

@@ -3,7 +3,7 @@
 use mathlib.Core.Path.{◌≡◌, refl, sym, ap, ap₂, ◌∙◌}
 use mathlib.Core.Bool.{Bool, true, false}
 use mathlib.Core.List.{List, [], ◌∷◌, ◌++◌}
-use Prim.Native.Nat.{ℕ, zero, suc, ◌+◌, ◌*◌, ◌-◌, ◌/◌, ◌%◌, ◌≤◌, ◌<◌}
+use Prim.Native.Nat.{ℕ, zero, suc, ◌+◌, ◌*◌, ◌/◌, ◌%◌, ◌≤◌, ◌<◌}
 use native.Mathlib.Nat.{not-suc-le-zero, le_of_suc-le-suc}
 use native.Mathlib.Omega.{arith}
 use lib.ListN.{length, get_or, take, drop, replicate, length-replicate, get_or-replicate, drop_of_length-le, get_or-append}
@@ -16,14 +16,13 @@ use Rattle.lists.proofs.Changing.{map_at}
 use Rattle.lists.proofs.Mapping.{every_all}
 use Rattle.lists.proofs.Copies.{length_part, part_at}
 use Rattle.mesh.specs.Limits.{width, least_ring}
-use Rattle.mesh.specs.Mesh.{Mesh, Corner, Ring, position, corner_at, corners_in, rings, faces, position_count}
+use Rattle.mesh.specs.Mesh.{Mesh, Ring, position, corner_at, corners_in, rings, faces, position_count}
 use Rattle.mesh.specs.Table.{mesh_number}
 use Rattle.mesh.specs.Face.{Sound, face_of}
 use Rattle.mesh.proofs.Accepted.{Accepted, accepted}
 use Rattle.mesh.proofs.Corners.{corners_in-step}
 use Rattle.mesh.proofs.Faces.{length_rings, get_or-rings, rings_are, corners_back}
 use Rattle.grouping.proofs.Accepting.{corners_in-flat}
-use Rattle.verdicts.specs.Edges.{Edge}
 use Rattle.folding.specs.Folding.{folded}
 use Rattle.smoothed.specs.Smoothed.{sides, edges_by_use, place, Smoothable}
 use Rattle.smoothed.specs.Columns.{triangles, Triangular, edge_numbers}

@@ -10,7 +10,7 @@ use lib.ListN.{length, get_or}
 use lib.Dec.{eqb}
 use borrow.Author.Tests.{eq-eqb}
 use Rattle.lists.specs.Lists.{some, only, keep_if, each, has}
-use Rattle.lists.proofs.Bools.{by_cases, and_both, or_left, or_right}
+use Rattle.lists.proofs.Bools.{by_cases, or_left, or_right}
 use Rattle.lists.proofs.Counting.{clash}
 use Rattle.lists.proofs.Buckets.{lt_or_ge}
 use Rattle.lists.proofs.Only.{some_only}

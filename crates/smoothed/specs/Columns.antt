@@ -1,13 +1,12 @@
 -- What the code of smoothing hands from crate to crate, and no rules: the rules' edges, neighbours and sums as rows of numbers, an
 -- entry for each use, edge or position. Assumes nothing.
-use Rattle.std.specs.Prelude.{◌≡◌, false, List, map, ℕ, ◌*◌, ◌/◌, ◌%◌, ◌≤◌, ◌<◌, length, get_or, replicate, Float}
-use Rattle.lists.specs.Lists.{some, each, span}
+use Rattle.std.specs.Prelude.{◌≡◌, List, map, ℕ, ◌*◌, ◌/◌, ◌%◌, ◌≤◌, ◌<◌, length, get_or, replicate, Float}
+use Rattle.lists.specs.Lists.{each, span}
 use Rattle.mesh.specs.Limits.{width, least_ring, entry_limit, corner_numbers}
 use Rattle.mesh.specs.Mesh.{Ring, rings, missing}
 use Rattle.verdicts.specs.Edges.{Edge}
-use Rattle.folding.specs.Folding.{folded}
 use Rattle.smoothed.specs.Smoothed.{sides, edges_by_use, place}
-use Rattle.smoothed.specs.Around.{Use, uses_of, wings, first_wing, second_wing, neighbours, along_hem}
+use Rattle.smoothed.specs.Around.{wings, first_wing, second_wing, neighbours, along_hem}
 use Rattle.smoothed.specs.Positions.{axes, pull}
 
 -- the faces of a flat list of corners that has triangles alone
