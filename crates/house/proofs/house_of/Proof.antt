@@ -9,63 +9,63 @@ use borrow.Author.Rules.{rules}
 use Rattle.house.proofs.house_of.Statement.{statement}
 use Rattle.house.proofs.house_of.Tie as tie
 
-array-borrow-prefix-lowers : tie.Need-array-borrow-prefix-lowers
+array-borrow-prefix-lowers : tie.Need-slice_bounds-lowers-end
 array-borrow-prefix-lowers c = search rules
 
-slice-aggregate-house-in : tie.Need-slice-aggregate-house-in
+slice-aggregate-house-in : tie.Need-slice_bounds-house_in-end
 slice-aggregate-house-in c =
-    let entry = c.before.before.before.before.before in
+    let entry = c in
     let h : length entry.args.corners.now / width ≤ corner_limit = omega (arith, entry.requires.edged.sound.fits) in
     sym (length_front 0 (length entry.args.corners.now / width) corner_limit h)
 
-array-borrow-prefix-highers : tie.Need-array-borrow-prefix-highers
+array-borrow-prefix-highers : tie.Need-slice_bounds-highers-end
 array-borrow-prefix-highers c = search rules
 
-slice-aggregate-house-in-2 : tie.Need-slice-aggregate-house-in-2
+slice-aggregate-house-in-2 : tie.Need-slice_bounds-house_in-end-2
 slice-aggregate-house-in-2 c =
-    let entry = c.before.before.before.before.before.before in
+    let entry = c in
     let h : length entry.args.corners.now / width ≤ corner_limit = omega (arith, entry.requires.edged.sound.fits) in
     sym (length_front 0 (length entry.args.corners.now / width) corner_limit h)
 
-array-borrow-prefix-downs : tie.Need-array-borrow-prefix-downs
+array-borrow-prefix-downs : tie.Need-slice_bounds-downs-end
 array-borrow-prefix-downs c = search rules
 
-slice-aggregate-house-in-3 : tie.Need-slice-aggregate-house-in-3
+slice-aggregate-house-in-3 : tie.Need-slice_bounds-house_in-end-3
 slice-aggregate-house-in-3 c =
-    let entry = c.before.before.before.before.before.before.before in
+    let entry = c in
     let h : length entry.args.corners.now / width ≤ corner_limit = omega (arith, entry.requires.edged.sound.fits) in
     sym (length_front 0 (length entry.args.corners.now / width) corner_limit h)
 
-array-borrow-prefix-first : tie.Need-array-borrow-prefix-first
+array-borrow-prefix-first : tie.Need-slice_bounds-first-end
 array-borrow-prefix-first c = search rules
 
-slice-aggregate-house-in-4 : tie.Need-slice-aggregate-house-in-4
+slice-aggregate-house-in-4 : tie.Need-slice_bounds-house_in-end-4
 slice-aggregate-house-in-4 c =
-    let entry = c.before.before.before.before.before.before.before.before in
+    let entry = c in
     let h : length entry.args.corners.now / width ≤ corner_limit = omega (arith, entry.requires.edged.sound.fits) in
     sym (length_front 0 (length entry.args.corners.now / width) corner_limit h)
 
-array-borrow-prefix-order : tie.Need-array-borrow-prefix-order
+array-borrow-prefix-order : tie.Need-slice_bounds-order-end
 array-borrow-prefix-order c = search rules
 
-slice-aggregate-house-in-5 : tie.Need-slice-aggregate-house-in-5
+slice-aggregate-house-in-5 : tie.Need-slice_bounds-house_in-end-5
 slice-aggregate-house-in-5 c =
-    let entry = c.before.before.before.before.before.before.before.before.before in
+    let entry = c in
     let h : length entry.args.corners.now / width ≤ corner_limit = omega (arith, entry.requires.edged.sound.fits) in
     sym (length_front 0 (length entry.args.corners.now / width) corner_limit h)
 
-array-borrow-prefix-twins : tie.Need-array-borrow-prefix-twins
+array-borrow-prefix-twins : tie.Need-slice_bounds-twins-end
 array-borrow-prefix-twins c = search rules
 
-slice-aggregate-house-in-6 : tie.Need-slice-aggregate-house-in-6
+slice-aggregate-house-in-6 : tie.Need-slice_bounds-house_in-end-6
 slice-aggregate-house-in-6 c =
-    let entry = c.before.before.before.before.before.before.before.before.before.before in
+    let entry = c in
     let h : length entry.args.corners.now / width ≤ corner_limit = omega (arith, entry.requires.edged.sound.fits) in
     sym (length_front 0 (length entry.args.corners.now / width) corner_limit h)
 
-house-in-requires : tie.Need-house-in-requires
+house-in-requires : tie.Need-house_in-requires
 house-in-requires c κs =
-    let entry = c.before.before.before.before.before.before.before.before.before.before.before.before in
+    let entry = c in
     let h : length entry.args.corners.now / width ≤ corner_limit = omega (arith, entry.requires.edged.sound.fits) in
     let l = length_front {B = ℕ} 0 (length entry.args.corners.now / width) corner_limit h in
     record {
@@ -74,17 +74,17 @@ house-in-requires c κs =
       twin_room = l;
     }
 
-same_length : tie.Need-same-length
-same_length c = c.before.before.before.flat.given
+same_length : tie.Need-shape_of-flat
+same_length c = c.flat-1.given
 
-same-length-2 : tie.Need-same-length-2
-same-length-2 c = c.before.lengths.given
+same-length-2 : tie.Need-shape_of-lengths
+same-length-2 c = c.lengths-1.given
 
 returns : tie.Need-returns
-returns c = c.before.before.before.before.before.before.before.before.before.before.house-in.ensures
+returns c = c.house_in.ensures
 
-pub house-of-spec : {M : Type 1} → statement M
-house-of-spec =
+pub house_of_spec : {M : Type 1} → statement M
+house_of_spec =
     tie.close
     (tie.spec
     array-borrow-prefix-lowers

@@ -10,61 +10,61 @@ use borrow.Author.Rules.{rules}
 use Rattle.house.proofs.wires_in.Statement.{statement}
 use Rattle.house.proofs.wires_in.Tie as tie
 
-is-wired-requires : tie.Need-is-wired-requires
+is-wired-requires : tie.Need-is_wired-requires
 is-wired-requires c κs = search rules
 
 refused-requires : tie.Need-refused-requires
 refused-requires c κs = search rules
 
-returns : tie.Need-returns
+returns : tie.Need-returns-then-not-is_wired
 returns c =
-    let if1 = c.before.if1 in
-    let is-wired = c.before.before.is-wired in
+    let if1 = c.if-not-is_wired in
+    let is-wired = c.is_wired in
     let refused = c.refused in
-    refusal _ _ (ap (λ (b : Bool). when (not b) 10) (sym is-wired.ensures ∙ not-true _ if1.true)) (λ z. omega arith) refused.ensures
+    refusal _ _ (ap (λ (b : Bool). when (not b) 10) (sym is-wired.ensures ∙ not-true _ (ap not if1.true))) (λ z. omega arith) refused.ensures
 
-trace-requires : tie.Need-trace-requires
+trace-requires : tie.Need-trace-done-requires
 trace-requires c κs =
-    let far = c.before.before.before.before.before.before.before.before.before.before.before.before.before.before.before.before.before.before in
-    let entry = far.before in
-    let if1 = c.before.before.before.before.before.before.before.if1 in
-    let is-wired = c.before.before.before.before.before.before.before.before.is-wired in
-    rows_hemmable entry.requires (sym is-wired.ensures ∙ not-false _ if1.false)
+    let far = c in
+    let entry = c in
+    let if1 = c.if-not-is_wired in
+    let is-wired = c.is_wired in
+    rows_hemmable entry.requires (sym is-wired.ensures ∙ not-false _ (ap not if1.false))
 
-same_length : tie.Need-same-length
-same_length c = c.before.before.before.before.before.before.before.before.before.before.before.before.before.lowers.given
+same_length : tie.Need-shape_of-lowers
+same_length c = c.lowers-1.given
 
-same-length-2 : tie.Need-same-length-2
-same-length-2 c = c.before.before.before.before.before.before.before.before.before.before.before.highers.given
+same-length-2 : tie.Need-shape_of-highers
+same-length-2 c = c.highers-1.given
 
-same-length-3 : tie.Need-same-length-3
-same-length-3 c = c.before.before.before.before.before.before.before.before.before.downs.given
+same-length-3 : tie.Need-shape_of-downs
+same-length-3 c = c.downs-1.given
 
-same-length-4 : tie.Need-same-length-4
-same-length-4 c = c.before.before.before.before.before.before.before.first.given
+same-length-4 : tie.Need-shape_of-first
+same-length-4 c = c.first-1.given
 
-same-length-5 : tie.Need-same-length-5
-same-length-5 c = c.before.before.before.before.before.twins.given
+same-length-5 : tie.Need-shape_of-twins
+same-length-5 c = c.twins-1.given
 
-same-length-6 : tie.Need-same-length-6
-same-length-6 c = c.before.before.before.flat.given
+same-length-6 : tie.Need-shape_of-flat
+same-length-6 c = c.flat-1.given
 
-same-length-7 : tie.Need-same-length-7
-same-length-7 c = c.before.lengths.given
+same-length-7 : tie.Need-shape_of-lengths
+same-length-7 c = c.lengths-1.given
 
-returns-2 : tie.Need-returns-2
+returns-2 : tie.Need-returns
 returns-2 c =
-    let far = c.before.before.before.before.before.before.before.before.before.before.before.before.before.before.before.before.before.before in
-    let entry = far.before.before.before.before.before.before.before.before.before.before.before.before.before.before.before.before in
-    let far = c.before.before.before.before.before.before.before.before.before.before.before.before.before.before.before.before.before.before in
-    let if1 = far.before.before.before.before.if1 in
-    let far = c.before.before.before.before.before.before.before.before.before.before.before.before.before.before.before.before.before.before in
-    let is-wired = far.before.before.before.before.before.is-wired in
-    let trace = c.before.before.before.before.before.before.before.before.before.before.before.before.before.before.trace in
-    rows_wired entry.requires (sym is-wired.ensures ∙ not-false _ if1.false) trace.ensures
+    let far = c in
+    let entry = c in
+    let far = c in
+    let if1 = far.if-not-is_wired in
+    let far = c in
+    let is-wired = far.is_wired in
+    let trace = c.trace-done in
+    rows_wired entry.requires (sym is-wired.ensures ∙ not-false _ (ap not if1.false)) trace.ensures
 
-pub wires-in-spec : {M : Type 1} → statement M
-wires-in-spec =
+pub wires_in_spec : {M : Type 1} → statement M
+wires_in_spec =
     tie.close
     (tie.spec
     is-wired-requires
