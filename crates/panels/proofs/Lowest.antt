@@ -1,19 +1,18 @@
 -- Each panel begins with its lowest face, and panels ascend by it: a search starts at the lowest face that no panel has, keeps it in
 -- front, and finds no face below it, since those stand in panels before. Assumes nothing.
-use mathlib.Core.Path.{◌≡◌, refl, sym, ap, ◌∙◌, subst}
+use mathlib.Core.Path.{◌≡◌, refl, sym, ap, subst}
 use mathlib.Core.Bool.{Bool, true, false, cond, ◌||◌}
 use mathlib.Core.List.{List, [], ◌∷◌, ◌++◌}
 use Prim.Native.Nat.{ℕ, zero, suc, ◌+◌, ◌≤◌, ◌<◌}
 use native.Mathlib.Omega.{arith}
 use lib.Dec.{eqb, ltb}
 use lib.ListN.{length}
-use borrow.Author.Tests.{ltb-true, ltb-false, eqb-true, eqb-false}
+use borrow.Author.Tests.{ltb-true, ltb-false, eqb-false}
 use Rattle.lists.specs.Lists.{bump, count, has, joined}
 use Rattle.lists.proofs.Bools.{by_cases}
 use Rattle.lists.proofs.Counting.{clash, count_some}
 use Rattle.lists.proofs.Classes.{Ended, Parted, parted_none, parted_same, parted_more}
 use Rattle.lists.proofs.Members.{In, in_tail, Once}
-use Rattle.mesh.specs.Mesh.{Ring}
 use Rattle.searching.specs.Search.{Join, Search, neighbours, look, search_from, panels_from}
 use Rattle.panels.specs.Panels.{joins, panels}
 use Rattle.panels.specs.Promises.{Ascend, ended, begins, LowestFirst}

@@ -1,14 +1,13 @@
 -- What is known of the panels of a mesh: two faces stand in one panel exactly where a chain of faces, each sharing an edge key
 -- with the next, leads from the one to the other; and each face stands in exactly one panel, once. Assumes nothing.
 use mathlib.Core.Path.{◌≡◌}
-use mathlib.Core.Bool.{Bool, true}
+use mathlib.Core.Bool.{Bool}
 use mathlib.Core.List.{List, []}
 use Prim.Native.Nat.{ℕ, ◌≤◌, ◌<◌}
 use native.Mathlib.Omega.{arith}
-use lib.Dec.{eqb}
 use lib.ListN.{length}
-use Rattle.lists.specs.Lists.{joined, count}
-use Rattle.lists.proofs.Chains.{Reach, reach_one, reach_bind}
+use Rattle.lists.specs.Lists.{joined}
+use Rattle.lists.proofs.Chains.{reach_one, reach_bind}
 use Rattle.lists.proofs.Classes.{Parted, together_reach, reach_together}
 use Rattle.lists.proofs.Members.{In, once_in, once_length}
 use Rattle.mesh.specs.Mesh.{Ring}

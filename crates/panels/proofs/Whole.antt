@@ -1,15 +1,15 @@
 -- The call as a whole: the joins of an accepted mesh are divided into the panels of the rules. Assumes nothing.
 use mathlib.Core.Path.{◌≡◌, refl, sym, ap, ◌∙◌, subst}
 use mathlib.Core.Bool.{Bool, true}
-use mathlib.Core.List.{List, [], ◌∷◌, map}
-use Prim.Native.Nat.{ℕ, zero, suc, ◌+◌, ◌*◌, ◌/◌, ◌≤◌, ◌<◌}
+use mathlib.Core.List.{List, [], ◌∷◌}
+use Prim.Native.Nat.{ℕ, suc, ◌+◌, ◌*◌, ◌/◌, ◌≤◌, ◌<◌}
 use native.Mathlib.Nat.{le_of_eq}
 use native.Mathlib.Omega.{arith}
 use lib.Dec.{ltb}
 use lib.ListN.{length, get_or, take, replicate, length-replicate}
-use lib.Seq.{sets, length-take-le}
+use lib.Seq.{length-take-le}
 use borrow.Author.Tests.{ltb-true}
-use Rattle.lists.specs.Lists.{joined, sum}
+use Rattle.lists.specs.Lists.{sum}
 use Rattle.lists.proofs.Parts.{every_at}
 use Rattle.lists.specs.Putting.{Front, Written}
 use Rattle.lists.proofs.Fronts.{front}
@@ -19,8 +19,7 @@ use Rattle.mesh.specs.Listed.{listed_of}
 use Rattle.mesh.specs.Table.{mesh_number}
 use Rattle.mesh.proofs.Faces.{length_rings}
 use Rattle.mesh.proofs.Accepted.{Accepted}
-use Rattle.keys.specs.Keys.{Use, uses_from}
-use Rattle.keys.specs.Columns.{Keyable}
+use Rattle.keys.specs.Keys.{uses_from}
 use Rattle.keys.proofs.Valid.{keyable}
 use Rattle.keys.proofs.Rows.{uses_few}
 use Rattle.searching.specs.Search.{Join, panels_from}

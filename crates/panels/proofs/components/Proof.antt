@@ -9,68 +9,68 @@ use borrow.Author.Rules.{rules}
 use Rattle.panels.proofs.components.Statement.{statement}
 use Rattle.panels.proofs.components.Tie as tie
 
-number-requires : tie.Need-number-requires
+number-requires : tie.Need-number-number-requires
 number-requires c κs = search rules
 
 refused-requires : tie.Need-refused-requires
 refused-requires c κs = search rules
 
-returns : tie.Need-returns
+returns : tie.Need-returns-then-number-ne0
 returns c =
-    let number = c.before.before.number in
-    let given = c.before.before.before.before.before.before.before.before.before.before.args in
+    let number = c.number-number in
+    let given = c.args in
     let mesh = mesh_of given.positions.now given.textures.now given.normals.now given.corners.now given.sizes.now in
-    refused_mesh mesh given.use-normal _ _ _ _ number.ensures c.before.if1.true c.refused.ensures
+    refused_mesh mesh given.use_normal _ _ _ _ number.ensures c.if-number-ne0.true c.refused.ensures
 
-refused-requires-2 : tie.Need-refused-requires-2
+refused-requires-2 : tie.Need-refused-requires-then-flat-room
 refused-requires-2 c κs = search rules
 
-returns-2 : tie.Need-returns-2
+returns-2 : tie.Need-returns-then-flat-room
 returns-2 c =
-    let number = c.before.before.before.number in
-    let zero = c.before.before.if1.false in
-    let given = c.before.before.before.before.before.before.before.before.before.before.before.args in
+    let number = c.number-number in
+    let zero = c.if-number-ne0.false in
+    let given = c.args in
     let mesh = mesh_of given.positions.now given.textures.now given.normals.now given.corners.now given.sizes.now in
-    refused_flat mesh given.use-normal _ _ _ _ number.ensures zero c.before.if2.true c.refused2.ensures
+    refused_flat mesh given.use_normal _ _ _ _ number.ensures zero c.if-flat-room.true c.refused-then-flat-room.ensures
 
-refused-requires-3 : tie.Need-refused-requires-3
+refused-requires-3 : tie.Need-refused-requires-then-lengths-room
 refused-requires-3 c κs = search rules
 
-returns-3 : tie.Need-returns-3
+returns-3 : tie.Need-returns-then-lengths-room
 returns-3 c =
-    let number = c.before.before.before.before.number in
-    let zero = c.before.before.before.if1.false in
-    let given = c.before.before.before.before.before.before.before.before.before.before.before.before.args in
+    let number = c.number-number in
+    let zero = c.if-number-ne0.false in
+    let given = c.args in
     let mesh = mesh_of given.positions.now given.textures.now given.normals.now given.corners.now given.sizes.now in
-    refused_lengths mesh given.use-normal _ _ _ _ number.ensures zero c.before.before.if2.false c.before.if3.true
-    c.refused3.ensures
+    refused_lengths mesh given.use_normal _ _ _ _ number.ensures zero c.if-flat-room.false c.if-lengths-room.true
+    c.refused-then-lengths-room.ensures
 
-components-of-requires : tie.Need-components-of-requires
+components-of-requires : tie.Need-components_of-counts-requires
 components-of-requires c κs =
-    let number = c.before.before.before.before.before.number in
-    let zero = c.before.before.before.before.if1.false in
-    let given = c.before.before.before.before.before.before.before.before.before.before.before.before.before.args in
+    let number = c.number-number in
+    let zero = c.if-number-ne0.false in
+    let given = c.args in
     let mesh = mesh_of given.positions.now given.textures.now given.normals.now given.corners.now given.sizes.now in
-    panels_room mesh (accepted mesh (sym number.ensures ∙ zero)) _ _ c.before.before.before.if2.false c.before.before.if3.false
+    panels_room mesh (accepted mesh (sym number.ensures ∙ zero)) _ _ c.if-flat-room.false c.if-lengths-room.false
 
-same_length : tie.Need-same-length
+same_length : tie.Need-shape_of-flat
 same_length c = search rules
 
-same-length-2 : tie.Need-same-length-2
+same-length-2 : tie.Need-shape_of-lengths
 same-length-2 c = search rules
 
-returns-4 : tie.Need-returns-4
+returns-4 : tie.Need-returns
 returns-4 c =
-    let parted = c.before.before.before.before.components-of in
-    let number = c.before.before.before.before.before.before.before.before.before.before.number in
-    let zero = c.before.before.before.before.before.before.before.before.before.if1.false in
-    let given = c.before.before.before.before.before.before.before.before.before.before.before.before.before.before.before.before.before.before.args in
+    let parted = c.components_of-counts in
+    let number = c.number-number in
+    let zero = c.if-number-ne0.false in
+    let given = c.args in
     let mesh = mesh_of given.positions.now given.textures.now given.normals.now given.corners.now given.sizes.now in
-    answered mesh (accepted mesh (sym number.ensures ∙ zero)) _ _ c.before.before.before.before.before.before.before.before.if2.false
-    c.before.before.before.before.before.before.before.if3.false given.use-normal _ _ _ _ _ number.ensures zero parted.ensures
+    answered mesh (accepted mesh (sym number.ensures ∙ zero)) _ _ c.if-flat-room.false
+    c.if-lengths-room.false given.use_normal _ _ _ _ _ number.ensures zero parted.ensures
 
-pub components-spec : {M : Type 1} → statement M
-components-spec =
+pub components_spec : {M : Type 1} → statement M
+components_spec =
     tie.close
     (tie.spec
     number-requires

@@ -5,32 +5,32 @@ use borrow.Author.Rules.{rules}
 use Rattle.panels.proofs.find_joins.Statement.{statement}
 use Rattle.panels.proofs.find_joins.Tie as tie
 
-array-borrow-prefix-firsts : tie.Need-array-borrow-prefix-firsts
+array-borrow-prefix-firsts : tie.Need-slice_bounds-firsts-end
 array-borrow-prefix-firsts c = search rules
 
-slice-aggregate-record-joins : tie.Need-slice-aggregate-record-joins
-slice-aggregate-record-joins c = sym (corner_row _ _ c.before.before.before.before.requires.keyable)
+slice-aggregate-record-joins : tie.Need-slice_bounds-record_joins-end
+slice-aggregate-record-joins c = sym (corner_row _ _ c.requires.keyable)
 
-array-borrow-prefix-faces : tie.Need-array-borrow-prefix-faces
+array-borrow-prefix-faces : tie.Need-slice_bounds-faces-end
 array-borrow-prefix-faces c = search rules
 
-slice-aggregate-record-joins-2 : tie.Need-slice-aggregate-record-joins-2
-slice-aggregate-record-joins-2 c = sym (corner_row _ _ c.before.before.before.before.before.requires.keyable)
+slice-aggregate-record-joins-2 : tie.Need-slice_bounds-record_joins-end-2
+slice-aggregate-record-joins-2 c = sym (corner_row _ _ c.requires.keyable)
 
-record-joins-requires : tie.Need-record-joins-requires
+record-joins-requires : tie.Need-record_joins-requires
 record-joins-requires c κs =
-    let pre = c.before.before.before.before.before.before.requires in
+    let pre = c.requires in
     let row = corner_row _ _ pre.keyable in
     record { keyable = pre.keyable; firsts_long = row; faces_long = row; room = pre.room }
 
-same_length : tie.Need-same-length
+same_length : tie.Need-shape_of-out
 same_length c = search rules
 
 returns : tie.Need-returns
-returns c = c.before.before.before.before.record-joins.ensures
+returns c = c.record_joins.ensures
 
-pub find-joins-spec : {M : Type 1} → statement M
-find-joins-spec =
+pub find_joins_spec : {M : Type 1} → statement M
+find_joins_spec =
     tie.close
     (tie.spec
     array-borrow-prefix-firsts

@@ -6,56 +6,56 @@ use borrow.Author.Rules.{rules}
 use Rattle.panels.proofs.joins.put_join.Statement.{statement}
 use Rattle.panels.proofs.joins.put_join.Tie as tie
 
-mul_wide : tie.Need-overflow-mul-wide
+mul_wide : tie.Need-offset_bounds-firsts-u
 mul_wide c = search rules
 
-shared-slice-read-wide : tie.Need-shared-slice-read-wide
+shared-slice-read-wide : tie.Need-bounds-firsts-u
 shared-slice-read-wide c = search rules
 
-wide-requires : tie.Need-wide-requires
+wide-requires : tie.Need-wide-f-requires
 wide-requires c κs = search rules
 
-returns : tie.Need-returns
-returns c = wrote_none _ _ _ _ _ _ c.before.wide.ensures c.if1.true
+returns : tie.Need-returns-then-f-u
+returns c = wrote_none _ _ _ _ _ _ c.wide-f.ensures c.if-f-u.true
 
-mul-out : tie.Need-overflow-mul-out
+mul-out : tie.Need-offset_bounds-faces-u
 mul-out c = search rules
 
-shared-slice-read-out : tie.Need-shared-slice-read-out
+shared-slice-read-out : tie.Need-bounds-faces-u
 shared-slice-read-out c = search rules
 
-mul-out-2 : tie.Need-overflow-mul-out-2
+mul-out-2 : tie.Need-offset_bounds-out-m
 mul-out-2 c = search rules
 
-slice-write-out : tie.Need-slice-write-out
+slice-write-out : tie.Need-bounds-out-m
 slice-write-out c = search rules
 
-mul-out-3 : tie.Need-overflow-mul-out-3
+mul-out-3 : tie.Need-offset_bounds-faces-f
 mul-out-3 c = search rules
 
-shared-slice-read-out-2 : tie.Need-shared-slice-read-out-2
+shared-slice-read-out-2 : tie.Need-bounds-faces-f
 shared-slice-read-out-2 c = search rules
 
-add-out : tie.Need-overflow-add-out
+add-out : tie.Need-overflow_add-out
 add-out c = search rules
 
-mul-out-4 : tie.Need-overflow-mul-out-4
+mul-out-4 : tie.Need-offset_bounds-out-m-2
 mul-out-4 c = search rules
 
-slice-write-out-2 : tie.Need-slice-write-out-2
-slice-write-out-2 c = simp length-set (omega (arith, c.before.before.before.before.before.before.before.before.requires.room))
+slice-write-out-2 : tie.Need-bounds-out-m-2
+slice-write-out-2 c = simp length-set (omega (arith, c.requires.room))
 
-add-result : tie.Need-overflow-add-result
+add-result : tie.Need-overflow_add-result
 add-result c = search rules
 
-same_length : tie.Need-same-length
+same_length : tie.Need-shape_of-out
 same_length c = search rules
 
-returns-2 : tie.Need-returns-2
-returns-2 c = wrote_one _ _ _ _ _ _ c.before.before.before.wide.ensures c.before.before.if1.false
+returns-2 : tie.Need-returns
+returns-2 c = wrote_one _ _ _ _ _ _ c.wide-f.ensures c.if-f-u.false
 
-pub put-join-spec : {M : Type 1} → statement M
-put-join-spec =
+pub put_join_spec : {M : Type 1} → statement M
+put_join_spec =
     tie.close
     (tie.spec
     mul_wide
