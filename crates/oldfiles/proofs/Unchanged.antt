@@ -9,7 +9,7 @@ use lib.Dec.{ltb, leb, eqb}
 use borrow.Author.Tests.{lt-ltb, le-ltb, ltb-true, ltb-false, le-leb, leb-true}
 use Rattle.lists.specs.Lists.{every, some, joined, each}
 use Rattle.lists.proofs.Bools.{by_cases, true_false, and_both, and_left, and_right, or_false_left, or_false_right}
-use Rattle.little.specs.Little.{half}
+use Rattle.little.specs.Little.{byte, half}
 use Rattle.mesh.specs.Limits.{point_numbers, texel_numbers}
 use Rattle.mesh.specs.Mesh.{mesh_of}
 use Rattle.mesh.specs.Table.{Lent, when, first_of, short}
@@ -27,19 +27,38 @@ use Rattle.oldfiles.proofs.Marks.{as_now, limited_same, face_same, finish_same, 
 
 -- ---- one record, for a reader that knows the kinds up to k
 
+-- a face that carries no marks lacks none
+first_skips : (x : ℕ) (ys : List ℕ) → first_of (x ∷ 0 ∷ ys) ≡ first_of (x ∷ ys)
+first_skips zero ys = refl
+first_skips (suc x) ys = refl
+
+counted_plain : (s : List ℕ) (w limit c a n : ℕ) → counted false s w limit c a n ≡ before.counted w limit c a n
+unfolding counted before.counted
+counted_plain s w limit c a n =
+    ap (λ (k : ℕ). unless k (Face a c false)) (first_skips (when (not (eqb (w + 12 * c) n)) 12) (when (ltb limit c) 3 ∷ []))
+
+face_plain : (s : List ℕ) (b n : ℕ) → face_from s b n ≡ before.counted 1 32 (byte s b) (b + 1) n
+unfolding face_from
+face_plain s b n = counted_plain s 1 32 (byte s b) (b + 1) n
+
+wide_plain : (s : List ℕ) (b n : ℕ) → wide_face_from s b n ≡ before.counted 2 300 (half s b) (b + 2) n
+unfolding wide_face_from
+wide_plain s b n = counted_plain s 2 300 (half s b) (b + 2) n
+
 -- behind a whole header: the rows of the kind and the length and the body, of any kind but a later one
 kind_same :
     (last : ℕ) → 4 ≤ last → last ≤ 5 → (s : List ℕ) (b n k : ℕ) (cut : Bool) → (last < k → k ≤ 6 → ⊥)
     → unless (first_of (when (ltb last_kind k) 12 ∷ when (not (length_fits k n)) 12 ∷ when cut 11 ∷ [])) (body_from s b n k)
     ≡ unless (first_of (when (ltb last k) 12 ∷ when (not (before.length_fits k n)) 12 ∷ when cut 11 ∷ [])) (before.body_from s b n k)
-unfolding length_fits body_from face_from wide_face_from counted before.length_fits before.body_from before.counted
+unfolding length_fits body_from before.length_fits before.body_from
 kind_same last l u s b n zero cut h = rw (le-ltb last 0 (omega arith))
 kind_same last l u s b n (suc zero) cut h = rw (le-ltb last 1 (omega arith))
 kind_same last l u s b n (suc (suc zero)) cut h = rw (le-ltb last 2 (omega arith))
 kind_same last l u s b n (suc (suc (suc zero))) cut h = rw (le-ltb last 3 (omega arith))
-kind_same last l u s b n (suc (suc (suc (suc zero)))) cut h = rw (le-ltb last 4 l)
+kind_same last l u s b n (suc (suc (suc (suc zero)))) cut h = rw (le-ltb last 4 l) (ap (unless (first_of (when (not (length_fits 4 n)) 12 ∷ when cut 11 ∷ []))) (face_plain s b n))
 kind_same last l u s b n (suc (suc (suc (suc (suc zero))))) cut h =
-    by_cases (ltb last 5) (λ e. absurd (h (ltb-true last 5 e) (omega arith))) (λ e. rw e)
+    by_cases (ltb last 5) (λ e. absurd (h (ltb-true last 5 e) (omega arith)))
+    (λ e. rw e (ap (unless (first_of (when (not (length_fits 5 n)) 12 ∷ when cut 11 ∷ []))) (wide_plain s b n)))
 kind_same last l u s b n (suc (suc (suc (suc (suc (suc zero)))))) cut h = absurd (h (omega arith) (omega arith))
 kind_same last l u s b n (suc (suc (suc (suc (suc (suc (suc k))))))) cut h =
     let m = suc (suc (suc (suc (suc (suc (suc k)))))) in rw (lt-ltb last_kind m (omega arith), lt-ltb last m (omega arith))
