@@ -19,7 +19,7 @@ use Rattle.verdicts.specs.Edges.{same}
 use Rattle.smoothed.specs.Around.{Use, uses_of}
 use Rattle.smoothed.specs.Columns.{Triangular, triangles}
 use Rattle.smoothed.proofs.All.{All, none, more, all_each}
-use Rattle.sides.specs.Sides.{lower_of, higher_of, edge_at, Sides, EdgeColumns, FirstUse, Marked}
+use Rattle.sides.specs.Sides.{lower_of, higher_of, edge_at, Sides, EdgeColumns, Marked}
 use Rattle.sides.specs.Steps.{position_at_lem, uses_at, MarkRoom}
 use Rattle.sides.proofs.Triangles.{triangle_count, triangle_uses, length_uses}
 

@@ -3,11 +3,11 @@ use Rattle.sides.proofs.Columns.{higher_first, higher_second}
 use Rattle.sides.proofs.higher_of.Statement.{statement}
 use Rattle.sides.proofs.higher_of.Tie as tie
 
-returns : tie.Need-returns
-returns c = higher_second _ _ c.if1.true
+returns : tie.Need-returns-then-p-q
+returns c = higher_second _ _ c.if-p-q.true
 
-returns-2 : tie.Need-returns-2
-returns-2 c = higher_first _ _ c.if1.false
+returns-2 : tie.Need-returns-else-p-q
+returns-2 c = higher_first _ _ c.if-p-q.false
 
-pub higher-of-spec : {M : Type 1} → statement M
-higher-of-spec = tie.close (tie.spec returns returns-2)
+pub higher_of_spec : {M : Type 1} → statement M
+higher_of_spec = tie.close (tie.spec returns returns-2)

@@ -3,11 +3,11 @@ use Rattle.sides.proofs.Columns.{lower_first, lower_second}
 use Rattle.sides.proofs.lower_of.Statement.{statement}
 use Rattle.sides.proofs.lower_of.Tie as tie
 
-returns : tie.Need-returns
-returns c = lower_first _ _ c.if1.true
+returns : tie.Need-returns-then-p-q
+returns c = lower_first _ _ c.if-p-q.true
 
-returns-2 : tie.Need-returns-2
-returns-2 c = lower_second _ _ c.if1.false
+returns-2 : tie.Need-returns-else-p-q
+returns-2 c = lower_second _ _ c.if-p-q.false
 
-pub lower-of-spec : {M : Type 1} → statement M
-lower-of-spec = tie.close (tie.spec returns returns-2)
+pub lower_of_spec : {M : Type 1} → statement M
+lower_of_spec = tie.close (tie.spec returns returns-2)

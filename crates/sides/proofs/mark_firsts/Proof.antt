@@ -5,29 +5,29 @@ use borrow.Author.Rules.{rules}
 use Rattle.sides.proofs.mark_firsts.Statement.{statement}
 use Rattle.sides.proofs.mark_firsts.Tie as tie
 
-array-share-prefix-alike : tie.Need-array-share-prefix-alike
+array-share-prefix-alike : tie.Need-slice_bounds-alike-end
 array-share-prefix-alike c = search rules
 
-slice-aggregate-mark-in : tie.Need-slice-aggregate-mark-in
-slice-aggregate-mark-in c = sym (front_long 1 _ _ _ c.before.before.before.before.requires)
+slice-aggregate-mark-in : tie.Need-slice_bounds-mark_in-end
+slice-aggregate-mark-in c = sym (front_long 1 _ _ _ c.requires)
 
-array-borrow-prefix-order : tie.Need-array-borrow-prefix-order
+array-borrow-prefix-order : tie.Need-slice_bounds-order-end
 array-borrow-prefix-order c = search rules
 
-slice-aggregate-mark-in-2 : tie.Need-slice-aggregate-mark-in-2
-slice-aggregate-mark-in-2 c = sym (front_long 0 _ _ _ c.before.before.before.before.before.requires)
+slice-aggregate-mark-in-2 : tie.Need-slice_bounds-mark_in-end-2
+slice-aggregate-mark-in-2 c = sym (front_long 0 _ _ _ c.requires)
 
-mark-in-requires : tie.Need-mark-in-requires
-mark-in-requires c κs = front_ready _ _ _ c.before.before.before.before.before.before.requires
+mark-in-requires : tie.Need-mark_in-requires
+mark-in-requires c κs = front_ready _ _ _ c.requires
 
-same_length : tie.Need-same-length
+same_length : tie.Need-shape_of-firsts
 same_length c = search rules
 
 returns : tie.Need-returns
-returns c = c.before.before.before.mark-in.ensures
+returns c = c.mark_in.ensures
 
-pub mark-firsts-spec : {M : Type 1} → statement M
-mark-firsts-spec =
+pub mark_firsts_spec : {M : Type 1} → statement M
+mark_firsts_spec =
     tie.close
     (tie.spec
     array-share-prefix-alike

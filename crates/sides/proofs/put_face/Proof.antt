@@ -5,79 +5,79 @@ use borrow.Author.Rules.{rules}
 use Rattle.sides.proofs.put_face.Statement.{statement}
 use Rattle.sides.proofs.put_face.Tie as tie
 
-mul_at : tie.Need-overflow-mul-at
+mul_at : tie.Need-overflow_mul-at
 mul_at c = search rules
 
-mul-a : tie.Need-overflow-mul-a
+mul-a : tie.Need-overflow_mul-a
 mul-a c = search rules
 
-mul-a-2 : tie.Need-overflow-mul-a-2
+mul-a-2 : tie.Need-offset_bounds-corners-at
 mul-a-2 c = search rules
 
-shared-slice-read-a : tie.Need-shared-slice-read-a
+shared-slice-read-a : tie.Need-bounds-corners-at
 shared-slice-read-a c = search rules
 
-add-b : tie.Need-overflow-add-b
+add-b : tie.Need-overflow_add-b
 add-b c = search rules
 
-mul-b : tie.Need-overflow-mul-b
+mul-b : tie.Need-overflow_mul-b
 mul-b c = search rules
 
-mul-b-2 : tie.Need-overflow-mul-b-2
+mul-b-2 : tie.Need-offset_bounds-corners-at-2
 mul-b-2 c = search rules
 
-shared-slice-read-b : tie.Need-shared-slice-read-b
+shared-slice-read-b : tie.Need-bounds-corners-at-2
 shared-slice-read-b c = search rules
 
-add-c : tie.Need-overflow-add-c
+add-c : tie.Need-overflow_add-c
 add-c c = search rules
 
-mul-c : tie.Need-overflow-mul-c
+mul-c : tie.Need-overflow_mul-c
 mul-c c = search rules
 
-mul-c-2 : tie.Need-overflow-mul-c-2
+mul-c-2 : tie.Need-offset_bounds-corners-at-3
 mul-c-2 c = search rules
 
-shared-slice-read-c : tie.Need-shared-slice-read-c
+shared-slice-read-c : tie.Need-bounds-corners-at-3
 shared-slice-read-c c = search rules
 
-put-side-requires : tie.Need-put-side-requires
+put-side-requires : tie.Need-put_side-requires
 put-side-requires c κs = search rules
 
-add-put-side : tie.Need-overflow-add-put-side
+add-put-side : tie.Need-overflow_add-at
 add-put-side c = search rules
 
-put-side-requires-2 : tie.Need-put-side-requires-2
+put-side-requires-2 : tie.Need-put_side-requires-2
 put-side-requires-2 c κs = search rules
 
-add-put-side-2 : tie.Need-overflow-add-put-side-2
+add-put-side-2 : tie.Need-overflow_add-at-2
 add-put-side-2 c = search rules
 
-put-side-requires-3 : tie.Need-put-side-requires-3
+put-side-requires-3 : tie.Need-put_side-requires-3
 put-side-requires-3 c κs = search rules
 
-same_length : tie.Need-same-length
+same_length : tie.Need-shape_of-lower
 same_length c = search rules
 
-same-length-2 : tie.Need-same-length-2
+same-length-2 : tie.Need-shape_of-higher
 same-length-2 c = search rules
 
-same-length-3 : tie.Need-same-length-3
+same-length-3 : tie.Need-shape_of-wing
 same-length-3 c = search rules
 
 returns : tie.Need-returns
 returns c =
-    let put-side3 = c.before.before.before.before.before.before.put-side3 in
-    let earlier = c.before.before.before.before.before.before.before.before.before.before.before.before in
-    let put-side2 = earlier.before.before.before.before.put-side2 in
-    let put-side = earlier.before.before.before.before.before.before.before.before.before.before.before.before.before.before.put-side in
+    let put-side3 = c.put_side-3 in
+    let earlier = c in
+    let put-side2 = earlier.put_side-2 in
+    let put-side = earlier.put_side in
     face_written _ _ _ _ _ _ _ _ _ _ _ _ _ _ _ _ _ refl refl refl
     put-side.ensures
     put-side2.ensures
     put-side3.ensures
 
-pub put-face-spec : {M : Type 1} → statement M
-put-face-spec =
+pub put_face_spec : {M : Type 1} → statement M
+put_face_spec =
     tie.close
     (tie.spec
     mul_at
