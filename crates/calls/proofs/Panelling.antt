@@ -8,7 +8,6 @@ use lib.ListN.{length, take, length-map}
 use Rattle.lists.specs.Lists.{joined, together}
 use Rattle.mesh.specs.Mesh.{Mesh, faces}
 use Rattle.mesh.specs.Table.{mesh_number}
-use Rattle.panels.specs.Panels.{panels}
 use Rattle.panels.specs.Contract.{components_number, panels_of}
 use Rattle.lists.specs.Cutting.{parts}
 use Rattle.lists.proofs.Cutting.{parts_back}
