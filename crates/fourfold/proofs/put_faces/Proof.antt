@@ -4,7 +4,6 @@ use lib.ListN.{length}
 use Rattle.fourfold.specs.Working.{triangle_numbers}
 use Rattle.fourfold.proofs.Fours.{Folding, folding_begins, folding_long, folding_room, folding_turns, folding_ends}
 use borrow.Author.Rules.{rules}
-use native.Mathlib.Omega.{arith}
 use Rattle.fourfold.proofs.put_faces.Statement.{statement}
 use Rattle.fourfold.proofs.put_faces.Tie as tie
 

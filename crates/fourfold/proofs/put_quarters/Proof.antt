@@ -1,6 +1,5 @@
 -- `fourfold::put_quarters` meets its contract: four triangles, one behind the other. Assumes nothing.
 use Rattle.fourfold.proofs.Fours.{quarters_put}
-use native.Mathlib.Omega.{arith}
 use borrow.Author.Rules.{rules}
 use Rattle.fourfold.proofs.put_quarters.Statement.{statement}
 use Rattle.fourfold.proofs.put_quarters.Tie as tie

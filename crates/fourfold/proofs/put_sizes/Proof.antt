@@ -1,5 +1,4 @@
 -- `fourfold::put_sizes` meets its contract: nothing stands before the sizes. Assumes nothing.
-use native.Mathlib.Omega.{arith}
 use native.Mathlib.Nat.{sub-zero}
 use borrow.Author.Rules.{rules}
 use Rattle.fourfold.proofs.put_sizes.Statement.{statement}
