@@ -10,7 +10,6 @@ use lib.Ieee.{Float}
 use Rattle.lists.specs.Putting.{Front}
 use Rattle.mesh.specs.Limits.{point_width, texel_width, width}
 use Rattle.mesh.specs.Mesh.{Mesh, mesh_of}
-use Rattle.mesh.specs.Table.{mesh_number}
 use Rattle.mesh.proofs.Accepted.{Accepted, accepted}
 use Rattle.unused.specs.declared.Compacted.{Compacted}
 use Rattle.unused.specs.Compaction.{compacted}

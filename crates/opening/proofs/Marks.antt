@@ -4,10 +4,10 @@ use mathlib.Core.Bool.{Bool, true, ◌&&◌}
 use mathlib.Core.List.{List, [], ◌∷◌, map}
 use Prim.Native.Nat.{ℕ, ◌+◌, ◌*◌, ◌/◌, ◌≤◌, ◌<◌}
 use native.Mathlib.Omega.{arith}
-use lib.ListN.{length, get_or, get_or-eq_default}
+use lib.ListN.{length, get_or-eq_default}
 use lib.Dec.{leb, ltb}
 use borrow.Author.Tests.{le-leb, leb-true, ltb-true, ltb-false}
-use Rattle.lists.specs.Lists.{every, joined}
+use Rattle.lists.specs.Lists.{every}
 use Rattle.lists.proofs.Bools.{by_cases}
 use Rattle.lists.proofs.Mapping.{every_map, every_all}
 use Rattle.lists.proofs.Parts.{every_at, every_joined}

@@ -22,7 +22,7 @@ use Rattle.allfaces.specs.Working as all
 use Rattle.unused.specs.Compaction.{compacted}
 use Rattle.reading.specs.declared.MeshRead.{MeshRead}
 use Rattle.cleaning.specs.Cleaning.{cleaned}
-use Rattle.opening.specs.Opening.{front_of, Fronts, Kept}
+use Rattle.opening.specs.Opening.{front_of, Kept}
 use Rattle.opening.specs.Working.{unfolded_front, FaceRoom, Unfolded}
 use Rattle.opening.proofs.Fronts.{front_length, goes_on}
 

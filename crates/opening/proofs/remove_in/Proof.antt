@@ -6,107 +6,107 @@ use native.Mathlib.Omega.{arith}
 use Rattle.opening.proofs.remove_in.Statement.{statement}
 use Rattle.opening.proofs.remove_in.Tie as tie
 
-mul-c : tie.Need-overflow-mul-c
+mul-c : tie.Need-overflow_mul-c
 mul-c c =
-    let start = c.before.before.before.before.before.before.before.before.before in
+    let start = c in
     omega (arith, start.requires.standing.fronts.corners.within)
 
-remove-within-requires : tie.Need-remove-within-requires
+remove-within-requires : tie.Need-remove_within-left-requires
 remove-within-requires c κs =
-    let start = c.before.before.before.before.before.before.before.before.before.before.before.before.before.before in
+    let start = c in
     faces_stand start.requires
 
-mul-k : tie.Need-overflow-mul-k
+mul-k : tie.Need-overflow_mul-k
 mul-k c =
-    let left = c.before.before.before.before.before.before.before.before.before.before.before in
-    let start = left.before.before.before.before.before.before.before.before.before.before.before.before.before.before.before in
-    omega (arith, (unfolded_corners start.requires left.remove-within.ensures).within)
+    let left = c in
+    let start = c in
+    omega (arith, (unfolded_corners start.requires left.remove_within-left.ensures).within)
 
-slice-reshare-prefix-compact : tie.Need-slice-reshare-prefix-compact
+slice-reshare-prefix-compact : tie.Need-slice_bounds-compact-end
 slice-reshare-prefix-compact c =
-    let left = c.before.before.before.before.before.before.before.before.before.before.before in
-    let start = left.before.before.before.before.before.before.before.before.before.before.before.before.before.before.before in
-    (unfolded_sizes start.requires left.remove-within.ensures).within
+    let left = c in
+    let start = c in
+    (unfolded_sizes start.requires left.remove_within-left.ensures).within
 
-slice-aggregate-compact : tie.Need-slice-aggregate-compact
+slice-aggregate-compact : tie.Need-slice_bounds-compact-end-2
 slice-aggregate-compact c =
-    let left = c.before.before.before.before.before.before.before.before.before.before.before.before in
-    let start = left.before.before.before.before.before.before.before.before.before.before.before.before.before.before.before in
-    (unfolded_sizes start.requires left.remove-within.ensures).long
+    let left = c in
+    let start = c in
+    (unfolded_sizes start.requires left.remove_within-left.ensures).long
 
-slice-relend-prefix-compact : tie.Need-slice-relend-prefix-compact
+slice-relend-prefix-compact : tie.Need-slice_bounds-compact-end-3
 slice-relend-prefix-compact c =
-    let left = c.before.before.before.before.before.before.before.before.before.before.before.before.before.before.before.before in
-    let start = left.before.before.before.before.before.before.before.before.before.before.before.before.before.before.before in
-    (unfolded_corners start.requires left.remove-within.ensures).within
+    let left = c in
+    let start = c in
+    (unfolded_corners start.requires left.remove_within-left.ensures).within
 
-slice-aggregate-compact-2 : tie.Need-slice-aggregate-compact-2
+slice-aggregate-compact-2 : tie.Need-slice_bounds-compact-end-4
 slice-aggregate-compact-2 c =
-    let left = c.before.before.before.before.before.before.before.before.before.before.before.before.before.before.before.before.before in
-    let start = left.before.before.before.before.before.before.before.before.before.before.before.before.before.before.before in
-    (unfolded_corners start.requires left.remove-within.ensures).long
+    let left = c in
+    let start = c in
+    (unfolded_corners start.requires left.remove_within-left.ensures).long
 
 compact-requires : tie.Need-compact-requires
 compact-requires c κs =
-    let at-unfolded = c.before.before.before.before.before.before.before.before.before.before.before.before in
-    let left = at-unfolded.before.before.before.before.before in
-    let start = left.before.before.before.before.before.before.before.before.before.before.before.before.before.before.before in
-    unfolded_ready start.requires left.remove-within.ensures _ at-unfolded.unfolded.given
+    let at-unfolded = c in
+    let left = c in
+    let start = c in
+    unfolded_ready start.requires left.remove_within-left.ensures _ at-unfolded.unfolded-1.given
 
-same_length : tie.Need-same-length
+same_length : tie.Need-shape_of-unfolded
 same_length c =
-    let at-unfolded2 = c.before.before.before.before.before.before.before.before.before in
-    let at-unfolded = at-unfolded2.before.before.before.before.before.before.before.before.before.before.before.before.before.before in
-    at-unfolded2.unfolded2.given ∙ at-unfolded.unfolded.given
+    let at-unfolded2 = c in
+    let at-unfolded = c in
+    at-unfolded2.unfolded-2-1.given ∙ at-unfolded.unfolded-1.given
 
-same-length-2 : tie.Need-same-length-2
+same-length-2 : tie.Need-shape_of-newsizes
 same-length-2 c =
-    let called = c.before.before.before.before.before.before.before.before.before.before in
-    let at-newsizes = called.before.before.before.before.before.before.before.before.before.before.before in
-    at-newsizes.newsizes.given
+    let called = c in
+    let at-newsizes = c in
+    at-newsizes.newsizes-1.given
 
-same-length-3 : tie.Need-same-length-3
+same-length-3 : tie.Need-shape_of-origins
 same-length-3 c =
-    let called = c.before.before.before.before.before.before.before.before.before.before in
-    let at-origins = called.before.before.before.before.before.before.before.before.before in
-    at-origins.origins.given
+    let called = c in
+    let at-origins = c in
+    at-origins.origins-1.given
 
-same-length-4 : tie.Need-same-length-4
+same-length-4 : tie.Need-shape_of-positions
 same-length-4 c =
-    let at-positions = c.before.before.before.before.before.before.before in
-    at-positions.positions.given
+    let at-positions = c in
+    at-positions.positions-1.given
 
-same-length-5 : tie.Need-same-length-5
+same-length-5 : tie.Need-shape_of-textures
 same-length-5 c =
-    let at-textures = c.before.before.before.before.before in
-    at-textures.textures.given
+    let at-textures = c in
+    at-textures.textures-1.given
 
-same-length-6 : tie.Need-same-length-6
+same-length-6 : tie.Need-shape_of-normals
 same-length-6 c =
-    let at-normals = c.before.before.before in
-    at-normals.normals.given
+    let at-normals = c in
+    at-normals.normals-1.given
 
-same-length-7 : tie.Need-same-length-7
+same-length-7 : tie.Need-shape_of-corners
 same-length-7 c =
-    let called = c.before.before.before.before.before.before.before.before.before.before in
-    let at-corners = called.before.before.before.before.before.before.before.before.before.before.before.before.before.before.before.before.before in
-    c.before.corners2.given.1 ∙ at-corners.corners.given
+    let called = c in
+    let at-corners = c in
+    c.corners-2-1.given.1 ∙ at-corners.corners-1.given
 
-same-length-8 : tie.Need-same-length-8
+same-length-8 : tie.Need-shape_of-sizes
 same-length-8 c =
-    let called = c.before.before.before.before.before.before.before.before.before.before in
-    let at-sizes = called.before.before.before.before.before.before.before.before.before.before.before.before.before.before.before in
-    at-sizes.sizes.given
+    let called = c in
+    let at-sizes = c in
+    at-sizes.sizes-1.given
 
 returns : tie.Need-returns
 returns c =
-    let called = c.before.before.before.before.before.before.before.before.before.before in
-    let left = called.before.before.before.before.before.before.before.before.before.before.before.before.before.before.before.before.before.before in
-    let start = left.before.before.before.before.before.before.before.before.before.before.before.before.before.before.before in
-    cleaned_kept start.requires left.remove-within.ensures called.compact.ensures
+    let called = c in
+    let left = c in
+    let start = c in
+    cleaned_kept start.requires left.remove_within-left.ensures called.compact.ensures
 
-pub remove-in-spec : {M : Type 1} → statement M
-remove-in-spec =
+pub remove_in_spec : {M : Type 1} → statement M
+remove_in_spec =
     tie.close
     (tie.spec
     mul-c
