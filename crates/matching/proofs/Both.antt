@@ -1,7 +1,7 @@
 -- Marks by the lower and by the upper half make marks by the point. Assumes nothing.
-use mathlib.Core.Path.{◌≡◌, refl, sym, ap, ◌∙◌, subst}
+use mathlib.Core.Path.{◌≡◌, refl, sym, ap, ◌∙◌}
 use mathlib.Core.Logic.{⊎_elim}
-use mathlib.Core.Bool.{Bool, true, false, ◌&&◌}
+use mathlib.Core.Bool.{true, false, ◌&&◌}
 use mathlib.Core.List.{List}
 use Prim.Native.Nat.{ℕ, ◌/◌, ◌%◌, ◌≤◌, ◌<◌}
 use native.Mathlib.Omega.{arith}
@@ -14,8 +14,8 @@ use Rattle.lists.proofs.Counting.{clash}
 use Rattle.columns.specs.Columns.{normal_digit}
 use Rattle.sorting.specs.Sorting.{key_limit}
 use Rattle.keys.specs.Firsts as keys
-use Rattle.widening.specs.Halves.{half_points, half_of}
-use Rattle.matching.specs.Marks.{FirstBy, MarkedBy, FirstPair, FirstPairs}
+use Rattle.widening.specs.Halves.{half_of}
+use Rattle.matching.specs.Marks.{MarkedBy, FirstPairs}
 use Rattle.matching.specs.Steps.{AlikeRoom}
 
 -- ---- marks tell keys

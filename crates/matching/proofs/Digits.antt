@@ -1,8 +1,8 @@
 -- A half is told by its four digits, and so the marks of a sort by them are marks by half. Assumes nothing.
 use mathlib.Core.Path.{◌≡◌, refl, sym, ap, ◌∙◌}
-use mathlib.Core.Bool.{Bool, true, false, ◌&&◌}
+use mathlib.Core.Bool.{true, ◌&&◌}
 use mathlib.Core.List.{List}
-use Prim.Native.Nat.{ℕ, ◌/◌, ◌%◌, ◌≤◌, ◌<◌}
+use Prim.Native.Nat.{ℕ, ◌≤◌, ◌<◌}
 use native.Mathlib.Omega.{arith}
 use lib.Dec.{eqb}
 use lib.ListN.{length, get_or}
@@ -10,11 +10,10 @@ use borrow.Author.Tests.{eqb-true, eq-eqb}
 use Rattle.lists.proofs.Bools.{and_left, and_right, and_both}
 use Rattle.lists.proofs.Counting.{clash}
 use Rattle.mesh.specs.Limits.{corner_limit}
-use Rattle.sorting.specs.Sorting.{key_limit}
 use Rattle.keys.specs.Firsts as keys
 use Rattle.widening.specs.Halves.{half_points}
-use Rattle.matching.specs.Marks.{FirstBy, MarkedBy}
-use Rattle.matching.specs.Steps.{lowest, above, DigitsAt, HalfColumns}
+use Rattle.matching.specs.Marks.{MarkedBy}
+use Rattle.matching.specs.Steps.{lowest, above, HalfColumns}
 
 -- a number is told by its lowest digit and what is above it
 told : (x y : ℕ) → lowest x ≡ lowest y → above x ≡ above y → x ≡ y

@@ -1,14 +1,13 @@
 -- The rooms that the functions lend one another. Assumes nothing.
-use mathlib.Core.Path.{◌≡◌, refl, sym, ap, ◌∙◌, subst}
-use mathlib.Core.Bool.{Bool, true, false}
+use mathlib.Core.Path.{◌≡◌, refl, sym, ◌∙◌, subst}
+use mathlib.Core.Bool.{true, false}
 use mathlib.Core.List.{List}
-use Prim.Native.Nat.{ℕ, ◌+◌, ◌≤◌, ◌<◌}
+use Prim.Native.Nat.{ℕ, ◌≤◌, ◌<◌}
 use native.Mathlib.Omega.{arith}
 use lib.ListN.{length, get_or, take, replicate, get_or-replicate}
 use lib.Seq.{get_or-take}
 use Rattle.lists.proofs.Buckets.{length_front}
 use Rattle.mesh.specs.Limits.{corner_limit}
-use Rattle.sorting.specs.Sorting.{key_limit}
 use Rattle.columns.specs.Columns.{normal_digit}
 use Rattle.keys.specs.Firsts as keys
 use Rattle.scanned.specs.Scan.{point_at}

@@ -5,29 +5,29 @@ use borrow.Author.Rules.{rules}
 use Rattle.matching.proofs.mark_both.Statement.{statement}
 use Rattle.matching.proofs.mark_both.Tie as tie
 
-array-share-prefix-alike : tie.Need-array-share-prefix-alike
+array-share-prefix-alike : tie.Need-slice_bounds-alike-end
 array-share-prefix-alike c = search rules
 
-slice-aggregate-mark-both-in : tie.Need-slice-aggregate-mark-both-in
-slice-aggregate-mark-both-in c = sym (row_long 1 _ c.before.before.before.before.requires.few)
+slice-aggregate-mark-both-in : tie.Need-slice_bounds-mark_both_in-end
+slice-aggregate-mark-both-in c = sym (row_long 1 _ c.requires.few)
 
-array-borrow-prefix-order : tie.Need-array-borrow-prefix-order
+array-borrow-prefix-order : tie.Need-slice_bounds-order-end
 array-borrow-prefix-order c = search rules
 
-slice-aggregate-mark-both-in-2 : tie.Need-slice-aggregate-mark-both-in-2
-slice-aggregate-mark-both-in-2 c = sym (row_long 0 _ c.before.before.before.before.before.requires.few)
+slice-aggregate-mark-both-in-2 : tie.Need-slice_bounds-mark_both_in-end-2
+slice-aggregate-mark-both-in-2 c = sym (row_long 0 _ c.requires.few)
 
-mark-both-in-requires : tie.Need-mark-both-in-requires
-mark-both-in-requires c κs = alike_room _ _ _ c.before.before.before.before.before.before.requires
+mark-both-in-requires : tie.Need-mark_both_in-requires
+mark-both-in-requires c κs = alike_room _ _ _ c.requires
 
-same_length : tie.Need-same-length
+same_length : tie.Need-shape_of-firsts
 same_length c = search rules
 
 returns : tie.Need-returns
-returns c = c.before.before.before.mark-both-in.ensures
+returns c = c.mark_both_in.ensures
 
-pub mark-both-spec : {M : Type 1} → statement M
-mark-both-spec =
+pub mark_both_spec : {M : Type 1} → statement M
+mark_both_spec =
     tie.close
     (tie.spec
     array-share-prefix-alike

@@ -7,59 +7,59 @@ use Rattle.matching.proofs.put_digits.Tie as tie
 digit-requires : tie.Need-digit-requires
 digit-requires c κs = search rules
 
-mul-a : tie.Need-overflow-mul-a
+mul-a : tie.Need-offset_bounds-a-k
 mul-a c = search rules
 
-slice-write-a : tie.Need-slice-write-a
+slice-write-a : tie.Need-bounds-a-k
 slice-write-a c = search rules
 
 digit-requires-2 : tie.Need-digit-requires-2
 digit-requires-2 c κs = search rules
 
-mul-b : tie.Need-overflow-mul-b
+mul-b : tie.Need-offset_bounds-b-k
 mul-b c = search rules
 
-slice-write-b : tie.Need-slice-write-b
+slice-write-b : tie.Need-bounds-b-k
 slice-write-b c = search rules
 
 digit-requires-3 : tie.Need-digit-requires-3
 digit-requires-3 c κs = search rules
 
-mul-c : tie.Need-overflow-mul-c
+mul-c : tie.Need-offset_bounds-c-k
 mul-c c = search rules
 
-slice-write-c : tie.Need-slice-write-c
+slice-write-c : tie.Need-bounds-c-k
 slice-write-c c = search rules
 
 digit-requires-4 : tie.Need-digit-requires-4
 digit-requires-4 c κs = search rules
 
-mul-d : tie.Need-overflow-mul-d
+mul-d : tie.Need-offset_bounds-d-k
 mul-d c = search rules
 
-slice-write-d : tie.Need-slice-write-d
+slice-write-d : tie.Need-bounds-d-k
 slice-write-d c = search rules
 
-same_length : tie.Need-same-length
+same_length : tie.Need-shape_of-a
 same_length c = search rules
 
-same-length-2 : tie.Need-same-length-2
+same-length-2 : tie.Need-shape_of-b
 same-length-2 c = search rules
 
-same-length-3 : tie.Need-same-length-3
+same-length-3 : tie.Need-shape_of-c
 same-length-3 c = search rules
 
-same-length-4 : tie.Need-same-length-4
+same-length-4 : tie.Need-shape_of-d
 same-length-4 c = search rules
 
 returns : tie.Need-returns
 returns c =
-    let at-digit2 = c.before.before in
-    let at-digit = at-digit2.before in
-    digits_put _ _ _ _ _ _ _ _ _ _ at-digit.digit.ensures at-digit2.digit2.ensures c.before.digit3.ensures c.digit4.ensures
+    let at-digit2 = c in
+    let at-digit = c in
+    digits_put _ _ _ _ _ _ _ _ _ _ at-digit.digit.ensures at-digit2.digit-2.ensures c.digit-3.ensures c.digit-4.ensures
 
-pub put-digits-spec : {M : Type 1} → statement M
-put-digits-spec =
+pub put_digits_spec : {M : Type 1} → statement M
+put_digits_spec =
     tie.close
     (tie.spec
     digit-requires
