@@ -7,40 +7,40 @@ use native.Mathlib.Omega.{arith}
 use Rattle.appearing.proofs.number_marks.Statement.{statement}
 use Rattle.appearing.proofs.number_marks.Tie as tie
 
-abbrev invariant-loop : tie.invariant-loop
+abbrev invariant-loop : tie.invariant-loop-x
 invariant-loop numbers₀ found₀ x₀ numbers found x = Passing numbers₀ numbers x found
 
-abbrev decreases-loop : tie.decreases-loop
+abbrev decreases-loop : tie.decreases-loop-x
 decreases-loop numbers₀ found₀ x₀ numbers found x = length numbers₀ - x
 
-loop-holds : tie.Need-loop-init invariant-loop decreases-loop
+loop-holds : tie.Need-loop-x-init invariant-loop decreases-loop
 loop-holds c = pass_begins _
 
-take-point-requires : tie.Need-take-point-requires invariant-loop decreases-loop
-take-point-requires c κs = pass_room _ c.before.before.before.before.requires _ _ _ c.before.before.loop.invariant c.before.loop-test.true
+take-point-requires : tie.Need-take_point-found-requires invariant-loop decreases-loop
+take-point-requires c κs = pass_room _ c.requires _ _ _ c.loop-x.invariant c.loop-x-test.true
 
-add-x : tie.Need-overflow-add-x invariant-loop decreases-loop
+add-x : tie.Need-overflow_add-x invariant-loop decreases-loop
 add-x c = search rules
 
-loop-less : tie.Need-loop-smaller invariant-loop decreases-loop
-loop-less c = omega (arith, c.before.before.before.before.loop-test.true, c.before.before.before.before.before.loop.invariant.long)
+loop-less : tie.Need-loop-x-smaller invariant-loop decreases-loop
+loop-less c = omega (arith, c.loop-x-test.true, c.loop-x.invariant.long)
 
-loop-again : tie.Need-loop-preserved invariant-loop decreases-loop
+loop-again : tie.Need-loop-x-preserved invariant-loop decreases-loop
 loop-again c =
-    let at-take-point = c.before.before in
-    let at-loop-test = at-take-point.before.before in
-    let at-loop = at-loop-test.before in
-    let start = at-loop.before.before in
-    pass_turns _ start.requires _ _ _ at-loop.loop.invariant at-loop-test.loop-test.true _ _ at-take-point.take-point.ensures
+    let at-take-point = c in
+    let at-loop-test = c in
+    let at-loop = c in
+    let start = c in
+    pass_turns _ start.requires _ _ _ at-loop.loop-x.invariant at-loop-test.loop-x-test.true _ _ at-take-point.take_point-found.ensures
 
-same_length : tie.Need-same-length invariant-loop decreases-loop
+same_length : tie.Need-shape_of-numbers invariant-loop decreases-loop
 same_length c = search rules
 
 returns : tie.Need-returns invariant-loop decreases-loop
-returns c = pass_ends _ c.before.before.before.requires _ _ _ c.before.loop.invariant (omega (arith, c.loop-test.false))
+returns c = pass_ends _ c.requires _ _ _ c.loop-x.invariant (omega (arith, c.loop-x-test.false))
 
-pub number-marks-spec : {M : Type 1} → statement M
-number-marks-spec =
+pub number_marks_spec : {M : Type 1} → statement M
+number_marks_spec =
     tie.close
     (tie.spec
     invariant-loop

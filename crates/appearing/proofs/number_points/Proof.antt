@@ -4,21 +4,21 @@ use borrow.Author.Rules.{rules}
 use Rattle.appearing.proofs.number_points.Statement.{statement}
 use Rattle.appearing.proofs.number_points.Tie as tie
 
-mark-points-requires : tie.Need-mark-points-requires
+mark-points-requires : tie.Need-mark_points-requires
 mark-points-requires c κs = search rules
 
-number-marks-requires : tie.Need-number-marks-requires
+number-marks-requires : tie.Need-number_marks-requires
 number-marks-requires c κs =
-    let at-mark-points = c.before.before.before in
-    let start = at-mark-points.before.before.before.before in
-    marks_of _ _ _ at-mark-points.mark-points.ensures start.requires.few
+    let at-mark-points = c in
+    let start = c in
+    marks_of _ _ _ at-mark-points.mark_points.ensures start.requires.few
 
-same_length : tie.Need-same-length
+same_length : tie.Need-shape_of-numbers
 same_length c = search rules
 
 returns : tie.Need-returns
-returns c = numbered_of _ _ _ c.before.before.before.before.before.before.mark-points.ensures _ _ c.before.before.number-marks.ensures
+returns c = numbered_of _ _ _ c.mark_points.ensures _ _ c.number_marks.ensures
 
-pub number-points-spec : {M : Type 1} → statement M
-number-points-spec =
+pub number_points_spec : {M : Type 1} → statement M
+number_points_spec =
     tie.close (tie.spec mark-points-requires number-marks-requires same_length returns)

@@ -4,53 +4,53 @@ use borrow.Author.Rules.{rules}
 use Rattle.appearing.proofs.take_point.Statement.{statement}
 use Rattle.appearing.proofs.take_point.Tie as tie
 
-mul_wide : tie.Need-overflow-mul-wide
+mul_wide : tie.Need-offset_bounds-numbers-x
 mul_wide c = search rules
 
-slice-read-wide : tie.Need-slice-read-wide
+slice-read-wide : tie.Need-bounds-numbers-x
 slice-read-wide c = search rules
 
-wide-requires : tie.Need-wide-requires
+wide-requires : tie.Need-wide-first-requires
 wide-requires c κs = search rules
 
-cast-numbers : tie.Need-overflow-cast-numbers
+cast-numbers : tie.Need-overflow_cast-numbers
 cast-numbers c = search rules
 
-mul-numbers : tie.Need-overflow-mul-numbers
+mul-numbers : tie.Need-offset_bounds-numbers-x-then-first-x
 mul-numbers c = search rules
 
-slice-write-numbers : tie.Need-slice-write-numbers
+slice-write-numbers : tie.Need-bounds-numbers-x-then-first-x
 slice-write-numbers c = search rules
 
-add-result : tie.Need-overflow-add-result
+add-result : tie.Need-overflow_add-result
 add-result c = search rules
 
-same_length : tie.Need-same-length
+same_length : tie.Need-shape_of-numbers-then-first-x
 same_length c = search rules
 
-returns : tie.Need-returns
-returns c = taken_new _ _ _ _ c.before.wide.ensures c.if1.true
+returns : tie.Need-returns-then-first-x
+returns c = taken_new _ _ _ _ c.wide-first.ensures c.if-first-x.true
 
-mul-numbers-2 : tie.Need-overflow-mul-numbers-2
+mul-numbers-2 : tie.Need-offset_bounds-numbers-first
 mul-numbers-2 c = search rules
 
-slice-read-numbers : tie.Need-slice-read-numbers
+slice-read-numbers : tie.Need-bounds-numbers-first
 slice-read-numbers c = search rules
 
-mul-numbers-3 : tie.Need-overflow-mul-numbers-3
+mul-numbers-3 : tie.Need-offset_bounds-numbers-x-2
 mul-numbers-3 c = search rules
 
-slice-write-numbers-2 : tie.Need-slice-write-numbers-2
+slice-write-numbers-2 : tie.Need-bounds-numbers-x-2
 slice-write-numbers-2 c = search rules
 
-same-length-2 : tie.Need-same-length-2
+same-length-2 : tie.Need-shape_of-numbers
 same-length-2 c = search rules
 
-returns-2 : tie.Need-returns-2
-returns-2 c = taken_old _ _ _ _ c.before.before.wide.ensures c.before.if1.false
+returns-2 : tie.Need-returns
+returns-2 c = taken_old _ _ _ _ c.wide-first.ensures c.if-first-x.false
 
-pub take-point-spec : {M : Type 1} → statement M
-take-point-spec =
+pub take_point_spec : {M : Type 1} → statement M
+take_point_spec =
     tie.close
     (tie.spec
     mul_wide
