@@ -1,5 +1,5 @@
 -- Positions get a mark, corner by corner; and where each has one, each is in some face. Assumes nothing.
-use mathlib.Core.Path.{◌≡◌, refl, sym, ap, ap₂, ◌∙◌}
+use mathlib.Core.Path.{◌≡◌, refl, sym, ap, ◌∙◌}
 use mathlib.Core.Bool.{Bool, true, false, not, ◌&&◌, ◌||◌, or-false}
 use mathlib.Core.List.{List, [], ◌∷◌, ◌++◌, map, map-append}
 use Prim.Native.Nat.{ℕ, ◌+◌, ◌*◌, ◌/◌, ◌%◌, ◌≤◌, ◌<◌}
@@ -9,7 +9,7 @@ use lib.ListN.{length, get_or, take, set, replicate, length-set, length-map, len
 use lib.Seq.{take-suc, take_all, get_or-set_same, get_or-set_other, get_or-take}
 use lib.Dec.{ltb, eqb}
 use borrow.Author.Tests.{eqb-true, eqb-false, ltb-true, ltb-false}
-use Rattle.lists.specs.Lists.{some, every, joined, each, has, span}
+use Rattle.lists.specs.Lists.{some, every, joined, has, span}
 use Rattle.lists.proofs.Bools.{by_cases, or_right}
 use Rattle.lists.proofs.Buckets.{length_front}
 use Rattle.lists.proofs.Changing.{map_at}

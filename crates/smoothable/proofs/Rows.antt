@@ -1,21 +1,18 @@
 -- The rows, one by one, and what they leave known of a mesh: that its faces are the triangles of its corners. Assumes nothing.
-use mathlib.Core.Path.{◌≡◌, refl, sym, ap, ◌∙◌}
-use mathlib.Core.Bool.{Bool, true, false, not, ◌||◌}
+use mathlib.Core.Path.{◌≡◌, sym, ap, ◌∙◌}
+use mathlib.Core.Bool.{true, false, not, ◌||◌}
 use mathlib.Core.List.{List, [], ◌∷◌}
 use Prim.Native.Nat.{ℕ}
-use native.Mathlib.Omega.{arith}
-use lib.ListN.{length}
 use lib.Dec.{eqb}
 use lib.Ieee.{Float}
 use borrow.Author.Tests.{not-false}
 use Rattle.lists.specs.Lists.{some, every}
-use Rattle.lists.proofs.Bools.{or_left, or_right, or_neither}
+use Rattle.lists.proofs.Bools.{or_neither}
 use Rattle.mesh.specs.Limits.{least_ring}
 use Rattle.mesh.specs.Mesh.{Mesh, Ring, faces, rings, position_count}
-use Rattle.mesh.specs.Table.{when, first_of, mesh_number}
-use Rattle.mesh.specs.Edges.{edges_of, Edged}
-use Rattle.mesh.proofs.Accepted.{Accepted, accepted}
-use Rattle.mesh.proofs.Edges.{edged}
+use Rattle.mesh.specs.Table.{when, mesh_number}
+use Rattle.mesh.specs.Edges.{edges_of}
+use Rattle.mesh.proofs.Accepted.{accepted}
 use Rattle.mesh.proofs.Numbers.{first_is}
 use Rattle.verdicts.specs.Edges.{verdict}
 use Rattle.folding.specs.Folding.{folded}

@@ -1,15 +1,13 @@
 -- One test each: a triangle that is folded, a value within -1 to 1. Assumes nothing.
 use mathlib.Core.Path.{◌≡◌, refl, sym, ap, ◌∙◌}
-use mathlib.Core.Bool.{Bool, true, false, not, ◌&&◌, ◌||◌}
+use mathlib.Core.Bool.{Bool, true, ◌&&◌}
 use mathlib.Core.List.{List, []}
 use Prim.Native.Nat.{ℕ, ◌<◌}
-use lib.ListN.{length, get_or}
+use lib.ListN.{get_or}
 use lib.IntN.{pos}
 use lib.Ieee.{Float, fin, binary64, of_bits, neg, le}
-use Rattle.lists.specs.Lists.{some}
 use Rattle.mesh.specs.Mesh.{Ring}
 use Rattle.folding.specs.Folding.{folded}
-use Rattle.floating.specs.Limits.{power}
 use Rattle.floating.proofs.Literals.{one_is}
 use Rattle.smoothed.specs.Columns.{triangles}
 use Rattle.smoothed.specs.Refusals.{within_one}

@@ -7,7 +7,6 @@ use Rattle.mesh.specs.Limits.{entry_limit}
 use Rattle.smoothed.specs.Smoothed.{all_used}
 use Rattle.smoothed.specs.Columns.{triangles}
 use Rattle.smoothable.proofs.Marking.{fresh_row}
-use native.Mathlib.Omega.{arith}
 use borrow.Author.Rules.{rules}
 use Rattle.smoothable.proofs.any_idle.Statement.{statement}
 use Rattle.smoothable.proofs.any_idle.Tie as tie

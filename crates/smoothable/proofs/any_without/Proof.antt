@@ -7,7 +7,6 @@ use lib.Ieee.{nan}
 use Rattle.lists.proofs.Parts.{Searching, search_begins, search_turns, search_finds, search_ends}
 use Rattle.smoothed.specs.Refusals.{within_one}
 use borrow.Author.Rules.{rules}
-use native.Mathlib.Omega.{arith}
 use Rattle.smoothable.proofs.any_without.Statement.{statement}
 use Rattle.smoothable.proofs.any_without.Tie as tie
 

@@ -6,7 +6,6 @@ use lib.Ieee.{nan}
 use Rattle.lists.proofs.Parts.{Searching, search_begins, search_turns, search_finds, search_ends}
 use Rattle.floating.specs.Limits.{boundless}
 use borrow.Author.Rules.{rules}
-use native.Mathlib.Omega.{arith}
 use Rattle.smoothable.proofs.boundless_position.Statement.{statement}
 use Rattle.smoothable.proofs.boundless_position.Tie as tie
 

@@ -1,6 +1,5 @@
 -- `smoothable::folded_or_idle` meets its contract: one, else the other. Assumes nothing.
 use mathlib.Core.Path.{sym, ◌∙◌}
-use native.Mathlib.Omega.{arith}
 use borrow.Author.Rules.{rules}
 use Rattle.smoothable.proofs.folded_or_idle.Statement.{statement}
 use Rattle.smoothable.proofs.folded_or_idle.Tie as tie

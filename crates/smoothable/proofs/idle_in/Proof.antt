@@ -1,7 +1,6 @@
 -- `smoothable::idle_in` meets its contract: a position with no mark is in no face. Assumes nothing.
 use mathlib.Core.Path.{◌∙◌}
 use Rattle.smoothable.proofs.Marking.{idle_found}
-use native.Mathlib.Omega.{arith}
 use borrow.Author.Rules.{rules}
 use Rattle.smoothable.proofs.idle_in.Statement.{statement}
 use Rattle.smoothable.proofs.idle_in.Tie as tie

@@ -1,6 +1,5 @@
 -- `smoothable::is_oriented` meets its contract, verdict by verdict. Assumes nothing.
 use Rattle.edges.specs.Answers.{verdict_of}
-use native.Mathlib.Omega.{arith}
 use borrow.Author.Rules.{rules}
 use Rattle.smoothable.proofs.is_oriented.Statement.{statement}
 use Rattle.smoothable.proofs.is_oriented.Tie as tie

@@ -1,5 +1,5 @@
 -- `smoothable::mark_used` meets its contract: corner by corner. Assumes nothing.
-use Prim.Native.Nat.{◌*◌, ◌/◌, ◌-◌}
+use Prim.Native.Nat.{◌/◌, ◌-◌}
 use lib.ListN.{length}
 use Rattle.mesh.specs.Limits.{width}
 use Rattle.smoothable.proofs.Marking.{Marking, marking_begins, marking_turns, marking_ends}

@@ -6,7 +6,6 @@ use mathlib.Core.Path.{sym, ◌∙◌}
 use Rattle.lists.proofs.Bools.{or_left, or_right}
 use Rattle.mesh.proofs.Edges.{edged}
 use Rattle.smoothable.proofs.Rows.{early_mesh, early_7, early_15, early_16, early_10, early_17, early_0, triangular}
-use native.Mathlib.Omega.{arith}
 use borrow.Author.Rules.{rules}
 use Rattle.smoothable.proofs.number.Statement.{statement}
 use Rattle.smoothable.proofs.number.Tie as tie

@@ -1,13 +1,12 @@
 -- `smoothable::some_other` meets its contract: a search through the list. Assumes nothing.
 use mathlib.Core.Path.{ap}
-use mathlib.Core.Bool.{Bool, not}
-use Prim.Native.Nat.{ℕ, ◌-◌}
+use mathlib.Core.Bool.{not}
+use Prim.Native.Nat.{◌-◌}
 use lib.ListN.{length}
 use lib.Dec.{eqb}
 use borrow.Author.Tests.{eq-eqb, ne_eqb}
 use Rattle.lists.proofs.Parts.{Searching, search_begins, search_turns, search_finds, search_ends}
 use borrow.Author.Rules.{rules}
-use native.Mathlib.Omega.{arith}
 use Rattle.smoothable.proofs.some_other.Statement.{statement}
 use Rattle.smoothable.proofs.some_other.Tie as tie
 

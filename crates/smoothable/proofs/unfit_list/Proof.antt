@@ -2,7 +2,6 @@
 use lib.ListN.{length}
 use borrow.Author.Tests.{eq-eqb, ne_eqb}
 use Rattle.smoothed.specs.Refusals.{cosine_count}
-use native.Mathlib.Omega.{arith}
 use borrow.Author.Rules.{rules}
 use Rattle.smoothable.proofs.unfit_list.Statement.{statement}
 use Rattle.smoothable.proofs.unfit_list.Tie as tie

@@ -2,7 +2,6 @@
 use mathlib.Core.Path.{ap, ◌∙◌}
 use mathlib.Core.Bool.{not}
 use Rattle.smoothed.specs.Refusals.{oriented}
-use native.Mathlib.Omega.{arith}
 use borrow.Author.Rules.{rules}
 use Rattle.smoothable.proofs.unoriented.Statement.{statement}
 use Rattle.smoothable.proofs.unoriented.Tie as tie
