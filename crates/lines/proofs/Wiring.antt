@@ -1,12 +1,11 @@
 -- The wires of a flat list, and their lines one behind the other. Assumes nothing.
 use mathlib.Core.Path.{◌≡◌, refl, sym, ap, ◌∙◌}
 use mathlib.Core.Option.{none, some}
-use mathlib.Core.List.{List, [], ◌∷◌, map}
+use mathlib.Core.List.{List, []}
 use Prim.Native.Nat.{ℕ, zero, suc, ◌+◌, ◌-◌, ◌≤◌, ◌<◌}
-use native.Mathlib.Nat.{le_of_suc-le-suc}
 use native.Mathlib.Omega.{arith}
 use lib.ListN.{length, get_or, take, drop}
-use Rattle.lists.specs.Lists.{sum, joined, each}
+use Rattle.lists.specs.Lists.{sum}
 use Rattle.lists.specs.Cutting.{parts}
 use Rattle.lists.proofs.Cutting.{length_parts, parts_at}
 use Rattle.lists.proofs.Parts.{sum_step, sum_at}

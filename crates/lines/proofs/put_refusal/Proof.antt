@@ -7,29 +7,25 @@ use native.Mathlib.Omega.{arith}
 use Rattle.lines.proofs.put_refusal.Statement.{statement}
 use Rattle.lines.proofs.put_refusal.Tie as tie
 
-slice-aggregate-put-line : tie.Need-slice-aggregate-put-line
+slice-aggregate-put-line : tie.Need-slice_bounds-put_line-end-2
 slice-aggregate-put-line c = search rules
 
-slice-aggregate-put-line-2 : tie.Need-slice-aggregate-put-line-2
-slice-aggregate-put-line-2 c = search rules
-
-put-line-requires : tie.Need-put-line-requires
+put-line-requires : tie.Need-put_line-requires
 unfolding refusal line
-put-line-requires c κs = refusal_room _ _ (omega arith) c.before.before.before.before.requires
+put-line-requires c κs = refusal_room _ _ (omega arith) c.requires
 
-same_length : tie.Need-same-length
+same_length : tie.Need-shape_of-out
 same_length c = search rules
 
 returns : tie.Need-returns
 unfolding refusal line
-returns c = sheeted (refusal_room _ _ (omega arith) c.before.before.before.before.before.before.before.requires) c.before.before.put-line.ensures
+returns c = sheeted (refusal_room _ _ (omega arith) c.requires) c.put_line.ensures
 
-pub put-refusal-spec : {M : Type 1} → statement M
-put-refusal-spec =
+pub put_refusal_spec : {M : Type 1} → statement M
+put_refusal_spec =
     tie.close
     (tie.spec
     slice-aggregate-put-line
-    slice-aggregate-put-line-2
     put-line-requires
     same_length
     returns)

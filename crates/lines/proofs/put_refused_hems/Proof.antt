@@ -5,20 +5,20 @@ use borrow.Author.Rules.{rules}
 use Rattle.lines.proofs.put_refused_hems.Statement.{statement}
 use Rattle.lines.proofs.put_refused_hems.Tie as tie
 
-slice-aggregate-put-bytes : tie.Need-slice-aggregate-put-bytes
-slice-aggregate-put-bytes c = search rules
-
-put-bytes-requires : tie.Need-put-bytes-requires
+put-bytes-requires : tie.Need-put_bytes-requires
 unfolding hem_lines line decimal decimal_in
-put-bytes-requires c κs = c.before.before.before.requires
+put-bytes-requires c κs = c.requires
 
-same_length : tie.Need-same-length
+same_length : tie.Need-shape_of-out
 same_length c = search rules
 
 returns : tie.Need-returns
 unfolding hem_lines line decimal decimal_in
-returns c = c.before.before.put-bytes.ensures
+returns c = c.put_bytes.ensures
 
-pub put-refused-hems-spec : {M : Type 1} → statement M
-put-refused-hems-spec =
-    tie.close (tie.spec slice-aggregate-put-bytes put-bytes-requires same_length returns)
+pub put_refused_hems_spec : {M : Type 1} → statement M
+put_refused_hems_spec =
+    tie.close (tie.spec
+    put-bytes-requires
+    same_length
+    returns)

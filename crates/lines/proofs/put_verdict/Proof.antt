@@ -14,89 +14,73 @@ use Rattle.lines.proofs.put_verdict.Tie as tie
 abbrev told : ShellCondition → List ℕ
 told v = verdict_line (verdict_of v)
 
-enum_told : tie.Need-enum-told
+enum_told : tie.Need-enum_told-1
 enum_told c = search rules
 
-slice-aggregate-put-bytes : tie.Need-slice-aggregate-put-bytes
-slice-aggregate-put-bytes c = search rules
-
-put-bytes-requires : tie.Need-put-bytes-requires
+put-bytes-requires : tie.Need-put_bytes-requires
 unfolding verdict_line verdict_of line
-put-bytes-requires c κs = room_as (ap told c.before.before.enum_told.given.1) c.before.before.before.before.before.requires
+put-bytes-requires c κs = room_as (ap told c.in-Irregular.is) c.requires
 
-enum-told-2 : tie.Need-enum-told-2
+enum-told-2 : tie.Need-enum_told-in-Regular
 enum-told-2 c = search rules
 
-slice-aggregate-put-bytes-2 : tie.Need-slice-aggregate-put-bytes-2
-slice-aggregate-put-bytes-2 c = search rules
-
-put-bytes-requires-2 : tie.Need-put-bytes-requires-2
+put-bytes-requires-2 : tie.Need-put_bytes-requires-in-Regular
 unfolding verdict_line verdict_of line
-put-bytes-requires-2 c κs = room_as (ap told c.before.before.enum-told2.given.1) c.before.before.before.before.before.requires
+put-bytes-requires-2 c κs = room_as (ap told c.in-Regular.is) c.requires
 
-enum-told-3 : tie.Need-enum-told-3
+enum-told-3 : tie.Need-enum_told-in-Oriented
 enum-told-3 c = search rules
 
-slice-aggregate-put-bytes-3 : tie.Need-slice-aggregate-put-bytes-3
-slice-aggregate-put-bytes-3 c = search rules
-
-put-bytes-requires-3 : tie.Need-put-bytes-requires-3
+put-bytes-requires-3 : tie.Need-put_bytes-requires-in-Oriented
 unfolding verdict_line verdict_of line
-put-bytes-requires-3 c κs = room_as (ap told c.before.before.enum-told3.given.1) c.before.before.before.before.before.requires
+put-bytes-requires-3 c κs = room_as (ap told c.in-Oriented.is) c.requires
 
-enum-told-4 : tie.Need-enum-told-4
+enum-told-4 : tie.Need-enum_told-in-Closed
 enum-told-4 c = search rules
 
-slice-aggregate-put-bytes-4 : tie.Need-slice-aggregate-put-bytes-4
-slice-aggregate-put-bytes-4 c = search rules
-
-put-bytes-requires-4 : tie.Need-put-bytes-requires-4
+put-bytes-requires-4 : tie.Need-put_bytes-requires-in-Closed
 unfolding verdict_line verdict_of line
-put-bytes-requires-4 c κs = room_as (ap told c.before.before.enum-told4.given.1) c.before.before.before.before.before.requires
+put-bytes-requires-4 c κs = room_as (ap told c.in-Closed.is) c.requires
 
-same_length : tie.Need-same-length
+same_length : tie.Need-shape_of-out-in-Irregular
 same_length c = search rules
 
-returns : tie.Need-returns
+returns : tie.Need-returns-in-Irregular
 unfolding verdict_line verdict_of line
-returns c = written_as (ap told c.before.before.before.before.before.enum_told.given.1) c.before.before.put-bytes.ensures
+returns c = written_as (ap told c.in-Irregular.is) c.put_bytes.ensures
 
-same-length-2 : tie.Need-same-length-2
+same-length-2 : tie.Need-shape_of-out-in-Regular
 same-length-2 c = search rules
 
-returns-2 : tie.Need-returns-2
+returns-2 : tie.Need-returns-in-Regular
 unfolding verdict_line verdict_of line
-returns-2 c = written_as (ap told c.before.before.before.before.before.enum-told2.given.1) c.before.before.put-bytes2.ensures
+returns-2 c = written_as (ap told c.in-Regular.is) c.put_bytes-in-Regular.ensures
 
-same-length-3 : tie.Need-same-length-3
+same-length-3 : tie.Need-shape_of-out-in-Oriented
 same-length-3 c = search rules
 
-returns-3 : tie.Need-returns-3
+returns-3 : tie.Need-returns-in-Oriented
 unfolding verdict_line verdict_of line
-returns-3 c = written_as (ap told c.before.before.before.before.before.enum-told3.given.1) c.before.before.put-bytes3.ensures
+returns-3 c = written_as (ap told c.in-Oriented.is) c.put_bytes-in-Oriented.ensures
 
-same-length-4 : tie.Need-same-length-4
+same-length-4 : tie.Need-shape_of-out-in-Closed
 same-length-4 c = search rules
 
-returns-4 : tie.Need-returns-4
+returns-4 : tie.Need-returns-in-Closed
 unfolding verdict_line verdict_of line
-returns-4 c = written_as (ap told c.before.before.before.before.before.enum-told4.given.1) c.before.before.put-bytes4.ensures
+returns-4 c = written_as (ap told c.in-Closed.is) c.put_bytes-in-Closed.ensures
 
-pub put-verdict-spec : {M : Type 1} → statement M
-put-verdict-spec =
+pub put_verdict_spec : {M : Type 1} → statement M
+put_verdict_spec =
     tie.close
     (tie.spec
     enum_told
-    slice-aggregate-put-bytes
     put-bytes-requires
     enum-told-2
-    slice-aggregate-put-bytes-2
     put-bytes-requires-2
     enum-told-3
-    slice-aggregate-put-bytes-3
     put-bytes-requires-3
     enum-told-4
-    slice-aggregate-put-bytes-4
     put-bytes-requires-4
     same_length
     returns
