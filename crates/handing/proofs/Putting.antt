@@ -8,16 +8,15 @@ use lib.Dec.{eqb}
 use lib.ListN.{length, get_or, length-append}
 use lib.Seq.{sets, length-sets}
 use lib.Ieee.{Float}
-use borrow.Author.Tests.{eqb-true, eqb-false, eq-eqb, ne_eqb}
+use borrow.Author.Tests.{eq-eqb, ne_eqb}
 use Rattle.lists.specs.Lists.{has, each}
 use Rattle.lists.specs.FirstUses.{first_uses, place}
 use Rattle.lists.proofs.Bools.{by_cases}
 use Rattle.lists.proofs.Parts.{each_append}
 use Rattle.lists.proofs.Places.{place_below}
-use Rattle.mesh.specs.Limits.{corner_limit}
 use Rattle.scanned.specs.Scan.{point_place, point_from, point_at, coordinates_of}
 use Rattle.scanned.specs.Seen.{upto, seen}
-use Rattle.scanned.proofs.Prefixes.{upto_long, has_seen, seen_old, seen_new, number_old, number_new}
+use Rattle.scanned.proofs.Prefixes.{has_seen, seen_old, seen_new, number_old, number_new}
 use Rattle.handing.specs.Handing.{PositionRoom}
 use Rattle.handing.specs.Steps.{NewRoom, NewPut}
 use Rattle.scanned.proofs.Pieces.{length_positions}

@@ -4,35 +4,35 @@ use borrow.Author.Rules.{rules}
 use Rattle.handing.proofs.put_new.Statement.{statement}
 use Rattle.handing.proofs.put_new.Tie as tie
 
-returns : tie.Need-returns
-returns c = new_passed _ _ _ _ _ c.if1.true
+returns : tie.Need-returns-then-number-found
+returns c = new_passed _ _ _ _ _ c.if-number-found.true
 
-place-of-requires : tie.Need-place-of-requires
+place-of-requires : tie.Need-place_of-requires
 place-of-requires c κs = search rules
 
-point-from-requires : tie.Need-point-from-requires
+point-from-requires : tie.Need-point_from-point-requires
 point-from-requires c κs = search rules
 
-put-point-requires : tie.Need-put-point-requires
-put-point-requires c κs = c.before.before.before.before.before.before.requires.room c.before.before.before.if1.false
+put-point-requires : tie.Need-put_point-requires
+put-point-requires c κs = c.requires.room c.if-number-found.false
 
-add-result : tie.Need-overflow-add-result
+add-result : tie.Need-overflow_add-result
 add-result c = search rules
 
-same_length : tie.Need-same-length
+same_length : tie.Need-shape_of-positions
 same_length c = search rules
 
-returns-2 : tie.Need-returns-2
+returns-2 : tie.Need-returns
 returns-2 c =
-    let at-put-point = c.before.before in
-    let at-point-from = at-put-point.before.before in
-    let at-place-of = at-point-from.before in
-    let at-if1 = at-place-of.before in
-    new_put _ _ _ _ _ at-if1.if1.false _ _ _ at-place-of.place_of.ensures at-point-from.point-from.ensures
-    at-put-point.put-point.ensures
+    let at-put-point = c in
+    let at-point-from = c in
+    let at-place-of = c in
+    let at-if1 = c in
+    new_put _ _ _ _ _ at-if1.if-number-found.false _ _ _ at-place-of.place_of.ensures at-point-from.point_from-point.ensures
+    at-put-point.put_point.ensures
 
-pub put-new-spec : {M : Type 1} → statement M
-put-new-spec =
+pub put_new_spec : {M : Type 1} → statement M
+put_new_spec =
     tie.close
     (tie.spec
     returns
