@@ -1,21 +1,19 @@
 -- The whole call: a refusal, and a file that is read. Assumes nothing.
-use mathlib.Core.Path.{◌≡◌, refl, sym, ap, ap₂, ◌∙◌, subst}
-use mathlib.Core.Bool.{Bool, true, false}
+use mathlib.Core.Path.{◌≡◌, refl, sym, ap, ◌∙◌}
+use mathlib.Core.Bool.{true, false}
 use mathlib.Core.List.{List, [], ◌∷◌, map, map-map}
-use Prim.Native.Nat.{ℕ, zero, suc, ◌*◌, ◌/◌, ◌≤◌, ◌<◌}
+use Prim.Native.Nat.{ℕ, zero, suc, ◌*◌, ◌/◌, ◌≤◌}
 use native.Mathlib.Omega.{arith}
-use lib.Dec.{ltb}
 use lib.ListN.{length, replicate, length-replicate}
 use lib.Seq.{sets}
 use lib.Ieee.{Float}
-use borrow.Author.Tests.{lt-ltb, le-ltb}
 use Rattle.lists.specs.Lists.{some, each, span}
-use Rattle.lists.specs.FirstUses.{first_uses, place}
+use Rattle.lists.specs.FirstUses.{place}
 use Rattle.lists.proofs.Buckets.{length_table, table_ext}
 use Rattle.lists.proofs.Mapping.{each_map}
-use Rattle.mesh.specs.Limits.{width, point_width, least_ring, entry_limit, face_limit}
-use Rattle.mesh.specs.Mesh.{Mesh, mesh_of, position_count}
-use Rattle.mesh.specs.Table.{first_of, after, short}
+use Rattle.mesh.specs.Limits.{width, least_ring, entry_limit}
+use Rattle.mesh.specs.Mesh.{Mesh, mesh_of}
+use Rattle.mesh.specs.Table.{first_of, short}
 use Rattle.mesh.proofs.Numbers.{first_is}
 use Rattle.reading.specs.declared.MeshRead.{MeshRead}
 use Rattle.reading.specs.Reading.{room_of}

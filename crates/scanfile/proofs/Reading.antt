@@ -1,6 +1,6 @@
 -- Points that are finite, once they are numbered: too many of them, or their mesh. Assumes nothing.
-use mathlib.Core.Path.{◌≡◌, refl, sym, ap, ◌∙◌, subst}
-use mathlib.Core.Bool.{Bool, true, false}
+use mathlib.Core.Path.{◌≡◌, sym, ap, ◌∙◌, subst}
+use mathlib.Core.Bool.{true, false}
 use mathlib.Core.List.{List}
 use Prim.Native.Nat.{ℕ, ◌*◌, ◌-◌, ◌/◌, ◌≤◌, ◌<◌}
 use native.Mathlib.Nat.{sub-zero}
@@ -10,7 +10,7 @@ use lib.Seq.{sets}
 use lib.Ieee.{Float}
 use Rattle.lists.specs.Lists.{some, each}
 use Rattle.lists.proofs.Buckets.{length_front}
-use Rattle.mesh.specs.Limits.{least_ring, entry_limit, face_limit, corner_limit}
+use Rattle.mesh.specs.Limits.{least_ring, entry_limit, corner_limit}
 use Rattle.mesh.specs.Table.{short}
 use Rattle.reading.specs.declared.MeshRead.{MeshRead}
 use Rattle.reading.specs.Reading.{full_room}
@@ -24,7 +24,7 @@ use Rattle.scanned.proofs.Lengths.{count_is, right}
 use Rattle.scanned.proofs.Numbers.{number_14, number_1}
 use Rattle.appearing.specs.Appearing.{Numbered}
 use Rattle.handing.specs.Handing.{PositionRoom}
-use Rattle.scanfile.specs.Steps.{Roomy, PointsRoom, NumbersRoom, PointsRead}
+use Rattle.scanfile.specs.Steps.{PointsRoom, NumbersRoom, PointsRead}
 use Rattle.scanfile.proofs.Lengths.{points_inside}
 use Rattle.scanfile.proofs.Answers.{points_refused, points_read, points_in_lem}
 

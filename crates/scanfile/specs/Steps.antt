@@ -2,7 +2,7 @@
 use Rattle.std.specs.Prelude.{◌≡◌, false, List, ℕ, ◌*◌, ◌/◌, ◌≤◌, length, Float}
 use Rattle.std.proofs.lemmas.List.Edits.{sets}
 use Rattle.lists.specs.Lists.{some}
-use Rattle.mesh.specs.Limits.{width, least_ring, entry_limit, face_limit, point_numbers, corner_numbers}
+use Rattle.mesh.specs.Limits.{width, least_ring, face_limit, point_numbers, corner_numbers}
 use Rattle.mesh.specs.Mesh.{position_count}
 use Rattle.mesh.specs.Table.{after}
 use Rattle.reading.specs.declared.MeshRead.{MeshRead}

@@ -4,54 +4,54 @@ use borrow.Author.Rules.{rules}
 use Rattle.scanfile.proofs.length_number.Statement.{statement}
 use Rattle.scanfile.proofs.length_number.Tie as tie
 
-returns : tie.Need-returns
-returns c = length_few _ c.if1.true
+returns : tie.Need-returns-then-file-lt-FRONT_BYTES
+returns c = length_few _ c.if-file-lt-FRONT_BYTES.true
 
 word-requires : tie.Need-word-requires
 word-requires c κs = search rules
 
-wide-requires : tie.Need-wide-requires
+wide-requires : tie.Need-wide-count-requires
 wide-requires c κs = search rules
 
-returns-2 : tie.Need-returns-2
+returns-2 : tie.Need-returns-then-count-gt-FACES
 returns-2 c =
-    let at-word = c.before.before in
-    let at-if1 = at-word.before in
-    count_many _ at-if1.if1.false _ (count_is _ _ _ c.before.wide.ensures at-word.word.ensures) c.if2.true
+    let at-word = c in
+    let at-if1 = c in
+    count_many _ at-if1.if-file-lt-FRONT_BYTES.false _ (count_is _ _ _ c.wide-count.ensures at-word.word.ensures) c.if-count-gt-FACES.true
 
-mul-asked : tie.Need-overflow-mul-asked
+mul-asked : tie.Need-overflow_mul-asked
 mul-asked c = search rules
 
-add-asked : tie.Need-overflow-add-asked
+add-asked : tie.Need-overflow_add-asked
 add-asked c = search rules
 
-returns-3 : tie.Need-returns-3
+returns-3 : tie.Need-returns-then-file-asked
 returns-3 c =
-    let at_wide = c.before.before in
-    let at-word = at_wide.before in
-    let at-if1 = at-word.before in
-    length_below _ at-if1.if1.false _ (count_is _ _ _ at_wide.wide.ensures at-word.word.ensures) c.before.if2.false c.if3.true
+    let at_wide = c in
+    let at-word = c in
+    let at-if1 = c in
+    length_below _ at-if1.if-file-lt-FRONT_BYTES.false _ (count_is _ _ _ at_wide.wide-count.ensures at-word.word.ensures) c.if-count-gt-FACES.false c.if-file-asked.true
 
-returns-4 : tie.Need-returns-4
+returns-4 : tie.Need-returns-then-file-asked-2
 returns-4 c =
-    let at-if2 = c.before.before in
-    let at_wide = at-if2.before in
-    let at-word = at_wide.before in
-    let at-if1 = at-word.before in
-    length_above _ at-if1.if1.false _ (count_is _ _ _ at_wide.wide.ensures at-word.word.ensures) at-if2.if2.false c.before.if3.false
-    c.if4.true
+    let at-if2 = c in
+    let at_wide = c in
+    let at-word = c in
+    let at-if1 = c in
+    length_above _ at-if1.if-file-lt-FRONT_BYTES.false _ (count_is _ _ _ at_wide.wide-count.ensures at-word.word.ensures) at-if2.if-count-gt-FACES.false c.if-file-asked.false
+    c.if-file-asked-2.true
 
-returns-5 : tie.Need-returns-5
+returns-5 : tie.Need-returns
 returns-5 c =
-    let at-if2 = c.before.before in
-    let at_wide = at-if2.before in
-    let at-word = at_wide.before in
-    let at-if1 = at-word.before in
-    length_right _ at-if1.if1.false _ (count_is _ _ _ at_wide.wide.ensures at-word.word.ensures) at-if2.if2.false c.before.if3.false
-    c.if4.false
+    let at-if2 = c in
+    let at_wide = c in
+    let at-word = c in
+    let at-if1 = c in
+    length_right _ at-if1.if-file-lt-FRONT_BYTES.false _ (count_is _ _ _ at_wide.wide-count.ensures at-word.word.ensures) at-if2.if-count-gt-FACES.false c.if-file-asked.false
+    c.if-file-asked-2.false
 
-pub length-number-spec : {M : Type 1} → statement M
-length-number-spec =
+pub length_number_spec : {M : Type 1} → statement M
+length_number_spec =
     tie.close
     (tie.spec
     returns
