@@ -3,7 +3,7 @@ use mathlib.Core.Path.{◌≡◌, ap, ◌∙◌}
 use mathlib.Core.List.{[], ◌∷◌, map}
 use Prim.Native.Nat.{ℕ}
 use Rattle.mesh.specs.Limits.{point_width, texel_width}
-use Rattle.mesh.specs.Mesh.{Mesh, mesh_of, Corner, position, texture, normal, mark, corners_in}
+use Rattle.mesh.specs.Mesh.{Mesh, mesh_of, Corner, position, texture, normal, corners_in}
 use Rattle.unused.specs.Compaction.{uses_of, renumber, entries, used_positions, used_textures, used_normals, renumbered, compacted}
 use Rattle.unused.proofs.Columns.{new_corners}
 use Rattle.marks.specs.Marks.{remarked, remarked_mesh, Moved}

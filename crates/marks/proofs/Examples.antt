@@ -17,7 +17,7 @@ use Rattle.order.specs.Same.{Same, none, face, swap, then}
 use Rattle.order.specs.Pairs.{recut}
 use Rattle.order.proofs.Counted.{same_count}
 use Rattle.marks.specs.Marks.{remarked_mesh, unmarked}
-use Rattle.marks.specs.Examples.{quadrangle, ring, MarksAfterCleaning, darted, DartDoesNotMatter}
+use Rattle.marks.specs.Examples.{MarksAfterCleaning, darted, DartDoesNotMatter}
 use Rattle.marks.proofs.Order.{order_is_free_but_for_marks}
 
 pub marks_after_cleaning : MarksAfterCleaning

@@ -1,6 +1,6 @@
 -- Examples 5 and 8 of document 01 with marks, after cleaning; and two meshes that differ in marks alone. By positions and marks: texture points
 -- and normals are missing. Proved in proofs/, by computation. Assumes nothing.
-use Rattle.std.specs.Prelude.{◌≡◌, List, [], ◌∷◌, map, ℕ, length}
+use Rattle.std.specs.Prelude.{◌≡◌, [], ◌∷◌, map, ℕ, length}
 use Rattle.lists.specs.Lists.{joined}
 use Rattle.mesh.specs.Mesh.{Mesh, mesh_of, Corner, Ring, missing, mark, faces}
 use Rattle.mesh.specs.Table.{mesh_number}
