@@ -6,9 +6,8 @@ use native.Mathlib.Omega.{arith}
 use lib.ListN.{length}
 use lib.Seq.{sets}
 use lib.Ieee.{Float}
-use Rattle.lists.specs.Lists.{every, joined, each}
-use Rattle.lists.proofs.Mapping.{every_map}
-use Rattle.mesh.specs.Limits.{point_width, width, least_ring}
+use Rattle.lists.specs.Lists.{joined, each}
+use Rattle.mesh.specs.Limits.{width, least_ring}
 use Rattle.mesh.specs.Mesh.{Mesh, Ring, faces, position_count}
 use Rattle.mesh.specs.Table.{after}
 use Rattle.mesh.proofs.After.{after_refused}
@@ -16,12 +15,12 @@ use Rattle.smoothed.specs.Smoothed.{fold, smoothed_faces, smoothed_count}
 use Rattle.smoothed.specs.Positions.{smoothed_positions}
 use Rattle.smoothed.specs.Promise.{smoothed_mesh, Given, Promised}
 use Rattle.smoothed.specs.Columns.{triangles, degrees}
-use Rattle.smoothed.specs.Refusals.{Result, lists, result_of, positions_of, smoothing_number}
+use Rattle.smoothed.specs.Refusals.{Result, result_of, positions_of, smoothing_number}
 use Rattle.smoothed.proofs.Refusals.{zero_given, zero_promised}
 use Rattle.smoothable.specs.Early.{early_number}
 use Rattle.smoothing.specs.declared.Smoothed.{Smoothed}
 use Rattle.smoothing.specs.Smoothing.{Smoothing}
-use Rattle.smoothing.specs.Working.{count, refused_by, late_number, Checked, Done}
+use Rattle.smoothing.specs.Working.{refused_by, late_number, Checked, Done}
 use Rattle.smoothing.proofs.Rooms.{positions_long, sizes_long, corners_long, corners_fits}
 use Rattle.smoothing.proofs.Rounded.{round_triangles}
 use Rattle.smoothing.proofs.Rows.{EarlyPassed, early_first, early_passed, then_late}

@@ -6,11 +6,9 @@ use native.Mathlib.Omega.{arith}
 use lib.ListN.{length, take, replicate}
 use lib.Seq.{sets}
 use lib.Ieee.{Float}
-use Rattle.lists.specs.Lists.{joined, each}
-use Rattle.mesh.specs.Limits.{point_width, width, least_ring}
-use Rattle.mesh.specs.Mesh.{Ring}
+use Rattle.mesh.specs.Limits.{width, least_ring}
 use Rattle.mesh.proofs.After.{after_refused}
-use Rattle.smoothed.specs.Smoothed.{fold, edges_by_use, smoothed_faces, smoothed_count}
+use Rattle.smoothed.specs.Smoothed.{fold, edges_by_use, smoothed_faces}
 use Rattle.smoothed.specs.Columns.{triangles, degrees}
 use Rattle.smoothed.specs.Refusals.{Result, lists}
 use Rattle.smoothed.proofs.Triangles.{length_triangles}

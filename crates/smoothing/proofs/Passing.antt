@@ -1,23 +1,20 @@
 -- A mesh that no row refused before the neighbours were counted is one that the code can work on. Assumes nothing.
-use mathlib.Core.Path.{◌≡◌, refl, sym, ap, ◌∙◌}
+use mathlib.Core.Path.{◌≡◌, sym, ap, ◌∙◌}
 use mathlib.Core.Bool.{true, false, not}
 use mathlib.Core.List.{List}
-use Prim.Native.Nat.{ℕ, ◌*◌, ◌/◌, ◌≤◌}
 use native.Mathlib.Omega.{arith}
 use lib.ListN.{length}
 use lib.Dec.{eqb}
 use lib.Ieee.{Float}
 use borrow.Author.Tests.{eqb-true, not-false}
-use Rattle.lists.specs.Lists.{some, every}
+use Rattle.lists.specs.Lists.{some}
 use Rattle.lists.proofs.Bools.{or_false_left, or_false_right}
-use Rattle.mesh.specs.Limits.{width, least_ring}
-use Rattle.mesh.specs.Mesh.{Mesh, Ring, faces, position_count}
-use Rattle.mesh.specs.Table.{mesh_number}
+use Rattle.mesh.specs.Mesh.{Mesh, faces, position_count}
 use Rattle.mesh.proofs.Accepted.{Accepted, accepted}
 use Rattle.folding.specs.Folding.{folded}
-use Rattle.smoothed.specs.Smoothed.{Smoothable, all_used}
+use Rattle.smoothed.specs.Smoothed.{all_used}
 use Rattle.smoothed.specs.Columns.{triangles, Triangular}
-use Rattle.smoothed.specs.Refusals.{other_face, folded_or_idle, cosine_count, within_one, unfit_list}
+use Rattle.smoothed.specs.Refusals.{folded_or_idle, cosine_count, within_one, unfit_list}
 use Rattle.smoothed.proofs.Triangles.{faces_triangles, triangular_mesh, triangular_smoothable}
 use Rattle.smoothable.proofs.Rows.{all_three}
 use Rattle.smoothing.specs.Working.{Checked}

@@ -1,23 +1,23 @@
 -- How long the lists of a smoothed mesh are, and that they fit into the stated room. Assumes nothing.
-use mathlib.Core.Path.{◌≡◌, refl, sym, ap, ◌∙◌}
-use mathlib.Core.Bool.{Bool, true, false, ◌||◌}
-use mathlib.Core.List.{List, [], ◌∷◌, map}
+use mathlib.Core.Path.{◌≡◌, refl}
+use mathlib.Core.Bool.{true, false, ◌||◌}
+use mathlib.Core.List.{List, [], ◌∷◌}
 use Prim.Native.Nat.{ℕ, ◌+◌, ◌*◌, ◌/◌, ◌≤◌}
 use native.Mathlib.Omega.{arith}
 use lib.ListN.{length, length-map}
 use lib.Dec.{ltb, eqb}
 use lib.Ieee.{Float}
 use borrow.Author.Tests.{ltb-false, eqb-true}
-use Rattle.lists.specs.Lists.{every, some, sum}
+use Rattle.lists.specs.Lists.{every, sum}
 use Rattle.lists.proofs.Bools.{and_left, and_right, or_false_left, or_false_right}
 use Rattle.mesh.specs.Limits.{point_width, width, least_ring}
 use Rattle.mesh.specs.Mesh.{Mesh, faces, position_count}
 use Rattle.mesh.specs.Table.{mesh_number, short}
-use Rattle.mesh.proofs.Accepted.{Accepted, accepted}
+use Rattle.mesh.proofs.Accepted.{accepted}
 use Rattle.mesh.proofs.Faces.{length_rings}
-use Rattle.smoothed.specs.Smoothed.{fold, edges_by_use, smoothed_faces, smoothed_count}
+use Rattle.smoothed.specs.Smoothed.{fold, smoothed_faces, smoothed_count}
 use Rattle.smoothed.specs.Promise.{smoothed_mesh, Given}
-use Rattle.smoothed.specs.Refusals.{Result, too_short, positions_of, result_of}
+use Rattle.smoothed.specs.Refusals.{Result, too_short, result_of}
 use Rattle.smoothed.proofs.Limits.{edges_few, faces_four}
 use Rattle.smoothed.proofs.Positions.{positions_fit}
 

@@ -1,10 +1,10 @@
 -- Where the call answers 0, the mesh that it hands over is the smoothed mesh, and so all that is promised of that holds of it. Assumes nothing.
-use mathlib.Core.Path.{◌≡◌, refl, sym, ap, ◌∙◌}
-use mathlib.Core.Bool.{Bool, true, false}
-use mathlib.Core.List.{List, [], ◌∷◌, map}
-use Prim.Native.Nat.{ℕ, ◌*◌, ◌/◌, ◌%◌, ◌≤◌}
+use mathlib.Core.Path.{◌≡◌, sym, ◌∙◌}
+use mathlib.Core.Bool.{true}
+use mathlib.Core.List.{List}
+use Prim.Native.Nat.{◌*◌, ◌/◌}
 use native.Mathlib.Omega.{arith}
-use lib.ListN.{length, take}
+use lib.ListN.{length}
 use lib.Dec.{eqb}
 use lib.Ieee.{Float}
 use Rattle.lists.specs.Lists.{every}
@@ -13,15 +13,14 @@ use Rattle.lists.proofs.Mapping.{every_map}
 use Rattle.lists.specs.Putting.{Front}
 use Rattle.mesh.specs.Limits.{point_width, width, least_ring}
 use Rattle.mesh.specs.Mesh.{Mesh, faces, position_count}
-use Rattle.mesh.specs.Table.{mesh_number}
 use Rattle.mesh.proofs.Accepted.{Accepted, accepted}
 use Rattle.mesh.proofs.After.{after_done}
-use Rattle.smoothed.specs.Smoothed.{fold, smoothed_faces, smoothed_count}
+use Rattle.smoothed.specs.Smoothed.{smoothed_faces}
 use Rattle.smoothed.specs.Promise.{smoothed_mesh, Given, Promised}
 use Rattle.smoothed.specs.Refusals.{Result, smoothing_number, positions_of, result_of}
 use Rattle.smoothed.proofs.Again.{smoothed_again}
 use Rattle.smoothed.proofs.Meshwise.{mesh_smoothable}
-use Rattle.smoothed.proofs.Refusals.{Passed, passed, zero_given, zero_promised}
+use Rattle.smoothed.proofs.Refusals.{passed, zero_given, zero_promised}
 use Rattle.smoothing.specs.declared.Smoothed.{Smoothed}
 use Rattle.smoothing.specs.Smoothing.{Smoothing}
 use Rattle.smoothing.specs.Promises.{handed_over, Rounded, SmoothedIsRounded}

@@ -2,7 +2,7 @@
 use mathlib.Core.Path.{◌≡◌, sym, ap, ◌∙◌}
 use mathlib.Core.Bool.{false}
 use mathlib.Core.List.{List}
-use Prim.Native.Nat.{ℕ, ◌+◌, ◌*◌, ◌/◌, ◌≤◌, ◌<◌}
+use Prim.Native.Nat.{ℕ, ◌*◌, ◌/◌, ◌≤◌, ◌<◌}
 use native.Mathlib.Omega.{arith}
 use lib.ListN.{length, get_or, length-map}
 use lib.Seq.{sets, length-sets}
@@ -11,7 +11,7 @@ use lib.Ieee.{Float}
 use borrow.Author.Tests.{ltb-false}
 use Rattle.lists.specs.Lists.{some, joined, each}
 use Rattle.lists.proofs.Parts.{some_false_at}
-use Rattle.mesh.specs.Limits.{point_width, width, corner_limit}
+use Rattle.mesh.specs.Limits.{point_width, corner_limit}
 use Rattle.mesh.specs.Mesh.{Ring}
 use Rattle.verdicts.specs.Edges.{Edge}
 use Rattle.smoothed.specs.Smoothed.{edges_by_use, smoothed_faces, used_in, all_used}

@@ -1,5 +1,5 @@
 -- What a caller may count on where the call answers 0, of any lists that the contract lets it leave. Proved in proofs/. Assumes nothing.
-use Rattle.std.specs.Prelude.{◌≡◌, false, true, List, map, ℕ, ◌*◌, length, take, Float}
+use Rattle.std.specs.Prelude.{◌≡◌, false, true, List, map, ◌*◌, length, take, Float}
 use Rattle.lists.specs.Lists.{some, each}
 use Rattle.mesh.specs.Limits.{point_width, width}
 use Rattle.mesh.specs.Mesh.{Mesh, mesh_of, mark, faces, position_count}
