@@ -1,6 +1,6 @@
 -- The list of hems (added), as document 02, CR 13, has it: for each hem of CR 5, which is a house wire, its panel, its number of edges and
 -- its length; and the numbers by which it is refused. Assumes nothing.
-use Rattle.std.specs.Prelude.{Bool, false, cond, not, List, [], ◌∷◌, map, ℕ, suc, ◌+◌, ◌*◌, ◌<◌, ltb, eqb, length, get_or, ℤ, pos, nat_abs}
+use Rattle.std.specs.Prelude.{Bool, false, cond, not, List, [], ◌∷◌, map, ℕ, suc, ◌+◌, ◌*◌, ltb, eqb, length, get_or, ℤ, pos, nat_abs}
 use Rattle.lists.specs.Lists.{some, has, sum}
 use Rattle.mesh.specs.Limits.{point_width}
 use Rattle.mesh.specs.Mesh.{Mesh, Ring, position, position_count}
@@ -11,7 +11,7 @@ use Rattle.turning.specs.Turning.{house_wires_of}
 use Rattle.house.specs.Answers.{unwired}
 use Rattle.panels.specs.Panels.{panels}
 use Rattle.roots.specs.Roots.{root_of}
-use Rattle.roots.specs.Distances.{Point, coordinate_limit, squared_distance, Reached}
+use Rattle.roots.specs.Distances.{Point, coordinate_limit, squared_distance}
 
 -- ---- lengths
 

@@ -10,7 +10,7 @@ use native.Mathlib.Omega.{arith}
 use lib.Dec.{eqb}
 use lib.ListN.{length, get_or, take, drop, set, replicate, length-set, length-map, drop_of_length-le}
 use Rattle.lists.proofs.Buckets.{length_front}
-use lib.Seq.{sets, length-sets, length-take-le, drop-cons, get_or-set_same, get_or-set_other}
+use lib.Seq.{length-sets, length-take-le, drop-cons, get_or-set_same, get_or-set_other}
 use borrow.Author.Tests.{eqb-true, eqb-false}
 use Rattle.lists.specs.Lists.{has, count, sum, joined}
 use Rattle.lists.specs.Cutting.{parts}

@@ -7,94 +7,94 @@ use Rattle.measured.proofs.Reading.{point_read_lem, reached_read, edge_read}
 use Rattle.measured.proofs.edge_length.Statement.{statement}
 use Rattle.measured.proofs.edge_length.Tie as tie
 
-mul-ax : tie.Need-overflow-mul-ax
+mul-ax : tie.Need-overflow_mul-ax
 mul-ax c = search rules
 
-mul-ax-2 : tie.Need-overflow-mul-ax-2
+mul-ax-2 : tie.Need-offset_bounds-triples-p
 mul-ax-2 c = search rules
 
-shared-slice-copy-out-ax : tie.Need-shared-slice-copy-out-ax
+shared-slice-copy-out-ax : tie.Need-bounds-triples-p
 shared-slice-copy-out-ax c = search rules
 
-mul-ay : tie.Need-overflow-mul-ay
+mul-ay : tie.Need-overflow_mul-ay
 mul-ay c = search rules
 
-add-ay : tie.Need-overflow-add-ay
+add-ay : tie.Need-overflow_add-ay
 add-ay c = search rules
 
-mul-ay-2 : tie.Need-overflow-mul-ay-2
+mul-ay-2 : tie.Need-offset_bounds-triples-p-2
 mul-ay-2 c = search rules
 
-shared-slice-copy-out-ay : tie.Need-shared-slice-copy-out-ay
+shared-slice-copy-out-ay : tie.Need-bounds-triples-p-2
 shared-slice-copy-out-ay c = search rules
 
-mul-az : tie.Need-overflow-mul-az
+mul-az : tie.Need-overflow_mul-az
 mul-az c = search rules
 
-add-az : tie.Need-overflow-add-az
+add-az : tie.Need-overflow_add-az
 add-az c = search rules
 
-mul-az-2 : tie.Need-overflow-mul-az-2
+mul-az-2 : tie.Need-offset_bounds-triples-p-3
 mul-az-2 c = search rules
 
-shared-slice-copy-out-az : tie.Need-shared-slice-copy-out-az
+shared-slice-copy-out-az : tie.Need-bounds-triples-p-3
 shared-slice-copy-out-az c = search rules
 
-mul-bx : tie.Need-overflow-mul-bx
+mul-bx : tie.Need-overflow_mul-bx
 mul-bx c = search rules
 
-mul-bx-2 : tie.Need-overflow-mul-bx-2
+mul-bx-2 : tie.Need-offset_bounds-triples-q
 mul-bx-2 c = search rules
 
-shared-slice-copy-out-bx : tie.Need-shared-slice-copy-out-bx
+shared-slice-copy-out-bx : tie.Need-bounds-triples-q
 shared-slice-copy-out-bx c = search rules
 
-mul-by : tie.Need-overflow-mul-by
+mul-by : tie.Need-overflow_mul-by
 mul-by c = search rules
 
-add-by : tie.Need-overflow-add-by
+add-by : tie.Need-overflow_add-by
 add-by c = search rules
 
-mul-by-2 : tie.Need-overflow-mul-by-2
+mul-by-2 : tie.Need-offset_bounds-triples-q-2
 mul-by-2 c = search rules
 
-shared-slice-copy-out-by : tie.Need-shared-slice-copy-out-by
+shared-slice-copy-out-by : tie.Need-bounds-triples-q-2
 shared-slice-copy-out-by c = search rules
 
-mul-bz : tie.Need-overflow-mul-bz
+mul-bz : tie.Need-overflow_mul-bz
 mul-bz c = search rules
 
-add-bz : tie.Need-overflow-add-bz
+add-bz : tie.Need-overflow_add-bz
 add-bz c = search rules
 
-mul-bz-2 : tie.Need-overflow-mul-bz-2
+mul-bz-2 : tie.Need-offset_bounds-triples-q-3
 mul-bz-2 c = search rules
 
-shared-slice-copy-out-bz : tie.Need-shared-slice-copy-out-bz
+shared-slice-copy-out-bz : tie.Need-bounds-triples-q-3
 shared-slice-copy-out-bz c = search rules
 
-length-between-requires : tie.Need-length-between-requires
+length-between-requires : tie.Need-length_between-requires
 length-between-requires c κs =
-    let w = c.before.before.before.before.before.before.requires in
-    let cs : List ℤ = c.before.before.before.before.before.before.args.triples.now in
-    let p = c.before.before.before.before.before.before.args.p in
-    let q = c.before.before.before.before.before.before.args.q in
-    let start = point_read_lem cs p c.before.before.before.before.before.ax.given c.before.before.before.before.ay.given c.before.before.before.az.given in
-    let end = point_read_lem cs q c.before.before.bx.given c.before.by.given c.bz.given in
+    let w = c.requires in
+    let cs : List ℤ = c.args.triples.now in
+    let p = c.args.p in
+    let q = c.args.q in
+    let start = point_read_lem cs p c.ax-1.given c.ay-1.given c.az-1.given in
+    let end = point_read_lem cs q c.bx-1.given c.by-1.given c.bz-1.given in
     (reached_read cs p start w.0, reached_read cs q end w.1)
 
 returns : tie.Need-returns
 returns c =
-    let w = c.before.before.before.before.before.before.before.requires in
-    let cs : List ℤ = c.before.before.before.before.before.before.before.args.triples.now in
-    let p = c.before.before.before.before.before.before.before.args.p in
-    let q = c.before.before.before.before.before.before.before.args.q in
-    let start = point_read_lem cs p c.before.before.before.before.before.before.ax.given c.before.before.before.before.before.ay.given c.before.before.before.before.az.given in
-    let end = point_read_lem cs q c.before.before.before.bx.given c.before.before.by.given c.before.bz.given in
-    edge_read cs p q c.length-between.result start end c.length-between.ensures
+    let w = c.requires in
+    let cs : List ℤ = c.args.triples.now in
+    let p = c.args.p in
+    let q = c.args.q in
+    let start = point_read_lem cs p c.ax-1.given c.ay-1.given c.az-1.given in
+    let end = point_read_lem cs q c.bx-1.given c.by-1.given c.bz-1.given in
+    edge_read cs p q c.length_between.result start end c.length_between.ensures
 
-pub edge-length-spec : {M : Type 1} → statement M
-edge-length-spec =
+pub edge_length_spec : {M : Type 1} → statement M
+edge_length_spec =
     tie.close
     (tie.spec
     mul-ax

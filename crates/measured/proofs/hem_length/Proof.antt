@@ -7,76 +7,76 @@ use Rattle.measured.proofs.Walking.{Walking, walk_begins, ends_placed, walk_fits
 use Rattle.measured.proofs.hem_length.Statement.{statement}
 use Rattle.measured.proofs.hem_length.Tie as tie
 
-abbrev invariant-loop : tie.invariant-loop
+abbrev invariant-loop : tie.invariant-loop-i
 invariant-loop wire triples long₀ i₀ long i = Walking wire triples long i
 
-abbrev decreases-loop : tie.decreases-loop
+abbrev decreases-loop : tie.decreases-loop-i
 decreases-loop wire triples long₀ i₀ long i = length wire - i
 
-loop-holds : tie.Need-loop-init invariant-loop decreases-loop
+loop-holds : tie.Need-loop-i-init invariant-loop decreases-loop
 loop-holds c = walk_begins _ _
 
-next-of-requires : tie.Need-next-of-requires invariant-loop decreases-loop
+next-of-requires : tie.Need-next_of-next-requires invariant-loop decreases-loop
 next-of-requires c κs = search rules
 
-mul_wide : tie.Need-overflow-mul-wide invariant-loop decreases-loop
+mul_wide : tie.Need-offset_bounds-wire-i invariant-loop decreases-loop
 mul_wide c = search rules
 
-shared-slice-read-wide : tie.Need-shared-slice-read-wide invariant-loop decreases-loop
+shared-slice-read-wide : tie.Need-bounds-wire-i invariant-loop decreases-loop
 shared-slice-read-wide c = search rules
 
-wide-requires : tie.Need-wide-requires invariant-loop decreases-loop
+wide-requires : tie.Need-wide-p-requires invariant-loop decreases-loop
 wide-requires c κs = search rules
 
-mul-wide-2 : tie.Need-overflow-mul-wide-2 invariant-loop decreases-loop
+mul-wide-2 : tie.Need-offset_bounds-wire-next invariant-loop decreases-loop
 mul-wide-2 c = search rules
 
-shared-slice-read-wide-2 : tie.Need-shared-slice-read-wide-2 invariant-loop decreases-loop
+shared-slice-read-wide-2 : tie.Need-bounds-wire-next invariant-loop decreases-loop
 shared-slice-read-wide-2 c = search rules
 
-wide-requires-2 : tie.Need-wide-requires-2 invariant-loop decreases-loop
+wide-requires-2 : tie.Need-wide-q-requires invariant-loop decreases-loop
 wide-requires-2 c κs = search rules
 
-edge-length-requires : tie.Need-edge-length-requires invariant-loop decreases-loop
+edge-length-requires : tie.Need-edge_length-long-requires invariant-loop decreases-loop
 edge-length-requires c κs =
-    let wide2 = c.wide2 in
-    let wide = c.before.before.wide in
-    let next = c.before.before.before.before.next_of in
-    let loop-test = c.before.before.before.before.before.loop-test in
-    let pre = c.before.before.before.before.before.before.before.before.requires in
+    let wide2 = c.wide-q in
+    let wide = c.wide-p in
+    let next = c.next_of-next in
+    let loop-test = c.loop-i-test in
+    let pre = c.requires in
     ends_placed _ _ _ _ _ _ (omega (arith, loop-test.true)) next.ensures.1 wide.ensures wide2.ensures pre
 
-add-long : tie.Need-overflow-add-long invariant-loop decreases-loop
+add-long : tie.Need-overflow_add-long invariant-loop decreases-loop
 add-long c =
-    let wide2 = c.before.wide2 in
-    let wide = c.before.before.before.wide in
-    let next = c.before.before.before.before.before.next_of in
-    let loop-test = c.before.before.before.before.before.before.loop-test in
-    let loop = c.before.before.before.before.before.before.before.loop in
-    let pre = c.before.before.before.before.before.before.before.before.before.requires in
-    record { fits = walk_fits _ _ _ _ _ _ _ _ (omega (arith, loop-test.true)) next.ensures.0 next.ensures.1 wide.ensures wide2.ensures pre c.edge-length.ensures loop.invariant }
+    let wide2 = c.wide-q in
+    let wide = c.wide-p in
+    let next = c.next_of-next in
+    let loop-test = c.loop-i-test in
+    let loop = c.loop-i in
+    let pre = c.requires in
+    record { fits = walk_fits _ _ _ _ _ _ _ _ (omega (arith, loop-test.true)) next.ensures.0 next.ensures.1 wide.ensures wide2.ensures pre c.edge_length-long.ensures loop.invariant }
 
-add-i : tie.Need-overflow-add-i invariant-loop decreases-loop
+add-i : tie.Need-overflow_add-i invariant-loop decreases-loop
 add-i c = search rules
 
-loop-less : tie.Need-loop-smaller invariant-loop decreases-loop
+loop-less : tie.Need-loop-i-smaller invariant-loop decreases-loop
 loop-less c = search rules
 
-loop-again : tie.Need-loop-preserved invariant-loop decreases-loop
+loop-again : tie.Need-loop-i-preserved invariant-loop decreases-loop
 loop-again c =
-    let wide2 = c.before.wide2 in
-    let wide = c.before.before.before.wide in
-    let next = c.before.before.before.before.before.next_of in
-    let loop-test = c.before.before.before.before.before.before.loop-test in
-    let loop = c.before.before.before.before.before.before.before.loop in
-    let pre = c.before.before.before.before.before.before.before.before.before.requires in
-    walk_turns _ _ _ _ _ _ _ _ (omega (arith, loop-test.true)) next.ensures.0 next.ensures.1 wide.ensures wide2.ensures pre c.edge-length.ensures loop.invariant
+    let wide2 = c.wide-q in
+    let wide = c.wide-p in
+    let next = c.next_of-next in
+    let loop-test = c.loop-i-test in
+    let loop = c.loop-i in
+    let pre = c.requires in
+    walk_turns _ _ _ _ _ _ _ _ (omega (arith, loop-test.true)) next.ensures.0 next.ensures.1 wide.ensures wide2.ensures pre c.edge_length-long.ensures loop.invariant
 
 returns : tie.Need-returns invariant-loop decreases-loop
-returns c = walk_ends _ _ _ _ (omega (arith, c.loop-test.false)) c.before.loop.invariant
+returns c = walk_ends _ _ _ _ (omega (arith, c.loop-i-test.false)) c.loop-i.invariant
 
-pub hem-length-spec : {M : Type 1} → statement M
-hem-length-spec =
+pub hem_length_spec : {M : Type 1} → statement M
+hem_length_spec =
     tie.close
     (tie.spec
     invariant-loop

@@ -11,51 +11,51 @@ use native.Mathlib.Omega.{arith}
 use Rattle.reaching.proofs.beyond_reach.Statement.{statement}
 use Rattle.reaching.proofs.beyond_reach.Tie as tie
 
-abbrev invariant-loop : tie.invariant-loop
+abbrev invariant-loop : tie.invariant-loop-i
 invariant-loop triples i₀ i = Searching too_far triples i
 
-abbrev decreases-loop : tie.decreases-loop
+abbrev decreases-loop : tie.decreases-loop-i
 decreases-loop triples i₀ i = length triples - i
 
-loop-holds : tie.Need-loop-init invariant-loop decreases-loop
+loop-holds : tie.Need-loop-i-init invariant-loop decreases-loop
 loop-holds c = search_begins too_far (pos 0) _
 
-mul-is-far : tie.Need-overflow-mul-is-far invariant-loop decreases-loop
+mul-is-far : tie.Need-offset_bounds-triples-i invariant-loop decreases-loop
 mul-is-far c = search rules
 
-shared-slice-copy-out-is-far : tie.Need-shared-slice-copy-out-is-far invariant-loop decreases-loop
+shared-slice-copy-out-is-far : tie.Need-bounds-triples-i invariant-loop decreases-loop
 shared-slice-copy-out-is-far c = search rules
 
-is-far-requires : tie.Need-is-far-requires invariant-loop decreases-loop
+is-far-requires : tie.Need-is_far-requires invariant-loop decreases-loop
 is-far-requires c κs = search rules
 
-returns : tie.Need-returns invariant-loop decreases-loop
+returns : tie.Need-returns-then-is_far invariant-loop decreases-loop
 unfolding beyond_reach
 returns c =
-    let triples = c.before.before.before.before.before.args.triples.now in
-    let loop = c.before.before.before.before.loop in
-    let known = read (get_or triples loop.i (pos 0)) (record { sfits = c.before.before.is-far-arg.given }) in
-    search_finds too_far (pos 0) triples loop.i (omega arith) (sym (c.before.is-far.ensures ∙ ap too_far known) ∙ c.if1.true)
+    let triples = c.args.triples.now in
+    let loop = c.loop-i in
+    let known = read (get_or triples loop.i (pos 0)) (record { sfits = c.is_far-arg-1.given }) in
+    search_finds too_far (pos 0) triples loop.i (omega arith) (sym (c.is_far.ensures ∙ ap too_far known) ∙ c.if-is_far.true)
 
-add-i : tie.Need-overflow-add-i invariant-loop decreases-loop
+add-i : tie.Need-overflow_add-i invariant-loop decreases-loop
 add-i c = search rules
 
-loop-less : tie.Need-loop-smaller invariant-loop decreases-loop
+loop-less : tie.Need-loop-i-smaller invariant-loop decreases-loop
 loop-less c = search rules
 
-loop-again : tie.Need-loop-preserved invariant-loop decreases-loop
+loop-again : tie.Need-loop-i-preserved invariant-loop decreases-loop
 loop-again c =
-    let loop = c.before.before.before.before.loop in
-    let triples = c.before.before.before.before.before.args.triples.now in
-    let known = read (get_or triples loop.i (pos 0)) (record { sfits = c.before.before.is-far-arg.given }) in
-    search_turns too_far (pos 0) triples loop.i (omega arith) (sym (c.before.is-far.ensures ∙ ap too_far known) ∙ c.if1.false) loop.invariant
+    let loop = c.loop-i in
+    let triples = c.args.triples.now in
+    let known = read (get_or triples loop.i (pos 0)) (record { sfits = c.is_far-arg-1.given }) in
+    search_turns too_far (pos 0) triples loop.i (omega arith) (sym (c.is_far.ensures ∙ ap too_far known) ∙ c.if-is_far.false) loop.invariant
 
-returns-2 : tie.Need-returns-2 invariant-loop decreases-loop
+returns-2 : tie.Need-returns invariant-loop decreases-loop
 unfolding beyond_reach
-returns-2 c = search_ends too_far (pos 0) _ _ (omega arith) c.before.loop.invariant
+returns-2 c = search_ends too_far (pos 0) _ _ (omega arith) c.loop-i.invariant
 
-pub beyond-reach-spec : {M : Type 1} → statement M
-beyond-reach-spec =
+pub beyond_reach_spec : {M : Type 1} → statement M
+beyond_reach_spec =
     tie.close
     (tie.spec
     invariant-loop

@@ -21,8 +21,8 @@ apart-requires c κs = search rules
 
 returns : tie.Need-returns
 returns c =
-    let a = c.before.args.a in
-    ap (λ (d : ℕ). ltb coordinate_limit d) (c.apart.ensures ∙ apart_read a (pos 0) c.before.ranges.a zero-fits ∙ ap nat_abs (+ℤ_idr a))
+    let a = c.args.a in
+    ap (λ (d : ℕ). ltb coordinate_limit d) (c.apart.ensures ∙ apart_read a (pos 0) c.ranges.a zero-fits ∙ ap nat_abs (+ℤ_idr a))
 
-pub is-far-spec : {M : Type 1} → statement M
-is-far-spec = tie.close (tie.spec apart-requires returns)
+pub is_far_spec : {M : Type 1} → statement M
+is_far_spec = tie.close (tie.spec apart-requires returns)
