@@ -1,9 +1,6 @@
 -- The numbers are those that are asked for, and a refused call writes nothing. Assumes nothing.
 use mathlib.Core.Path.{◌≡◌, refl, ap, ◌∙◌}
-use mathlib.Core.List.{List}
 use Prim.Native.Nat.{ℕ, suc}
-use lib.Seq.{sets}
-use lib.ListN.{length}
 use Rattle.mesh.specs.Mesh.{faces}
 use Rattle.mesh.specs.Table.{over_limits, uneven, misfit, ungrouped, astray, shape_number, mesh_number, short, after}
 use Rattle.edges.specs.Edges.{key, verdict, hems}
