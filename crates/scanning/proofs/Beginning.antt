@@ -1,19 +1,18 @@
 -- A scan that is too long to be accepted is refused by its length, and its beginning by the same number. Assumes nothing.
 use mathlib.Core.Path.{◌≡◌, refl, sym, ap, ◌∙◌}
-use mathlib.Core.Bool.{Bool, true, false}
 use mathlib.Core.List.{List, [], ◌∷◌}
 use Prim.Native.Nat.{ℕ, suc, ◌+◌, ◌*◌, ◌≤◌, ◌<◌}
 use native.Mathlib.Omega.{arith}
 use lib.Dec.{ltb}
-use lib.ListN.{length, get_or, take}
+use lib.ListN.{length, take}
 use lib.Seq.{get_or-take, length-take-le}
 use borrow.Author.Tests.{ltb-true, ltb-false}
 use Rattle.lists.proofs.Bools.{by_cases}
 use Rattle.mesh.specs.Limits.{face_limit}
-use Rattle.mesh.specs.Table.{when, first_of, short}
+use Rattle.mesh.specs.Table.{first_of, short}
 use Rattle.little.specs.Little.{byte, half, word}
 use Rattle.lines.specs.Lines.{refusal}
-use Rattle.scanned.specs.Scan.{header_bytes, front_bytes, scan_count, scan_length, points_in, length_number, points_number, scan_number, scan_mesh}
+use Rattle.scanned.specs.Scan.{front_bytes, scan_count, points_in, length_number, points_number, scan_number, scan_mesh}
 use Rattle.scanned.proofs.Lengths.{count_many, length_above}
 use Rattle.sheet.specs.Sheet.{printed}
 use Rattle.scanning.specs.Scanning.{scan_sheet}

@@ -4,17 +4,17 @@ use borrow.Author.Rules.{rules}
 use Rattle.scanning.proofs.scan_sheet.Statement.{statement}
 use Rattle.scanning.proofs.scan_sheet.Tie as tie
 
-returns : tie.Need-returns
-returns c = short_of_room _ _ c.if1.true
+returns : tie.Need-returns-then-out-lt-ROOM
+returns c = short_of_room _ _ c.if-out-lt-ROOM.true
 
-from-scan-requires : tie.Need-from-scan-requires
+from-scan-requires : tie.Need-from_scan-length-requires
 from-scan-requires c κs = search rules
 
-same_length : tie.Need-same-length
+same_length : tie.Need-shape_of-out
 same_length c = search rules
 
-returns-2 : tie.Need-returns-2
-returns-2 c = done c.before.before.before.before.if1.false c.before.before.from-scan.ensures
+returns-2 : tie.Need-returns
+returns-2 c = done c.if-out-lt-ROOM.false c.from_scan-length.ensures
 
-pub scan-sheet-spec : {M : Type 1} → statement M
-scan-sheet-spec = tie.close (tie.spec returns from-scan-requires same_length returns-2)
+pub scan_sheet_spec : {M : Type 1} → statement M
+scan_sheet_spec = tie.close (tie.spec returns from-scan-requires same_length returns-2)
