@@ -6,31 +6,31 @@ use borrow.Author.Rules.{rules}
 use Rattle.scansheet.proofs.main.Statement.{statement}
 use Rattle.scansheet.proofs.main.Tie as tie
 
-slice-aggregate-read-full : tie.Need-slice-aggregate-read-full
+slice-aggregate-read-full : tie.Need-slice_bounds-read_full-end
 slice-aggregate-read-full c = search rules
 
-read-full-requires : tie.Need-read-full-requires
+read-full-requires : tie.Need-read_full-n-requires
 read-full-requires c κs = search rules
 
-array-share-prefix-file : tie.Need-array-share-prefix-file
+array-share-prefix-file : tie.Need-slice_bounds-file-end
 array-share-prefix-file c = search rules
 
-slice-aggregate-scan-sheet : tie.Need-slice-aggregate-scan-sheet
+slice-aggregate-scan-sheet : tie.Need-slice_bounds-scan_sheet-end
 slice-aggregate-scan-sheet c = search rules
 
-slice-aggregate-scan-sheet-2 : tie.Need-slice-aggregate-scan-sheet-2
+slice-aggregate-scan-sheet-2 : tie.Need-slice_bounds-scan_sheet-end-2
 slice-aggregate-scan-sheet-2 c = search rules
 
-scan-sheet-requires : tie.Need-scan-sheet-requires
+scan-sheet-requires : tie.Need-scan_sheet-answer-requires
 scan-sheet-requires c κs = search rules
 
-array-share-prefix-out : tie.Need-array-share-prefix-out
+array-share-prefix-out : tie.Need-slice_bounds-out-end
 array-share-prefix-out c = search rules
 
-slice-aggregate-write-all : tie.Need-slice-aggregate-write-all
+slice-aggregate-write-all : tie.Need-slice_bounds-write_all-end
 slice-aggregate-write-all c = sym (length-take-le _ _ (omega arith))
 
-write-all-requires : tie.Need-write-all-requires
+write-all-requires : tie.Need-write_all-requires
 write-all-requires c κs = search rules
 
 returns : tie.Need-returns
