@@ -3,8 +3,8 @@
 // The files stand in data/, and args names every one of them. tools/make_scans makes them again and says what each one is for.
 #![tactic(auto)]
 
-use std::{env, fs, io};
 use std::io::Write;
+use std::{env, fs, io};
 
 fn main(rt: HostRuntime) -> io::Result<()> {
     for name in env::args(&rt)?.skip(1) {
