@@ -6,38 +6,38 @@ use borrow.Author.Rules.{rules}
 use Rattle.try_damaged.proofs.coordinates.changes.Statement.{statement}
 use Rattle.try_damaged.proofs.coordinates.changes.Tie as tie
 
-abbrev invariant-loop : tie.invariant-loop
+abbrev invariant-loop : tie.invariant-loop-at
 invariant-loop file₀ bits counts₀ at₀ file counts at = (length file ≡ length file₀) × (length counts ≡ length counts₀)
 
-abbrev decreases-loop : tie.decreases-loop
+abbrev decreases-loop : tie.decreases-loop-at
 decreases-loop file₀ bits counts₀ at₀ file counts at = length file - at
 
-loop-holds : tie.Need-loop-init invariant-loop decreases-loop
+loop-holds : tie.Need-loop-at-init invariant-loop decreases-loop
 loop-holds c = search rules
 
-in-record-requires : tie.Need-in-record-requires invariant-loop decreases-loop
+in-record-requires : tie.Need-in_record-requires invariant-loop decreases-loop
 in-record-requires c κs = search rules
 
-behind-requires : tie.Need-behind-requires invariant-loop decreases-loop
+behind-requires : tie.Need-behind-at-requires invariant-loop decreases-loop
 behind-requires c κs = search rules
 
-loop-less : tie.Need-loop-smaller invariant-loop decreases-loop
+loop-less : tie.Need-loop-at-smaller invariant-loop decreases-loop
 loop-less c = search rules
 
-loop-again : tie.Need-loop-preserved invariant-loop decreases-loop
+loop-again : tie.Need-loop-at-preserved invariant-loop decreases-loop
 loop-again c = search rules
 
-same_length : tie.Need-same-length invariant-loop decreases-loop
+same_length : tie.Need-shape_of-file invariant-loop decreases-loop
 same_length c = search rules
 
-same-length-2 : tie.Need-same-length-2 invariant-loop decreases-loop
+same-length-2 : tie.Need-shape_of-counts invariant-loop decreases-loop
 same-length-2 c = search rules
 
 returns : tie.Need-returns invariant-loop decreases-loop
 returns c = search rules
 
-pub changes-spec : {M : Type 1} → statement M
-changes-spec =
+pub changes_spec : {M : Type 1} → statement M
+changes_spec =
     tie.close
     (tie.spec
     invariant-loop
