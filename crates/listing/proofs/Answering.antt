@@ -2,15 +2,14 @@
 use mathlib.Core.Path.{◌≡◌, refl, sym, ap, ◌∙◌}
 use mathlib.Core.Bool.{Bool, true, false, not}
 use mathlib.Core.List.{List, [], ◌∷◌}
-use Prim.Native.Nat.{ℕ, ◌*◌, ◌/◌, ◌≤◌, ◌<◌}
+use Prim.Native.Nat.{ℕ, ◌*◌, ◌≤◌, ◌<◌}
 use native.Mathlib.Omega.{arith}
 use lib.IntN.{ℤ}
 use lib.ListN.{length}
-use lib.Dec.{eqb}
 use borrow.Author.Tests.{lt-ltb, le-ltb, eq-eqb, ne_eqb}
 use Rattle.mesh.specs.Limits.{point_width}
 use Rattle.mesh.specs.Mesh.{Mesh, faces, position_count}
-use Rattle.mesh.specs.Table.{mesh_number, when, first_of, lent, short}
+use Rattle.mesh.specs.Table.{mesh_number, when, first_of, short}
 use Rattle.mesh.proofs.Accepted.{even}
 use Rattle.mesh.proofs.After.{after_refused}
 use Rattle.mesh.proofs.Numbers.{clear, first_is, first_on, row_given, row_passed}

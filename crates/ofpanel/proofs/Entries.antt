@@ -2,18 +2,18 @@
 use mathlib.Core.Path.{◌≡◌, refl, sym, ap, ap₂, ◌∙◌, subst}
 use mathlib.Core.Logic.{⊎_elim}
 use mathlib.Core.Bool.{Bool, true, false, cond, ◌&&◌}
-use mathlib.Core.List.{List, [], ◌∷◌, ◌++◌, map, append-nil}
-use Prim.Native.Nat.{ℕ, zero, suc, ◌+◌, ◌-◌, ◌/◌, ◌≤◌, ◌<◌}
+use mathlib.Core.List.{List, [], ◌++◌, map, append-nil}
+use Prim.Native.Nat.{ℕ, ◌+◌, ◌-◌, ◌/◌, ◌≤◌, ◌<◌}
 use native.Mathlib.Nat.{le_of_eq}
 use native.Mathlib.Omega.{arith}
 use lib.Dec.{ltb, eqb}
 use lib.ListN.{length, get_or, take, drop, set, replicate, length-map, length-append, length-drop, drop_of_length-le, get_or-append, get_or-replicate}
-use lib.Seq.{sets, get_or-append-add, get_or-take, length-take-le, take_at}
+use lib.Seq.{get_or-append-add, get_or-take, length-take-le, take_at}
 use borrow.Author.Tests.{lt-ltb, le-ltb, eqb-true, eq-eqb, ne_eqb}
-use Rattle.lists.specs.Lists.{sum, every}
+use Rattle.lists.specs.Lists.{sum}
 use Rattle.lists.specs.Numbers.{next_of}
 use Rattle.lists.specs.Cutting.{parts}
-use Rattle.lists.proofs.Bools.{and_left, and_right, and_both}
+use Rattle.lists.proofs.Bools.{and_left, and_right}
 use Rattle.lists.proofs.Buckets.{lt_or_ge, length_front}
 use Rattle.lists.proofs.Changing.{map_at}
 use Rattle.lists.proofs.Copies.{front_turns, sets_whole, length_part}
@@ -21,9 +21,9 @@ use Rattle.lists.proofs.Counting.{clash}
 use Rattle.lists.proofs.Cutting.{length_parts, parts_at}
 use Rattle.lists.proofs.Parts.{sum_step, sum_at}
 use Rattle.lists.proofs.Writing.{Copying, copy_begins, copy_ends}
-use Rattle.mesh.specs.Limits.{width, entry_limit, corner_limit, corner_numbers}
+use Rattle.mesh.specs.Limits.{width, entry_limit, corner_numbers}
 use Rattle.mesh.specs.Mesh.{Ring, rings}
-use Rattle.edges.specs.Edges.{Edge, ring_edges}
+use Rattle.edges.specs.Edges.{Edge}
 use Rattle.tracing.specs.Answers.{corner_count}
 use Rattle.sorting.specs.Sorting.{key_limit, number_limit}
 use Rattle.columns.proofs.Using.{ring_at}

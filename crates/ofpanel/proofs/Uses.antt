@@ -1,15 +1,15 @@
 -- A use of an edge tells the panel: its face shares the edge's key with the face that the rules name, and so the two are in one panel.
 -- Assumes nothing.
-use mathlib.Core.Path.{◌≡◌, refl, sym, ap, ap₂, ◌∙◌, subst}
+use mathlib.Core.Path.{◌≡◌, refl, sym, ap, ◌∙◌}
 use mathlib.Core.Logic.{⊎_elim}
 use mathlib.Core.Bool.{Bool, true, false, cond, ◌&&◌, ◌||◌}
 use mathlib.Core.List.{List, [], ◌∷◌, map}
-use Prim.Native.Nat.{ℕ, suc, ◌≤◌, ◌<◌}
+use Prim.Native.Nat.{ℕ, suc, ◌<◌}
 use native.Mathlib.Omega.{arith}
 use lib.Dec.{ltb, eqb}
 use lib.ListN.{length, get_or}
 use borrow.Author.Tests.{eqb-true, eq-eqb}
-use Rattle.lists.specs.Lists.{has, some, every, joined, count, together}
+use Rattle.lists.specs.Lists.{has, some, joined, count, together}
 use Rattle.lists.proofs.Bools.{by_cases, and_left, and_right, and_both, or_left, or_right}
 use Rattle.lists.proofs.Chains.{reach_one}
 use Rattle.lists.proofs.Counting.{clash, or_either}

@@ -1,20 +1,20 @@
 -- From the first entries to the panels of the hems. Assumes nothing.
-use mathlib.Core.Path.{◌≡◌, refl, sym, ap, ◌∙◌, subst}
+use mathlib.Core.Path.{◌≡◌, sym, ap, ◌∙◌, subst}
 use mathlib.Core.Logic.{⊎_elim}
 use mathlib.Core.Bool.{false}
-use mathlib.Core.List.{List, [], ◌∷◌, map}
+use mathlib.Core.List.{List, [], map}
 use Prim.Native.Nat.{ℕ, zero, suc, ◌+◌, ◌-◌, ◌/◌, ◌≤◌, ◌<◌}
 use native.Mathlib.Omega.{arith}
 use lib.ListN.{length, get_or, take, drop, set, replicate, length-map, get_or-map}
-use lib.Seq.{sets, length-take-le}
-use Rattle.lists.specs.Lists.{span, sum}
+use lib.Seq.{sets}
+use Rattle.lists.specs.Lists.{sum}
 use Rattle.lists.specs.Cutting.{parts}
 use Rattle.lists.proofs.Buckets.{lt_or_ge, length_front, length_table, table_at, table_ext}
 use Rattle.lists.proofs.Changing.{map_at}
 use Rattle.lists.proofs.Copies.{front_turns}
 use Rattle.lists.proofs.Cutting.{length_parts, parts_at}
 use Rattle.lists.proofs.Writing.{Copying, copy_begins, copy_ends}
-use Rattle.mesh.specs.Limits.{width, entry_limit, corner_limit, face_limit, corner_numbers}
+use Rattle.mesh.specs.Limits.{width, corner_limit, face_limit, corner_numbers}
 use Rattle.mesh.specs.Mesh.{Ring, position, rings}
 use Rattle.mesh.proofs.Faces.{length_rings}
 use Rattle.edges.specs.Edges.{Edge, edges_of}
@@ -22,12 +22,12 @@ use Rattle.tracing.specs.Answers.{corner_count}
 use Rattle.turning.specs.Turning.{house_wires_of}
 use Rattle.turning.proofs.Rounds.{In}
 use Rattle.keys.specs.Keys.{Use, uses_from, use_faces, no_use}
-use Rattle.keys.specs.Columns.{entry_of, column}
+use Rattle.keys.specs.Columns.{column}
 use Rattle.keys.proofs.Valid.{lower_at, higher_at, uses_corners}
-use Rattle.hemlist.specs.HemList.{first_edge_lem, face_of, panel_of, hem_panel, hem_panels}
+use Rattle.hemlist.specs.HemList.{first_edge_lem, hem_panel, hem_panels}
 use Rattle.labelled.specs.Labels.{Labelled}
 use Rattle.ofpanel.specs.OfPanel.{Panelled}
-use Rattle.ofpanel.specs.Steps.{entry_room, end_of, hem_end, entries, FindRoom, Found, panels_by, WriteRoom, PanelRows}
+use Rattle.ofpanel.specs.Steps.{entry_room, end_of, entries, FindRoom, Found, panels_by, WriteRoom, PanelRows}
 use Rattle.ofpanel.proofs.Wires.{wire_some, first_in, edge_below}
 use Rattle.ofpanel.proofs.Uses.{use_face, some_use, use_panel}
 use Rattle.ofpanel.proofs.Entries.{entry_use, entry_hem}

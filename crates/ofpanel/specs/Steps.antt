@@ -4,7 +4,7 @@ use Rattle.std.specs.Prelude.{◌≡◌, false, cond, List, [], ◌++◌, map, �
 use Rattle.lists.specs.Lists.{sum, span}
 use Rattle.lists.specs.Cutting.{parts}
 use Rattle.mesh.specs.Limits.{entry_limit, corner_limit}
-use Rattle.mesh.specs.Mesh.{Ring, rings}
+use Rattle.mesh.specs.Mesh.{Ring}
 use Rattle.edges.specs.Edges.{Edge}
 use Rattle.tracing.specs.Answers.{corner_count}
 use Rattle.keys.specs.Columns.{normal_digit, column, Keyable}

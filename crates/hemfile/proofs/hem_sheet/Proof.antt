@@ -4,19 +4,19 @@ use borrow.Author.Rules.{rules}
 use Rattle.hemfile.proofs.hem_sheet.Statement.{statement}
 use Rattle.hemfile.proofs.hem_sheet.Tie as tie
 
-returns : tie.Need-returns
-returns c = short_of_room _ _ c.if1.true
+returns : tie.Need-returns-then-out-lt-ROOM
+returns c = short_of_room _ _ c.if-out-lt-ROOM.true
 
-put-file-requires : tie.Need-put-file-requires
+put-file-requires : tie.Need-put_file-length-requires
 put-file-requires c κs = search rules
 
-same_length : tie.Need-same-length
+same_length : tie.Need-shape_of-out
 same_length c = search rules
 
-returns-2 : tie.Need-returns-2
+returns-2 : tie.Need-returns
 returns-2 c =
-    let put = c.before.before in
-    done put.before.before.if1.false put.put-file.ensures
+    let put = c in
+    done put.if-out-lt-ROOM.false put.put_file-length.ensures
 
-pub hem-sheet-spec : {M : Type 1} → statement M
-hem-sheet-spec = tie.close (tie.spec returns put-file-requires same_length returns-2)
+pub hem_sheet_spec : {M : Type 1} → statement M
+hem_sheet_spec = tie.close (tie.spec returns put-file-requires same_length returns-2)

@@ -25,101 +25,101 @@ use borrow.Author.Rules.{rules}
 use Rattle.listing.proofs.list_hems.Statement.{statement}
 use Rattle.listing.proofs.list_hems.Tie as tie
 
-number-requires : tie.Need-number-requires
+number-requires : tie.Need-number-number-requires
 number-requires c κs = search rules
 
 refused-requires : tie.Need-refused-requires
 refused-requires c κs = search rules
 
-returns : tie.Need-returns
+returns : tie.Need-returns-then-number-ne0
 returns c =
-    let number = c.before.before.number.ensures in
-    let if1 = c.before.if1 in
+    let number = c.number-number.ensures in
+    let if1 = c.if-number-ne0 in
     refusal _ _ _ (row_mesh _ _ _ _ _ (λ z. if1.true (number ∙ z)) ∙ sym number) if1.true c.refused.ensures
 
-refused-requires-2 : tie.Need-refused-requires-2
+refused-requires-2 : tie.Need-refused-requires-then-triples-positions
 refused-requires-2 c κs = search rules
 
-returns-2 : tie.Need-returns-2
+returns-2 : tie.Need-returns-then-triples-positions
 returns-2 c =
-    let number = c.before.before.before.number.ensures in
-    let if1 = c.before.before.if1.false in
-    let if2 = c.before.if2 in
+    let number = c.number-number.ensures in
+    let if1 = c.if-number-ne0.false in
+    let if2 = c.if-triples-positions in
     let zero = sym number ∙ if1 in
-    refusal _ _ _ (row_18 _ _ _ _ _ zero (unmatched_is _ _ zero if2.true)) (λ z. omega arith) c.refused2.ensures
+    refusal _ _ _ (row_18 _ _ _ _ _ zero (unmatched_is _ _ zero if2.true)) (λ z. omega arith) c.refused-then-triples-positions.ensures
 
-beyond-reach-requires : tie.Need-beyond-reach-requires
+beyond-reach-requires : tie.Need-beyond_reach-requires
 beyond-reach-requires c κs = search rules
 
-refused-requires-3 : tie.Need-refused-requires-3
+refused-requires-3 : tie.Need-refused-requires-then-beyond_reach
 refused-requires-3 c κs = search rules
 
-returns-3 : tie.Need-returns-3
+returns-3 : tie.Need-returns-then-beyond_reach
 returns-3 c =
-    let number = c.before.before.before.before.before.number.ensures in
-    let if1 = c.before.before.before.before.if1.false in
-    let if2 = c.before.before.before.if2.false in
-    let far = c.before.before.beyond-reach.ensures in
-    let if3 = c.before.if3 in
+    let number = c.number-number.ensures in
+    let if1 = c.if-number-ne0.false in
+    let if2 = c.if-triples-positions.false in
+    let far = c.beyond_reach.ensures in
+    let if3 = c.if-beyond_reach in
     let zero = sym number ∙ if1 in
-    refusal _ _ _ (row_19 _ _ _ _ _ zero (matched _ _ zero if2) (sym far ∙ if3.true)) (λ z. omega arith) c.refused3.ensures
+    refusal _ _ _ (row_19 _ _ _ _ _ zero (matched _ _ zero if2) (sym far ∙ if3.true)) (λ z. omega arith) c.refused-then-beyond_reach.ensures
 
-refused-requires-4 : tie.Need-refused-requires-4
+refused-requires-4 : tie.Need-refused-requires-then-panels-room
 refused-requires-4 c κs = search rules
 
-returns-4 : tie.Need-returns-4
+returns-4 : tie.Need-returns-then-panels-room
 returns-4 c =
-    let number = c.before.before.before.before.before.before.number.ensures in
-    let if1 = c.before.before.before.before.before.if1.false in
-    let if2 = c.before.before.before.before.if2.false in
-    let far = c.before.before.before.beyond-reach.ensures in
-    let if3 = c.before.before.if3.false in
-    let if4 = c.before.if4 in
+    let number = c.number-number.ensures in
+    let if1 = c.if-number-ne0.false in
+    let if2 = c.if-triples-positions.false in
+    let far = c.beyond_reach.ensures in
+    let if3 = c.if-beyond_reach.false in
+    let if4 = c.if-panels-room in
     let zero = sym number ∙ if1 in
-    refusal _ _ _ (row_9 _ _ _ _ _ zero (matched _ _ zero if2) (sym far ∙ if3) (panels_short _ _ _ _ if4.true)) (λ z. omega arith) c.refused4.ensures
+    refusal _ _ _ (row_9 _ _ _ _ _ zero (matched _ _ zero if2) (sym far ∙ if3) (panels_short _ _ _ _ if4.true)) (λ z. omega arith) c.refused-then-panels-room.ensures
 
-refused-requires-5 : tie.Need-refused-requires-5
+refused-requires-5 : tie.Need-refused-requires-then-edges-room
 refused-requires-5 c κs = search rules
 
-returns-5 : tie.Need-returns-5
+returns-5 : tie.Need-returns-then-edges-room
 returns-5 c =
-    let number = c.before.before.before.before.before.before.before.number.ensures in
-    let if1 = c.before.before.before.before.before.before.if1.false in
-    let if2 = c.before.before.before.before.before.if2.false in
-    let far = c.before.before.before.before.beyond-reach.ensures in
-    let if3 = c.before.before.before.if3.false in
-    let if4 = c.before.before.if4.false in
-    let if5 = c.before.if5 in
+    let number = c.number-number.ensures in
+    let if1 = c.if-number-ne0.false in
+    let if2 = c.if-triples-positions.false in
+    let far = c.beyond_reach.ensures in
+    let if3 = c.if-beyond_reach.false in
+    let if4 = c.if-panels-room.false in
+    let if5 = c.if-edges-room in
     let zero = sym number ∙ if1 in
-    refusal _ _ _ (row_9 _ _ _ _ _ zero (matched _ _ zero if2) (sym far ∙ if3) (edges_short _ _ _ _ if4 if5.true)) (λ z. omega arith) c.refused5.ensures
+    refusal _ _ _ (row_9 _ _ _ _ _ zero (matched _ _ zero if2) (sym far ∙ if3) (edges_short _ _ _ _ if4 if5.true)) (λ z. omega arith) c.refused-then-edges-room.ensures
 
-refused-requires-6 : tie.Need-refused-requires-6
+refused-requires-6 : tie.Need-refused-requires-then-lengths-room
 refused-requires-6 c κs = search rules
 
-returns-6 : tie.Need-returns-6
+returns-6 : tie.Need-returns-then-lengths-room
 returns-6 c =
-    let number = c.before.before.before.before.before.before.before.before.number.ensures in
-    let if1 = c.before.before.before.before.before.before.before.if1.false in
-    let if2 = c.before.before.before.before.before.before.if2.false in
-    let far = c.before.before.before.before.before.beyond-reach.ensures in
-    let if3 = c.before.before.before.before.if3.false in
-    let if4 = c.before.before.before.if4.false in
-    let if5 = c.before.before.if5.false in
-    let if6 = c.before.if6 in
+    let number = c.number-number.ensures in
+    let if1 = c.if-number-ne0.false in
+    let if2 = c.if-triples-positions.false in
+    let far = c.beyond_reach.ensures in
+    let if3 = c.if-beyond_reach.false in
+    let if4 = c.if-panels-room.false in
+    let if5 = c.if-edges-room.false in
+    let if6 = c.if-lengths-room in
     let zero = sym number ∙ if1 in
-    refusal _ _ _ (row_9 _ _ _ _ _ zero (matched _ _ zero if2) (sym far ∙ if3) (lengths_short _ _ _ _ if4 if5 if6.true)) (λ z. omega arith) c.refused6.ensures
+    refusal _ _ _ (row_9 _ _ _ _ _ zero (matched _ _ zero if2) (sym far ∙ if3) (lengths_short _ _ _ _ if4 if5 if6.true)) (λ z. omega arith) c.refused-then-lengths-room.ensures
 
-list-of-requires : tie.Need-list-of-requires
+list-of-requires : tie.Need-list_of-requires
 list-of-requires c κs =
-    let args = c.before.before.before.before.before.before.before.before.before.before.before.before.before.before.before.before.before.before.before.args in
-    let number = c.before.before.before.before.before.before.before.before.before.before.number.ensures in
-    let if1 = c.before.before.before.before.before.before.before.before.before.if1.false in
-    let if2 = c.before.before.before.before.before.before.before.before.if2.false in
-    let far = c.before.before.before.before.before.before.before.beyond-reach.ensures in
-    let if3 = c.before.before.before.before.before.before.if3.false in
-    let if4 = c.before.before.before.before.before.if4.false in
-    let if5 = c.before.before.before.before.if5.false in
-    let if6 = c.before.before.before.if6 in
+    let args = c.args in
+    let number = c.number-number.ensures in
+    let if1 = c.if-number-ne0.false in
+    let if2 = c.if-triples-positions.false in
+    let far = c.beyond_reach.ensures in
+    let if3 = c.if-beyond_reach.false in
+    let if4 = c.if-panels-room.false in
+    let if5 = c.if-edges-room.false in
+    let if6 = c.if-lengths-room in
     let m = mesh_of args.positions.now args.textures.now args.normals.now args.corners.now args.sizes.now in
     let zero = sym number ∙ if1 in
     record {
@@ -131,31 +131,31 @@ list-of-requires c κs =
       length_room = if6.false;
     }
 
-same_length : tie.Need-same-length
+same_length : tie.Need-shape_of-panels
 same_length c = search rules
 
-same-length-2 : tie.Need-same-length-2
+same-length-2 : tie.Need-shape_of-edges
 same-length-2 c = search rules
 
-same-length-3 : tie.Need-same-length-3
+same-length-3 : tie.Need-shape_of-lengths
 same-length-3 c = search rules
 
-returns-7 : tie.Need-returns-7
+returns-7 : tie.Need-returns
 unfolding faces
 returns-7 c =
-    let number = c.before.before.before.before.before.before.before.before.before.before.before.before.before.before.before.before.before.number.ensures in
-    let if1 = c.before.before.before.before.before.before.before.before.before.before.before.before.before.before.before.before.if1.false in
-    let if2 = c.before.before.before.before.before.before.before.before.before.before.before.before.before.before.before.if2.false in
-    let far = c.before.before.before.before.before.before.before.before.before.before.before.before.before.before.beyond-reach.ensures in
-    let if3 = c.before.before.before.before.before.before.before.before.before.before.before.before.before.if3.false in
-    let if4 = c.before.before.before.before.before.before.before.before.before.before.before.before.if4.false in
-    let if5 = c.before.before.before.before.before.before.before.before.before.before.before.if5.false in
-    let if6 = c.before.before.before.before.before.before.before.before.before.before.if6 in
+    let number = c.number-number.ensures in
+    let if1 = c.if-number-ne0.false in
+    let if2 = c.if-triples-positions.false in
+    let far = c.beyond_reach.ensures in
+    let if3 = c.if-beyond_reach.false in
+    let if4 = c.if-panels-room.false in
+    let if5 = c.if-edges-room.false in
+    let if6 = c.if-lengths-room in
     let zero = sym number ∙ if1 in
-    listed (row_10 _ _ _ _ _ zero (matched _ _ zero if2) (sym far ∙ if3) (roomy _ _ _ _ if4 if5 if6.false)) c.before.before.before.before.before.before.list_of.ensures
+    listed (row_10 _ _ _ _ _ zero (matched _ _ zero if2) (sym far ∙ if3) (roomy _ _ _ _ if4 if5 if6.false)) c.list_of.ensures
 
-pub list-hems-spec : {M : Type 1} → statement M
-list-hems-spec =
+pub list_hems_spec : {M : Type 1} → statement M
+list_hems_spec =
     tie.close
     (tie.spec
     number-requires

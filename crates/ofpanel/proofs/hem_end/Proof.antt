@@ -4,42 +4,42 @@ use borrow.Author.Rules.{rules}
 use Rattle.ofpanel.proofs.hem_end.Statement.{statement}
 use Rattle.ofpanel.proofs.hem_end.Tie as tie
 
-shared-slice-read-a : tie.Need-shared-slice-read-a
+shared-slice-read-a : tie.Need-bounds-wire-0
 shared-slice-read-a c = search rules
 
-next-of-requires : tie.Need-next-of-requires
+next-of-requires : tie.Need-next_of-requires
 next-of-requires c κs = search rules
 
-mul-b : tie.Need-overflow-mul-b
+mul-b : tie.Need-offset_bounds-wire-next_of
 mul-b c = search rules
 
-shared-slice-read-b : tie.Need-shared-slice-read-b
+shared-slice-read-b : tie.Need-bounds-wire-next_of
 shared-slice-read-b c = search rules
 
 pick-requires : tie.Need-pick-requires
 pick-requires c κs = search rules
 
-pick-requires-2 : tie.Need-pick-requires-2
+pick-requires-2 : tie.Need-pick-requires-else-a-b
 pick-requires-2 c κs = search rules
 
-returns : tie.Need-returns
+returns : tie.Need-returns-then-a-b
 returns c =
-    let pre = c.before.before.before.before.before.before.requires in
-    let next_of = c.before.before.before.next_of in
-    let if1 = c.before.if1 in
+    let pre = c.requires in
+    let next_of = c.next_of in
+    let if1 = c.if-a-b in
     let pick = c.pick in
     end_up _ _ pre _ _ next_of.ensures.0 if1.true pick.ensures
 
-returns-2 : tie.Need-returns-2
+returns-2 : tie.Need-returns-else-a-b
 returns-2 c =
-    let pre = c.before.before.before.before.before.before.requires in
-    let next_of = c.before.before.before.next_of in
-    let if1 = c.before.if1 in
-    let pick2 = c.pick2 in
+    let pre = c.requires in
+    let next_of = c.next_of in
+    let if1 = c.if-a-b in
+    let pick2 = c.pick-else-a-b in
     end_down _ _ pre _ _ next_of.ensures.0 if1.false pick2.ensures
 
-pub hem-end-spec : {M : Type 1} → statement M
-hem-end-spec =
+pub hem_end_spec : {M : Type 1} → statement M
+hem_end_spec =
     tie.close
     (tie.spec
     shared-slice-read-a

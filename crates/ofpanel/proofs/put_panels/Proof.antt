@@ -6,56 +6,56 @@ use borrow.Author.Rules.{rules}
 use Rattle.ofpanel.proofs.put_panels.Statement.{statement}
 use Rattle.ofpanel.proofs.put_panels.Tie as tie
 
-add-firsts : tie.Need-overflow-add-firsts
+add-firsts : tie.Need-overflow_add-firsts
 add-firsts c =
-    let pre = c.before.before.before.before.before.requires in
+    let pre = c.requires in
     omega (arith, entry_within _ _ _ _ _ _ pre)
 
-array-borrow-prefix-firsts : tie.Need-array-borrow-prefix-firsts
+array-borrow-prefix-firsts : tie.Need-slice_bounds-firsts-end
 array-borrow-prefix-firsts c =
-    let pre = c.before.before.before.before.before.requires in
+    let pre = c.requires in
     entry_within _ _ _ _ _ _ pre
 
-slice-aggregate-put-panels-in : tie.Need-slice-aggregate-put-panels-in
+slice-aggregate-put-panels-in : tie.Need-slice_bounds-put_panels_in-end
 slice-aggregate-put-panels-in c =
-    let pre = c.before.before.before.before.before.before.requires in
+    let pre = c.requires in
     sym (entry_row _ _ _ _ _ _ pre)
 
-array-borrow-prefix-faces : tie.Need-array-borrow-prefix-faces
+array-borrow-prefix-faces : tie.Need-slice_bounds-faces-end
 array-borrow-prefix-faces c =
-    let pre = c.before.before.before.before.before.before.requires in
+    let pre = c.requires in
     corner_within _ _ _ _ _ _ pre
 
-slice-aggregate-put-panels-in-2 : tie.Need-slice-aggregate-put-panels-in-2
+slice-aggregate-put-panels-in-2 : tie.Need-slice_bounds-put_panels_in-end-2
 slice-aggregate-put-panels-in-2 c =
-    let pre = c.before.before.before.before.before.before.before.requires in
+    let pre = c.requires in
     sym (corner_row _ _ _ _ _ _ pre)
 
-array-borrow-prefix-labels : tie.Need-array-borrow-prefix-labels
+array-borrow-prefix-labels : tie.Need-slice_bounds-labels-end
 array-borrow-prefix-labels c =
-    let pre = c.before.before.before.before.before.before.before.requires in
+    let pre = c.requires in
     pre.keyable.sound.few
 
-slice-aggregate-put-panels-in-3 : tie.Need-slice-aggregate-put-panels-in-3
+slice-aggregate-put-panels-in-3 : tie.Need-slice_bounds-put_panels_in-end-3
 slice-aggregate-put-panels-in-3 c =
-    let pre = c.before.before.before.before.before.before.before.before.requires in
+    let pre = c.requires in
     sym (face_row _ _ _ _ _ _ pre)
 
-put-panels-in-requires : tie.Need-put-panels-in-requires
+put-panels-in-requires : tie.Need-put_panels_in-requires
 put-panels-in-requires c κs =
-    let pre = c.before.before.before.before.before.before.before.before.before.requires in
+    let pre = c.requires in
     rows_are _ _ _ _ _ _ pre
 
-same_length : tie.Need-same-length
+same_length : tie.Need-shape_of-out
 same_length c = search rules
 
 returns : tie.Need-returns
 returns c =
-    let put-panels-in = c.before.before.before.before.before.put-panels-in in
+    let put-panels-in = c.put_panels_in in
     put-panels-in.ensures
 
-pub put-panels-spec : {M : Type 1} → statement M
-put-panels-spec =
+pub put_panels_spec : {M : Type 1} → statement M
+put_panels_spec =
     tie.close
     (tie.spec
     add-firsts

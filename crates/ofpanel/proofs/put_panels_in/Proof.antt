@@ -5,59 +5,59 @@ use borrow.Author.Rules.{rules}
 use Rattle.ofpanel.proofs.put_panels_in.Statement.{statement}
 use Rattle.ofpanel.proofs.put_panels_in.Tie as tie
 
-find-uses-requires : tie.Need-find-uses-requires
+find-uses-requires : tie.Need-find_uses-requires
 find-uses-requires c κs =
-    let pre = c.before.before.before.before.before.before.before.before.before.requires in
+    let pre = c.requires in
     find_room _ _ _ _ _ _ pre.panelled _ pre.firsts_long
 
-put-faces-requires : tie.Need-put-faces-requires
+put-faces-requires : tie.Need-put_faces-requires
 put-faces-requires c κs =
-    let pre = c.before.before.before.before.before.before.before.before.before.before.before.before.before.requires in
+    let pre = c.requires in
     record { sound = pre.panelled.keyable.sound; room = pre.faces_long }
 
-put-labels-requires : tie.Need-put-labels-requires
+put-labels-requires : tie.Need-put_labels-requires
 put-labels-requires c κs =
-    let earlier = c.before.before.before.before.before.before.before.before.before.before in
-    let pre = earlier.before.before.before.before.before.before.before.requires in
+    let earlier = c in
+    let pre = earlier.requires in
     record { keyable = pre.panelled.keyable; room = pre.labels_long }
 
-write-panels-requires : tie.Need-write-panels-requires
+write-panels-requires : tie.Need-write_panels-requires
 write-panels-requires c κs =
-    let earlier = c.before.before.before.before.before.before.before.before.before.before in
-    let given = earlier.before.before.before.before.before.before.before.before.before.before.before.before.before.before.args in
-    let pre = earlier.before.before.before.before.before.before.before.before.before.before.before.before.before.before.requires in
-    let find-uses = earlier.before.before.before.before.find-uses in
-    let put-faces = earlier.put-faces in
-    let put-labels = c.before.before.before.before.before.before.put-labels in
+    let earlier = c in
+    let given = earlier.args in
+    let pre = earlier.requires in
+    let find-uses = earlier.find_uses in
+    let put-faces = earlier.put_faces in
+    let put-labels = c.put_labels in
     write_room _ _ _ _ _ _ pre.panelled given.firsts.now pre.firsts_long _ find-uses.ensures _ _ put-faces.ensures
     put-labels.ensures
 
-same_length : tie.Need-same-length
+same_length : tie.Need-shape_of-firsts
 same_length c = search rules
 
-same-length-2 : tie.Need-same-length-2
+same-length-2 : tie.Need-shape_of-faces
 same-length-2 c = search rules
 
-same-length-3 : tie.Need-same-length-3
+same-length-3 : tie.Need-shape_of-labels
 same-length-3 c = search rules
 
-same-length-4 : tie.Need-same-length-4
+same-length-4 : tie.Need-shape_of-out
 same-length-4 c = search rules
 
 returns : tie.Need-returns
 returns c =
-    let earlier = c.before.before.before.before.before.before.before.before.before.before in
-    let given = earlier.before.before.before.before.before.before.before.before.before.before.before.before.before.before.before.before.before.args in
-    let pre = earlier.before.before.before.before.before.before.before.before.before.before.before.before.before.before.before.before.before.requires in
-    let find-uses = earlier.before.before.before.before.before.before.before.find-uses in
-    let put-faces = earlier.before.before.before.put-faces in
-    let put-labels = c.before.before.before.before.before.before.before.before.before.put-labels in
-    let write-panels = c.before.before.write-panels in
+    let earlier = c in
+    let given = earlier.args in
+    let pre = earlier.requires in
+    let find-uses = earlier.find_uses in
+    let put-faces = earlier.put_faces in
+    let put-labels = c.put_labels in
+    let write-panels = c.write_panels in
     panels_done _ _ _ _ _ _ pre.panelled given.firsts.now pre.firsts_long _ find-uses.ensures _ _ put-faces.ensures
     put-labels.ensures _ write-panels.ensures
 
-pub put-panels-in-spec : {M : Type 1} → statement M
-put-panels-in-spec =
+pub put_panels_in_spec : {M : Type 1} → statement M
+put_panels_in_spec =
     tie.close
     (tie.spec
     find-uses-requires
