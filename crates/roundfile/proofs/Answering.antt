@@ -6,7 +6,7 @@ use lib.ListN.{length}
 use lib.Ieee.{Float}
 use borrow.Author.Tests.{lt-ltb, le-ltb}
 use Rattle.mesh.specs.Mesh.{Mesh}
-use Rattle.mesh.specs.Table.{first_of, short}
+use Rattle.mesh.specs.Table.{short}
 use Rattle.mesh.proofs.Numbers.{first_is}
 use Rattle.reading.specs.declared.MeshRead.{MeshRead}
 use Rattle.reading.specs.Reading.{reading_number, panel_mesh}

@@ -1,6 +1,6 @@
 -- Every coordinate that smoothing gives is an f64 where those of the mesh are: it is one of them, or a sum of two. Assumes nothing.
-use mathlib.Core.Path.{◌≡◌, refl, ◌∙◌}
-use mathlib.Core.Bool.{Bool, true}
+use mathlib.Core.Path.{◌≡◌, ◌∙◌}
+use mathlib.Core.Bool.{true}
 use mathlib.Core.List.{List, [], ◌∷◌}
 use Prim.Native.Nat.{ℕ, zero, suc}
 use lib.ListN.{get_or}
@@ -11,12 +11,12 @@ use lib.Ieee.Fits.{nan-fits, add-fits, cond-fits}
 use Rattle.lists.specs.Lists.{every, each, span}
 use Rattle.lists.proofs.Bools.{and_left, and_right, and_both}
 use Rattle.lists.proofs.Parts.{every_append}
-use Rattle.mesh.specs.Mesh.{Mesh, Ring}
+use Rattle.mesh.specs.Mesh.{Ring}
 use Rattle.verdicts.specs.Edges.{Edge}
 use Rattle.written.specs.Said.{is_double}
 use Rattle.smoothed.specs.Smoothed.{edges_by_use}
 use Rattle.smoothed.specs.Around.{Condition, Corner, Boundary, Inner, condition, single}
-use Rattle.smoothed.specs.Positions.{axes, coordinate, moved_by_lem, middle_of, smoothed_positions}
+use Rattle.smoothed.specs.Positions.{axes, moved_by_lem, middle_of, smoothed_positions}
 use Rattle.opening.proofs.Kept.{every_each}
 
 is_double_lem : (x : Float) → T (fits binary64 x) → is_double x ≡ true

@@ -1,7 +1,7 @@
 -- A mesh smoothed in lists at the full limits: smoothing answers what it answers for any such lists, what it gives is an accepted mesh that
 -- stands at their front, and the writer refuses that for nothing but a coordinate that is not finite. Assumes nothing.
-use mathlib.Core.Path.{◌≡◌, ◌∙◌, refl, sym, ap}
-use mathlib.Core.Bool.{Bool, true, false, not}
+use mathlib.Core.Path.{◌≡◌, ◌∙◌, refl, sym}
+use mathlib.Core.Bool.{not}
 use mathlib.Core.List.{List, [], ◌∷◌}
 use Prim.Native.Nat.{ℕ, zero, suc, ◌*◌, ◌≤◌}
 use native.Mathlib.Omega.{arith}
@@ -18,7 +18,7 @@ use Rattle.mesh.proofs.Numbers.{first_is}
 use Rattle.mesh.proofs.MeshFronts.{front_positions, front_corners, front_sizes}
 use Rattle.floating.specs.Near.{nought}
 use Rattle.written.specs.declared.Saved.{Saved}
-use Rattle.written.specs.Pieces.{finite_mesh, file_length, file_limit}
+use Rattle.written.specs.Pieces.{finite_mesh, file_length}
 use Rattle.written.specs.Answer.{saving_number, PanelWritten}
 use Rattle.written.proofs.Parting.{file_fits}
 use Rattle.opening.proofs.Fronts.{front_length}

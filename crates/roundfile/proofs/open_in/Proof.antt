@@ -7,174 +7,174 @@ use borrow.Author.Rules.{rules}
 use Rattle.roundfile.proofs.open_in.Statement.{statement}
 use Rattle.roundfile.proofs.open_in.Tie as tie
 
-open-clean-requires : tie.Need-open-clean-requires
+open-clean-requires : tie.Need-open_clean-left-requires
 open-clean-requires c κs =
-    let start = c.before.before.before.before.before.before.before.before.before.before.before.before.before.before in
+    let start = c in
     start.requires.lists
 
 refused-requires : tie.Need-refused-requires
 refused-requires c κs = search rules
 
-same_length : tie.Need-same-length
+same_length : tie.Need-shape_of-positions-then-number-ne0
 same_length c =
-    let at-positions = c.before.before.before.before.before.before.before.before.before.before.before in
-    at-positions.positions.given
+    let at-positions = c in
+    at-positions.positions-1.given
 
-same-length-2 : tie.Need-same-length-2
+same-length-2 : tie.Need-shape_of-textures-then-number-ne0
 same-length-2 c =
-    let at-textures = c.before.before.before.before.before.before.before.before.before in
-    at-textures.textures.given
+    let at-textures = c in
+    at-textures.textures-1.given
 
-same-length-3 : tie.Need-same-length-3
+same-length-3 : tie.Need-shape_of-normals-then-number-ne0
 same-length-3 c =
-    let at-normals = c.before.before.before.before.before.before.before in
-    at-normals.normals.given
+    let at-normals = c in
+    at-normals.normals-1.given
 
-same-length-4 : tie.Need-same-length-4
+same-length-4 : tie.Need-shape_of-corners-then-number-ne0
 same-length-4 c =
-    let at-corners = c.before.before.before.before.before in
-    at-corners.corners.given
+    let at-corners = c in
+    at-corners.corners-1.given
 
-same-length-5 : tie.Need-same-length-5
+same-length-5 : tie.Need-shape_of-sizes-then-number-ne0
 same-length-5 c =
-    let at-sizes = c.before.before.before in
-    at-sizes.sizes.given
+    let at-sizes = c in
+    at-sizes.sizes-1.given
 
-returns : tie.Need-returns
+returns : tie.Need-returns-then-number-ne0
 returns c =
-    let at-if1 = c.before in
-    let at-open-clean = at-if1.before.before.before.before.before.before.before.before.before.before.before in
-    rw c.refused.ensures (open_refused _ _ _ at-open-clean.open-clean.ensures at-if1.if1.true)
+    let at-if1 = c in
+    let at-open-clean = c in
+    rw c.refused.ensures (open_refused _ _ _ at-open-clean.open_clean-left.ensures at-if1.if-number-ne0.true)
 
-mul-p : tie.Need-overflow-mul-p
+mul-p : tie.Need-overflow_mul-p
 mul-p c =
-    let at-if1 = c.before in
-    let at-open-clean = at-if1.before.before.before.before.before.before.before.before.before.before.before in
-    omega (arith, (opened_few at-open-clean.open-clean.ensures at-if1.if1.false).positions)
+    let at-if1 = c in
+    let at-open-clean = c in
+    omega (arith, (opened_few at-open-clean.open_clean-left.ensures at-if1.if-number-ne0.false).positions)
 
-mul-t : tie.Need-overflow-mul-t
+mul-t : tie.Need-overflow_mul-t
 mul-t c =
-    let at-if1 = c.before.before in
-    let at-open-clean = at-if1.before.before.before.before.before.before.before.before.before.before.before in
-    omega (arith, (opened_few at-open-clean.open-clean.ensures at-if1.if1.false).textures)
+    let at-if1 = c in
+    let at-open-clean = c in
+    omega (arith, (opened_few at-open-clean.open_clean-left.ensures at-if1.if-number-ne0.false).textures)
 
-mul-n : tie.Need-overflow-mul-n
+mul-n : tie.Need-overflow_mul-n
 mul-n c =
-    let at-if1 = c.before.before.before in
-    let at-open-clean = at-if1.before.before.before.before.before.before.before.before.before.before.before in
-    omega (arith, (opened_few at-open-clean.open-clean.ensures at-if1.if1.false).normals)
+    let at-if1 = c in
+    let at-open-clean = c in
+    omega (arith, (opened_few at-open-clean.open_clean-left.ensures at-if1.if-number-ne0.false).normals)
 
-mul-c : tie.Need-overflow-mul-c
+mul-c : tie.Need-overflow_mul-c
 mul-c c =
-    let at-if1 = c.before.before.before.before in
-    let at-open-clean = at-if1.before.before.before.before.before.before.before.before.before.before.before in
-    omega (arith, (opened_few at-open-clean.open-clean.ensures at-if1.if1.false).corners)
+    let at-if1 = c in
+    let at-open-clean = c in
+    omega (arith, (opened_few at-open-clean.open_clean-left.ensures at-if1.if-number-ne0.false).corners)
 
-slice-reshare-prefix-from-mesh : tie.Need-slice-reshare-prefix-from-mesh
+slice-reshare-prefix-from-mesh : tie.Need-slice_bounds-from_mesh-end
 slice-reshare-prefix-from-mesh c =
-    let at-if1 = c.before.before.before.before in
-    let at-open-clean = at-if1.before.before.before.before.before.before.before.before.before.before.before in
-    (at-open-clean.open-clean.ensures.left at-if1.if1.false).positions.within
+    let at-if1 = c in
+    let at-open-clean = c in
+    (at-open-clean.open_clean-left.ensures.left at-if1.if-number-ne0.false).positions.within
 
-slice-aggregate-from-mesh : tie.Need-slice-aggregate-from-mesh
+slice-aggregate-from-mesh : tie.Need-slice_bounds-from_mesh-end-2
 slice-aggregate-from-mesh c =
-    let at-if1 = c.before.before.before.before.before in
-    let at-open-clean = at-if1.before.before.before.before.before.before.before.before.before.before.before in
-    (at-open-clean.open-clean.ensures.left at-if1.if1.false).positions.long
+    let at-if1 = c in
+    let at-open-clean = c in
+    (at-open-clean.open_clean-left.ensures.left at-if1.if-number-ne0.false).positions.long
 
-slice-reshare-prefix-from-mesh-2 : tie.Need-slice-reshare-prefix-from-mesh-2
+slice-reshare-prefix-from-mesh-2 : tie.Need-slice_bounds-from_mesh-end-3
 slice-reshare-prefix-from-mesh-2 c =
-    let at-if1 = c.before.before.before.before.before in
-    let at-open-clean = at-if1.before.before.before.before.before.before.before.before.before.before.before in
-    (at-open-clean.open-clean.ensures.left at-if1.if1.false).textures.within
+    let at-if1 = c in
+    let at-open-clean = c in
+    (at-open-clean.open_clean-left.ensures.left at-if1.if-number-ne0.false).textures.within
 
-slice-aggregate-from-mesh-2 : tie.Need-slice-aggregate-from-mesh-2
+slice-aggregate-from-mesh-2 : tie.Need-slice_bounds-from_mesh-end-4
 slice-aggregate-from-mesh-2 c =
-    let at-if1 = c.before.before.before.before.before.before in
-    let at-open-clean = at-if1.before.before.before.before.before.before.before.before.before.before.before in
-    (at-open-clean.open-clean.ensures.left at-if1.if1.false).textures.long
+    let at-if1 = c in
+    let at-open-clean = c in
+    (at-open-clean.open_clean-left.ensures.left at-if1.if-number-ne0.false).textures.long
 
-slice-reshare-prefix-from-mesh-3 : tie.Need-slice-reshare-prefix-from-mesh-3
+slice-reshare-prefix-from-mesh-3 : tie.Need-slice_bounds-from_mesh-end-5
 slice-reshare-prefix-from-mesh-3 c =
-    let at-if1 = c.before.before.before.before.before.before in
-    let at-open-clean = at-if1.before.before.before.before.before.before.before.before.before.before.before in
-    (at-open-clean.open-clean.ensures.left at-if1.if1.false).normals.within
+    let at-if1 = c in
+    let at-open-clean = c in
+    (at-open-clean.open_clean-left.ensures.left at-if1.if-number-ne0.false).normals.within
 
-slice-aggregate-from-mesh-3 : tie.Need-slice-aggregate-from-mesh-3
+slice-aggregate-from-mesh-3 : tie.Need-slice_bounds-from_mesh-end-6
 slice-aggregate-from-mesh-3 c =
-    let at-if1 = c.before.before.before.before.before.before.before in
-    let at-open-clean = at-if1.before.before.before.before.before.before.before.before.before.before.before in
-    (at-open-clean.open-clean.ensures.left at-if1.if1.false).normals.long
+    let at-if1 = c in
+    let at-open-clean = c in
+    (at-open-clean.open_clean-left.ensures.left at-if1.if-number-ne0.false).normals.long
 
-slice-reshare-prefix-from-mesh-4 : tie.Need-slice-reshare-prefix-from-mesh-4
+slice-reshare-prefix-from-mesh-4 : tie.Need-slice_bounds-from_mesh-end-7
 slice-reshare-prefix-from-mesh-4 c =
-    let at-if1 = c.before.before.before.before.before.before.before in
-    let at-open-clean = at-if1.before.before.before.before.before.before.before.before.before.before.before in
-    (at-open-clean.open-clean.ensures.left at-if1.if1.false).corners.within
+    let at-if1 = c in
+    let at-open-clean = c in
+    (at-open-clean.open_clean-left.ensures.left at-if1.if-number-ne0.false).corners.within
 
-slice-aggregate-from-mesh-4 : tie.Need-slice-aggregate-from-mesh-4
+slice-aggregate-from-mesh-4 : tie.Need-slice_bounds-from_mesh-end-8
 slice-aggregate-from-mesh-4 c =
-    let at-if1 = c.before.before.before.before.before.before.before.before in
-    let at-open-clean = at-if1.before.before.before.before.before.before.before.before.before.before.before in
-    (at-open-clean.open-clean.ensures.left at-if1.if1.false).corners.long
+    let at-if1 = c in
+    let at-open-clean = c in
+    (at-open-clean.open_clean-left.ensures.left at-if1.if-number-ne0.false).corners.long
 
-slice-reshare-prefix-from-mesh-5 : tie.Need-slice-reshare-prefix-from-mesh-5
+slice-reshare-prefix-from-mesh-5 : tie.Need-slice_bounds-from_mesh-end-9
 slice-reshare-prefix-from-mesh-5 c =
-    let at-if1 = c.before.before.before.before.before.before.before.before in
-    let at-open-clean = at-if1.before.before.before.before.before.before.before.before.before.before.before in
-    (at-open-clean.open-clean.ensures.left at-if1.if1.false).sizes.within
+    let at-if1 = c in
+    let at-open-clean = c in
+    (at-open-clean.open_clean-left.ensures.left at-if1.if-number-ne0.false).sizes.within
 
-slice-aggregate-from-mesh-5 : tie.Need-slice-aggregate-from-mesh-5
+slice-aggregate-from-mesh-5 : tie.Need-slice_bounds-from_mesh-end-10
 slice-aggregate-from-mesh-5 c =
-    let at-if1 = c.before.before.before.before.before.before.before.before.before in
-    let at-open-clean = at-if1.before.before.before.before.before.before.before.before.before.before.before in
-    (at-open-clean.open-clean.ensures.left at-if1.if1.false).sizes.long
+    let at-if1 = c in
+    let at-open-clean = c in
+    (at-open-clean.open_clean-left.ensures.left at-if1.if-number-ne0.false).sizes.long
 
-from-mesh-requires : tie.Need-from-mesh-requires
+from-mesh-requires : tie.Need-from_mesh-requires
 from-mesh-requires c κs =
-    let start = c.before.before.before.before.before.before.before.before.before.before.before.before.before.before.before.before.before.before.before.before.before.before.before.before.before.before.before.before.before.before.before.before.before.before.before.before in
+    let start = c in
     start.requires.room
 
-same-length-6 : tie.Need-same-length-6
+same-length-6 : tie.Need-shape_of-positions
 same-length-6 c =
-    let between = c.before.before.before.before.before.before.before.before.before.before.before in
-    let at-positions = between.before.before.before.before.before.before.before.before.before.before.before.before in
-    at-positions.positions.given
+    let between = c in
+    let at-positions = c in
+    at-positions.positions-1.given
 
-same-length-7 : tie.Need-same-length-7
+same-length-7 : tie.Need-shape_of-textures
 same-length-7 c =
-    let at-textures = c.before.before.before.before.before.before.before.before.before.before.before.before.before.before.before.before.before.before.before.before.before in
-    at-textures.textures.given
+    let at-textures = c in
+    at-textures.textures-1.given
 
-same-length-8 : tie.Need-same-length-8
+same-length-8 : tie.Need-shape_of-normals
 same-length-8 c =
-    let at-normals = c.before.before.before.before.before.before.before.before.before.before.before.before.before.before.before.before.before.before.before in
-    at-normals.normals.given
+    let at-normals = c in
+    at-normals.normals-1.given
 
-same-length-9 : tie.Need-same-length-9
+same-length-9 : tie.Need-shape_of-corners
 same-length-9 c =
-    let at-corners = c.before.before.before.before.before.before.before.before.before.before.before.before.before.before.before.before.before in
-    at-corners.corners.given
+    let at-corners = c in
+    at-corners.corners-1.given
 
-same-length-10 : tie.Need-same-length-10
+same-length-10 : tie.Need-shape_of-sizes
 same-length-10 c =
-    let at-sizes = c.before.before.before.before.before.before.before.before.before.before.before.before.before.before.before in
-    at-sizes.sizes.given
+    let at-sizes = c in
+    at-sizes.sizes-1.given
 
-same-length-11 : tie.Need-same-length-11
+same-length-11 : tie.Need-shape_of-out
 same-length-11 c =
-    let at_out = c.before in
-    at_out.out.given
+    let at_out = c in
+    at_out.out-1.given
 
-returns-2 : tie.Need-returns-2
+returns-2 : tie.Need-returns
 returns-2 c =
-    let at-from-mesh = c.before.before in
-    let at-if1 = at-from-mesh.before.before.before.before.before.before.before.before.before.before.before in
-    let at-open-clean = at-if1.before.before.before.before.before.before.before.before.before.before.before in
-    open_smoothed _ _ _ at-open-clean.open-clean.ensures at-if1.if1.false at-from-mesh.from-mesh.ensures
+    let at-from-mesh = c in
+    let at-if1 = c in
+    let at-open-clean = c in
+    open_smoothed _ _ _ at-open-clean.open_clean-left.ensures at-if1.if-number-ne0.false at-from-mesh.from_mesh.ensures
 
-pub open-in-spec : {M : Type 1} → statement M
-open-in-spec =
+pub open_in_spec : {M : Type 1} → statement M
+open_in_spec =
     tie.close
     (tie.spec
     open-clean-requires
