@@ -3,7 +3,7 @@ use mathlib.Core.Path.{subst}
 use Rattle.unused.specs.Compaction.{Compaction}
 use Rattle.inplace.proofs.Laws.{as_ordinary}
 use Rattle.determined.specs.Determined.{Call, Determined, mesh_from}
-use Rattle.determined.specs.Tied.{Tied, OneResult, AllTied, EnginesAgree, InPlaceAgrees, mesh_in, rest, list, compacted_lists, placed_lists, sizes_in}
+use Rattle.determined.specs.Tied.{Tied, OneResult, AllTied, EnginesAgree, InPlaceAgrees, mesh_in, mesh_placed, rest, list_mut, compacted_lists, placed_lists, sizes_in}
 use Rattle.determined.proofs.Determined.{merging_determined}
 
 -- so what is said of the list is said of the sources: a call whose results are determined has a source whose contract allows one result
@@ -41,12 +41,12 @@ all_tied = record {
 -- the two engines of merging have one contract, and it determines the result
 pub engines_agree : EnginesAgree
 engines_agree κs κt a r q e f h k =
-    merging_determined ((mesh_in a, (rest a).0), list (rest a).1) (r, list (rest e).1) (q, list (rest f).1) (all_tied.merging_tied κs a r e h)
+    merging_determined ((mesh_in a, (rest a).0), list_mut (rest a).1) (r, list_mut (rest e).1) (q, list_mut (rest f).1) (all_tied.merging_tied κs a r e h)
     (all_tied.by_cell_tied κt a q f k)
 
 -- compaction in place gives what the ordinary gives: both contracts are tied to their sources, and the crate has the law of the two
 pub in_place_agrees : InPlaceAgrees
 in_place_agrees κs κt a b r q e f h k same zero nought =
-    as_ordinary (mesh_in b) (mesh_from (placed_lists f).0 (sizes_in b)) (placed_lists b).1 (placed_lists f).1 q (compacted_lists (rest a))
+    as_ordinary (mesh_placed b) (mesh_from (placed_lists f).0 (sizes_in b)) (placed_lists b).1 (placed_lists f).1 q (compacted_lists (rest a))
     (compacted_lists (rest e)) r (all_tied.in_place_tied κt b q f k) nought
     (subst (λ m. Compaction m (compacted_lists (rest a)) (compacted_lists (rest e)) r) same (all_tied.compaction_tied κs a r e h)) zero

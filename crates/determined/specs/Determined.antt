@@ -15,7 +15,6 @@ use Rattle.smoothing.specs.declared.Smoothed.{Smoothed}
 use Rattle.smoothing.specs.Smoothing.{Smoothing}
 use Rattle.edges.specs.Answers.{answer_of, judged, HemAnswer}
 use Rattle.edges.specs.declared.Judged.{Judged}
-use Rattle.edges.specs.declared.HemEdges.{HemEdges}
 use Rattle.ported.specs.Answers.{PortedAnswer}
 use Rattle.house.specs.Answers.{HouseAnswer}
 use Rattle.panels.specs.Contract.{PanelsAnswer}

@@ -2,7 +2,7 @@
 -- out a contract as `Post`: lifetimes, arguments, answer, arguments afterwards. A weaker `ensures` in any of the twenty-one sources is
 -- refused here. Assumes nothing.
 use Rattle.std.specs.Prelude.{ℕ, ◌≡◌, List, Float, ℤ}
-use Rattle.std.specs.Borrow.{Bor}
+use Rattle.std.specs.Borrow.{Bor, MutBor}
 use Rattle.mesh.specs.Mesh.{Mesh, mesh_of}
 use Rattle.mesh.specs.Listed.{Listed, listed_of}
 use Rattle.faces.specs.Faces.{FaceLists, faces_of}
@@ -40,18 +40,33 @@ use Rattle.hemfile.proofs.hem_sheet.Reads as hem-sheet
 
 -- ---- arguments, as a contract has them: one behind the other
 
--- a lent list, and the arguments behind it
+-- a list lent to be read, and the arguments behind it; and one lent to be written
 abbrev pub Lends : Type 0 → Type 0 → Type 0
 Lends X Rest = Bor (List X) × Rest
 
--- the five lists of a mesh, and the arguments behind them
+abbrev pub LendsMut : Type 0 → Type 0 → Type 0
+LendsMut X Rest = MutBor (List X) × Rest
+
+-- the five lists of a mesh, and the arguments behind them: to be read, or to be written; and in place, where the sizes alone are read
 abbrev pub LendsMesh : Type 0 → Type 0
 LendsMesh Rest = Lends Float (Lends Float (Lends Float (Lends ℕ (Lends ℕ Rest))))
+
+abbrev pub LendsMeshMut : Type 0 → Type 0
+LendsMeshMut Rest = LendsMut Float (LendsMut Float (LendsMut Float (LendsMut ℕ (LendsMut ℕ Rest))))
+
+abbrev pub LendsInPlace : Type 0 → Type 0
+LendsInPlace Rest = LendsMut Float (LendsMut Float (LendsMut Float (LendsMut ℕ (Lends ℕ Rest))))
 
 module _ {Rest : Type 0} where
   -- the mesh that the five lists are
   abbrev pub mesh_in : LendsMesh Rest → Mesh
   mesh_in a = mesh_of a.0.now a.1.0.now a.1.1.0.now a.1.1.1.0.now a.1.1.1.1.0.now
+
+  abbrev pub mesh_mut : LendsMeshMut Rest → Mesh
+  mesh_mut a = mesh_of a.0.now a.1.0.now a.1.1.0.now a.1.1.1.0.now a.1.1.1.1.0.now
+
+  abbrev pub mesh_placed : LendsInPlace Rest → Mesh
+  mesh_placed a = mesh_of a.0.now a.1.0.now a.1.1.0.now a.1.1.1.0.now a.1.1.1.1.0.now
 
   -- the arguments behind them
   abbrev pub rest : LendsMesh Rest → Rest
@@ -61,34 +76,40 @@ module _ {Rest : Type 0} where
   abbrev pub list : {X : Type 0} → Lends X Rest → List X
   list a = a.0.now
 
-  abbrev pub hem_lists : Lends ℕ (Lends ℕ Rest) → HemLists
+  abbrev pub list_mut : {X : Type 0} → LendsMut X Rest → List X
+  list_mut a = a.0.now
+
+  abbrev pub hem_lists : LendsMut ℕ (LendsMut ℕ Rest) → HemLists
   hem_lists a = hems_in a.0.now a.1.0.now
 
-  abbrev pub listed : Lends ℕ (Lends ℕ Rest) → Listed
+  abbrev pub listed : LendsMut ℕ (LendsMut ℕ Rest) → Listed
   listed a = listed_of a.0.now a.1.0.now
 
   -- the lists that the list of hems lends
-  abbrev pub hem_listed : Lends ℕ (Lends ℕ (Lends ℕ Rest)) → hemlist.HemLists
+  abbrev pub hem_listed : LendsMut ℕ (LendsMut ℕ (LendsMut ℕ Rest)) → hemlist.HemLists
   hem_listed a = hemlist.hem_lists_of a.0.now a.1.0.now a.1.1.0.now
 
   abbrev pub face_lists : Lends ℕ (Lends ℕ Rest) → FaceLists
   face_lists a = faces_of a.0.now a.1.0.now
 
+  abbrev pub face_lists_mut : LendsMut ℕ (LendsMut ℕ Rest) → FaceLists
+  face_lists_mut a = faces_of a.0.now a.1.0.now
+
   -- the lists that compaction, removal and smoothing lend
-  abbrev pub compacted_lists : Lends ℕ (Lends Float (Lends Float (Lends Float Rest))) → compaction.Result
+  abbrev pub compacted_lists : LendsMut ℕ (LendsMut Float (LendsMut Float (LendsMut Float Rest))) → compaction.Result
   compacted_lists a = compaction.result_of a.0.now a.1.0.now a.1.1.0.now a.1.1.1.0.now
 
   -- the lists that compaction in place changes where they stand, with its number list; the sizes stand between them
-  abbrev pub placed_lists : LendsMesh (Lends ℕ Rest) → compaction.Result × List ℕ
+  abbrev pub placed_lists : LendsInPlace (LendsMut ℕ Rest) → compaction.Result × List ℕ
   placed_lists a = (compaction.result_of a.1.1.1.0.now a.0.now a.1.0.now a.1.1.0.now, a.1.1.1.1.1.0.now)
 
-  abbrev pub sizes_in : LendsMesh Rest → List ℕ
+  abbrev pub sizes_in : LendsInPlace Rest → List ℕ
   sizes_in a = a.1.1.1.1.0.now
 
-  abbrev pub removed_lists : Lends ℕ (Lends ℕ (Lends ℕ Rest)) → removal.Result
+  abbrev pub removed_lists : LendsMut ℕ (LendsMut ℕ (LendsMut ℕ Rest)) → removal.Result
   removed_lists a = removal.result_of a.0.now a.1.0.now a.1.1.0.now
 
-  abbrev pub smoothed_lists : Lends Float (Lends ℕ (Lends ℕ Rest)) → smoothed.Result
+  abbrev pub smoothed_lists : LendsMut Float (LendsMut ℕ (LendsMut ℕ Rest)) → smoothed.Result
   smoothed_lists a = smoothed.lists a.0.now a.1.0.now a.1.1.0.now
 
 -- ---- the ties
@@ -108,16 +129,16 @@ OneResult {K} {A} {R} {E} Post result =
 pub record AllTied : Type 0 where
   pub number_tied : Tied mesh-number.Post number mesh_in (λ r e. r)
   pub face_tied : Tied mesh-face.Post face (λ a. (mesh_in a, (rest a).0)) (λ r e. r.now)
-  pub push_tied : Tied push.Post push_call (λ a. (face_lists a, face_lists a.1.1)) (λ r e. (r, face_lists e.1.1))
+  pub push_tied : Tied push.Post push_call (λ a. (face_lists a, face_lists_mut a.1.1)) (λ r e. (r, face_lists_mut e.1.1))
   pub compaction_tied :
       Tied remove-unused-attrs.Post compaction_call (λ a. (mesh_in a, compacted_lists (rest a))) (λ r e. (r, compacted_lists (rest e)))
   pub in_place_tied : Tied compact-in-place.Post in_place_call (λ a. (sizes_in a, placed_lists a)) (λ r e. (r, placed_lists e))
   pub removal_tied :
       Tied remove-degenerate-faces.Post removal_call (λ a. (mesh_in a, removed_lists (rest a))) (λ r e. (r, removed_lists (rest e)))
   pub merging_tied :
-      Tied put-together-same-attrs.Post merging_call (λ a. ((mesh_in a, (rest a).0), list (rest a).1)) (λ r e. (r, list (rest e).1))
+      Tied put-together-same-attrs.Post merging_call (λ a. ((mesh_in a, (rest a).0), list_mut (rest a).1)) (λ r e. (r, list_mut (rest e).1))
   pub by_cell_tied :
-      Tied put-together-by-cell.Post merging_call (λ a. ((mesh_in a, (rest a).0), list (rest a).1)) (λ r e. (r, list (rest e).1))
+      Tied put-together-by-cell.Post merging_call (λ a. ((mesh_in a, (rest a).0), list_mut (rest a).1)) (λ r e. (r, list_mut (rest e).1))
   pub smoothing_tied :
       Tied loop-subdivision.Post smoothing_call
       (λ a. ((mesh_in a, list (rest a), list (rest a).1), smoothed_lists (rest a).1.1))
@@ -130,12 +151,12 @@ pub record AllTied : Type 0 where
       Tied components.Post panels_call (λ a. ((mesh_in a, (rest a).0), listed (rest a).1)) (λ r e. (r, listed (rest e).1))
   pub list_tied :
       Tied list-hems.Post list_call (λ a. ((mesh_in a, list {X = ℤ} (rest a)), hem_listed (rest a).1)) (λ r e. (r, hem_listed (rest e).1))
-  pub read_tied : Tied read-panel.Post read_call (λ a. (list a, mesh_in a.1)) (λ r e. (r, mesh_in e.1))
-  pub scan_tied : Tied read-scan.Post scan_call (λ a. (list a, mesh_in a.1)) (λ r e. (r, mesh_in e.1))
-  pub write_tied : Tied write-panel.Post write_call (λ a. (mesh_in a, list (rest a))) (λ r e. (r, list (rest e)))
-  pub sheet_tied : Tied sheet.Post sheet_call (λ a. (list a, list a.1)) (λ r e. (r, list e.1))
-  pub clean_tied : Tied clean.Post clean_call (λ a. (list a, list a.1)) (λ r e. (r, list e.1))
-  pub hem_sheet_tied : Tied hem-sheet.Post hem_sheet_call (λ a. (list a, list a.1)) (λ r e. (r, list e.1))
+  pub read_tied : Tied read-panel.Post read_call (λ a. (list a, mesh_mut a.1)) (λ r e. (r, mesh_mut e.1))
+  pub scan_tied : Tied read-scan.Post scan_call (λ a. (list a, mesh_mut a.1)) (λ r e. (r, mesh_mut e.1))
+  pub write_tied : Tied write-panel.Post write_call (λ a. (mesh_in a, list_mut (rest a))) (λ r e. (r, list_mut (rest e)))
+  pub sheet_tied : Tied sheet.Post sheet_call (λ a. (list a, list_mut a.1)) (λ r e. (r, list_mut e.1))
+  pub clean_tied : Tied clean.Post clean_call (λ a. (list a, list_mut a.1)) (λ r e. (r, list_mut e.1))
+  pub hem_sheet_tied : Tied hem-sheet.Post hem_sheet_call (λ a. (list a, list_mut a.1)) (λ r e. (r, list_mut e.1))
 
 -- ---- the two engines of merging
 
@@ -146,7 +167,7 @@ SameResult {K} {A} {R} {E} One Other result =
 
 -- `put_together_same_attrs` and `put_together_by_cell`: number, counts and lent list
 abbrev pub EnginesAgree : Type 0
-EnginesAgree = SameResult {B = merging_call.Result} put-together-same-attrs.Post put-together-by-cell.Post (λ r e. (r, list (rest e).1))
+EnginesAgree = SameResult {B = merging_call.Result} put-together-same-attrs.Post put-together-by-cell.Post (λ r e. (r, list_mut (rest e).1))
 
 -- ---- compaction in place, and the ordinary
 
@@ -162,4 +183,4 @@ SameMesh {K} {A} {E} {K'} {A'} {E'} One given handed Other own left =
 abbrev pub InPlaceAgrees : Type 0
 InPlaceAgrees =
     SameMesh remove-unused-attrs.Post mesh_in (λ e. compacted_lists (rest e))
-    compact-in-place.Post mesh_in (λ b f. mesh_from (placed_lists f).0 (sizes_in b))
+    compact-in-place.Post mesh_placed (λ b f. mesh_from (placed_lists f).0 (sizes_in b))
