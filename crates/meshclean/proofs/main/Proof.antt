@@ -7,40 +7,40 @@ use borrow.Author.Rules.{rules}
 use Rattle.meshclean.proofs.main.Statement.{statement}
 use Rattle.meshclean.proofs.main.Tie as tie
 
-slice-aggregate-read-full : tie.Need-slice-aggregate-read-full
+slice-aggregate-read-full : tie.Need-slice_bounds-read_full-end
 slice-aggregate-read-full c = search rules
 
-read-full-requires : tie.Need-read-full-requires
+read-full-requires : tie.Need-read_full-n-requires
 read-full-requires c κs = search rules
 
-array-share-prefix-file : tie.Need-array-share-prefix-file
+array-share-prefix-file : tie.Need-slice_bounds-file-end
 array-share-prefix-file c = search rules
 
-slice-aggregate-clean : tie.Need-slice-aggregate-clean
+slice-aggregate-clean : tie.Need-slice_bounds-clean-end
 slice-aggregate-clean c = search rules
 
-slice-aggregate-clean-2 : tie.Need-slice-aggregate-clean-2
+slice-aggregate-clean-2 : tie.Need-slice_bounds-clean-end-2
 slice-aggregate-clean-2 c = search rules
 
-clean-requires : tie.Need-clean-requires
+clean-requires : tie.Need-clean-answer-requires
 clean-requires c κs = search rules
 
 refuse-requires : tie.Need-refuse-requires
 refuse-requires c κs = search rules
 
-returns : tie.Need-returns
+returns : tie.Need-returns-then-number-ne0
 returns c = search rules
 
-array-share-prefix-out : tie.Need-array-share-prefix-out
-array-share-prefix-out c = omega (arith, cleaned_fits _ _ _ _ c.before.before.clean.ensures)
+array-share-prefix-out : tie.Need-slice_bounds-out-end
+array-share-prefix-out c = omega (arith, cleaned_fits _ _ _ _ c.clean-answer.ensures)
 
-slice-aggregate-hand-over : tie.Need-slice-aggregate-hand-over
-slice-aggregate-hand-over c = sym (length-take-le _ _ (omega (arith, cleaned_fits _ _ _ _ c.before.before.before.clean.ensures)))
+slice-aggregate-hand-over : tie.Need-slice_bounds-hand_over-end
+slice-aggregate-hand-over c = sym (length-take-le _ _ (omega (arith, cleaned_fits _ _ _ _ c.clean-answer.ensures)))
 
-hand-over-requires : tie.Need-hand-over-requires
+hand-over-requires : tie.Need-hand_over-requires
 hand-over-requires c κs = search rules
 
-returns-2 : tie.Need-returns-2
+returns-2 : tie.Need-returns
 returns-2 c = search rules
 
 pub main_spec : {M : Type 1} → statement M
