@@ -6,50 +6,50 @@ use borrow.Author.Rules.{rules}
 use Rattle.meshround.proofs.main.Statement.{statement}
 use Rattle.meshround.proofs.main.Tie as tie
 
-slice-aggregate-read-full : tie.Need-slice-aggregate-read-full
+slice-aggregate-read-full : tie.Need-slice_bounds-read_full-end
 slice-aggregate-read-full c = search rules
 
-read-full-requires : tie.Need-read-full-requires
+read-full-requires : tie.Need-read_full-n-requires
 read-full-requires c κs = search rules
 
-array-share-prefix-file : tie.Need-array-share-prefix-file
+array-share-prefix-file : tie.Need-slice_bounds-file-end
 array-share-prefix-file c = search rules
 
-slice-aggregate-round : tie.Need-slice-aggregate-round
+slice-aggregate-round : tie.Need-slice_bounds-round-end
 slice-aggregate-round c = search rules
 
-slice-aggregate-round-2 : tie.Need-slice-aggregate-round-2
+slice-aggregate-round-2 : tie.Need-slice_bounds-round-end-2
 slice-aggregate-round-2 c = search rules
 
-slice-aggregate-round-3 : tie.Need-slice-aggregate-round-3
+slice-aggregate-round-3 : tie.Need-slice_bounds-round-end-3
 slice-aggregate-round-3 c = search rules
 
-slice-aggregate-round-4 : tie.Need-slice-aggregate-round-4
+slice-aggregate-round-4 : tie.Need-slice_bounds-round-end-4
 slice-aggregate-round-4 c = search rules
 
-round-requires : tie.Need-round-requires
+round-requires : tie.Need-round-answer-requires
 round-requires c κs = search rules
 
 refuse-requires : tie.Need-refuse-requires
 refuse-requires c κs = search rules
 
-returns : tie.Need-returns
+returns : tie.Need-returns-then-number-ne0
 returns c = search rules
 
-array-share-prefix-out : tie.Need-array-share-prefix-out
+array-share-prefix-out : tie.Need-slice_bounds-out-end
 array-share-prefix-out c =
-    let at-round = c.before.before in
-    rounded_front _ _ _ _ _ _ at-round.round.ensures
+    let at-round = c in
+    rounded_front _ _ _ _ _ _ at-round.round-answer.ensures
 
-slice-aggregate-hand-over : tie.Need-slice-aggregate-hand-over
+slice-aggregate-hand-over : tie.Need-slice_bounds-hand_over-end
 slice-aggregate-hand-over c =
-    let at-round = c.before.before.before in
-    sym (length-take-le _ _ (rounded_front _ _ _ _ _ _ at-round.round.ensures))
+    let at-round = c in
+    sym (length-take-le _ _ (rounded_front _ _ _ _ _ _ at-round.round-answer.ensures))
 
-hand-over-requires : tie.Need-hand-over-requires
+hand-over-requires : tie.Need-hand_over-requires
 hand-over-requires c κs = search rules
 
-returns-2 : tie.Need-returns-2
+returns-2 : tie.Need-returns
 returns-2 c = search rules
 
 pub main_spec : {M : Type 1} → statement M
