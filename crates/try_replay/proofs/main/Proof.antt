@@ -6,7 +6,7 @@ use borrow.Author.Rules.{rules}
 use Rattle.try_replay.proofs.main.Statement.{statement}
 use Rattle.try_replay.proofs.main.Tie as tie
 
-slice-aggregate-run : tie.Need-slice-aggregate-run
+slice-aggregate-run : tie.Need-slice_bounds-run-end
 slice-aggregate-run c = sym (length-replicate {A = ℕ} 2097152 0)
 
 run-requires : tie.Need-run-requires

@@ -6,7 +6,7 @@ use borrow.Author.Rules.{rules}
 use Rattle.try_replay.proofs.bytes.clean_panel.Statement.{statement}
 use Rattle.try_replay.proofs.bytes.clean_panel.Tie as tie
 
-slice-aggregate-clean : tie.Need-slice-aggregate-clean
+slice-aggregate-clean : tie.Need-slice_bounds-clean-end
 slice-aggregate-clean c = sym (length-replicate {A = ℕ} 262144 0)
 
 clean-requires : tie.Need-clean-requires
@@ -15,8 +15,8 @@ clean-requires c κs = search rules
 returns : tie.Need-returns
 returns c = search rules
 
-pub clean-panel-spec : {M : Type 1} → statement M
-clean-panel-spec =
+pub clean_panel_spec : {M : Type 1} → statement M
+clean_panel_spec =
     tie.close
     (tie.spec
     slice-aggregate-clean

@@ -6,7 +6,7 @@ use borrow.Author.Rules.{rules}
 use Rattle.try_replay.proofs.bytes.write_panel.Statement.{statement}
 use Rattle.try_replay.proofs.bytes.write_panel.Tie as tie
 
-slice-aggregate-write : tie.Need-slice-aggregate-write
+slice-aggregate-write : tie.Need-slice_bounds-write-end
 slice-aggregate-write c = sym (length-replicate {A = ℕ} 262144 0)
 
 write-requires : tie.Need-write-requires
@@ -15,8 +15,8 @@ write-requires c κs = search rules
 returns : tie.Need-returns
 returns c = search rules
 
-pub write-panel-spec : {M : Type 1} → statement M
-write-panel-spec =
+pub write_panel_spec : {M : Type 1} → statement M
+write_panel_spec =
     tie.close
     (tie.spec
     slice-aggregate-write

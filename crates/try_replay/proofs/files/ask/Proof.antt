@@ -6,17 +6,17 @@ use borrow.Author.Rules.{rules}
 use Rattle.try_replay.proofs.files.ask.Statement.{statement}
 use Rattle.try_replay.proofs.files.ask.Tie as tie
 
-slice-aggregate-ask-in : tie.Need-slice-aggregate-ask-in
+slice-aggregate-ask-in : tie.Need-slice_bounds-ask_in-end
 slice-aggregate-ask-in c = sym (length-replicate {A = ℕ} 262144 0)
 
-ask-in-requires : tie.Need-ask-in-requires
+ask-in-requires : tie.Need-ask_in-requires
 ask-in-requires c κs = search rules
 
 returns : tie.Need-returns
 returns c = search rules
 
-pub ask-spec : {M : Type 1} → statement M
-ask-spec =
+pub ask_spec : {M : Type 1} → statement M
+ask_spec =
     tie.close
     (tie.spec
     slice-aggregate-ask-in
