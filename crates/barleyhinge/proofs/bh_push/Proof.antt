@@ -5,20 +5,20 @@ use borrow.Author.Rules.{rules}
 use Rattle.barleyhinge.proofs.bh_push.Statement.{statement}
 use Rattle.barleyhinge.proofs.bh_push.Tie as tie
 
-push-requires : tie.Need-push-requires
+push-requires : tie.Need-push-pushed-requires
 push-requires c κs = search rules
 
 pushed-requires : tie.Need-pushed-requires
 pushed-requires c κs = search rules
 
-same_length : tie.Need-same-length
+same_length : tie.Need-shape_of-newcorners
 same_length c = search rules
 
-same-length-2 : tie.Need-same-length-2
+same-length-2 : tie.Need-shape_of-newsizes
 same-length-2 c = search rules
 
 returns : tie.Need-returns
-returns c = taken (Grouped _ _ _) _ _ c.pushed.ensures c.before.before.before.before.before.before.before.push.ensures
+returns c = taken (Grouped _ _ _) _ _ c.pushed.ensures c.push-pushed.ensures
 
-pub bh-push-spec : {M : Type 1} → statement M
-bh-push-spec = tie.close (tie.spec push-requires pushed-requires same_length same-length-2 returns)
+pub bh_push_spec : {M : Type 1} → statement M
+bh_push_spec = tie.close (tie.spec push-requires pushed-requires same_length same-length-2 returns)

@@ -5,17 +5,17 @@ use borrow.Author.Rules.{rules}
 use Rattle.barleyhinge.proofs.bh_put_together_same_attrs.Statement.{statement}
 use Rattle.barleyhinge.proofs.bh_put_together_same_attrs.Tie as tie
 
-put-together-same-attrs-requires : tie.Need-put-together-same-attrs-requires
+put-together-same-attrs-requires : tie.Need-put_together_same_attrs-merged-requires
 put-together-same-attrs-requires c κs = search rules
 
 merged-requires : tie.Need-merged-requires
 merged-requires c κs = search rules
 
-same_length : tie.Need-same-length
+same_length : tie.Need-shape_of-newcorners
 same_length c = search rules
 
 returns : tie.Need-returns
-returns c = taken (PutTogether _ _ _ _) _ _ c.merged.ensures c.before.before.before.before.before.before.put-together-same-attrs.ensures
+returns c = taken (PutTogether _ _ _ _) _ _ c.merged.ensures c.put_together_same_attrs-merged.ensures
 
-pub bh-put-together-same-attrs-spec : {M : Type 1} → statement M
-bh-put-together-same-attrs-spec = tie.close (tie.spec put-together-same-attrs-requires merged-requires same_length returns)
+pub bh_put_together_same_attrs_spec : {M : Type 1} → statement M
+bh_put_together_same_attrs_spec = tie.close (tie.spec put-together-same-attrs-requires merged-requires same_length returns)

@@ -5,23 +5,23 @@ use borrow.Author.Rules.{rules}
 use Rattle.barleyhinge.proofs.bh_remove_degenerate_faces.Statement.{statement}
 use Rattle.barleyhinge.proofs.bh_remove_degenerate_faces.Tie as tie
 
-remove-degenerate-faces-requires : tie.Need-remove-degenerate-faces-requires
+remove-degenerate-faces-requires : tie.Need-remove_degenerate_faces-left-requires
 remove-degenerate-faces-requires c κs = search rules
 
 removed-requires : tie.Need-removed-requires
 removed-requires c κs = search rules
 
-same_length : tie.Need-same-length
+same_length : tie.Need-shape_of-newcorners
 same_length c = search rules
 
-same-length-2 : tie.Need-same-length-2
+same-length-2 : tie.Need-shape_of-newsizes
 same-length-2 c = search rules
 
-same-length-3 : tie.Need-same-length-3
+same-length-3 : tie.Need-shape_of-origins
 same-length-3 c = search rules
 
 returns : tie.Need-returns
-returns c = taken (Removal _ _ _) _ _ c.removed.ensures c.before.before.before.before.before.before.before.before.before.remove-degenerate-faces.ensures
+returns c = taken (Removal _ _ _) _ _ c.removed.ensures c.remove_degenerate_faces-left.ensures
 
-pub bh-remove-degenerate-faces-spec : {M : Type 1} → statement M
-bh-remove-degenerate-faces-spec = tie.close (tie.spec remove-degenerate-faces-requires removed-requires same_length same-length-2 same-length-3 returns)
+pub bh_remove_degenerate_faces_spec : {M : Type 1} → statement M
+bh_remove_degenerate_faces_spec = tie.close (tie.spec remove-degenerate-faces-requires removed-requires same_length same-length-2 same-length-3 returns)

@@ -5,26 +5,26 @@ use borrow.Author.Rules.{rules}
 use Rattle.barleyhinge.proofs.bh_remove_unused_attrs.Statement.{statement}
 use Rattle.barleyhinge.proofs.bh_remove_unused_attrs.Tie as tie
 
-remove-unused-attrs-requires : tie.Need-remove-unused-attrs-requires
+remove-unused-attrs-requires : tie.Need-remove_unused_attrs-made-requires
 remove-unused-attrs-requires c κs = search rules
 
 compacted-requires : tie.Need-compacted-requires
 compacted-requires c κs = search rules
 
-same_length : tie.Need-same-length
+same_length : tie.Need-shape_of-newcorners
 same_length c = search rules
 
-same-length-2 : tie.Need-same-length-2
+same-length-2 : tie.Need-shape_of-newpositions
 same-length-2 c = search rules
 
-same-length-3 : tie.Need-same-length-3
+same-length-3 : tie.Need-shape_of-newtextures
 same-length-3 c = search rules
 
-same-length-4 : tie.Need-same-length-4
+same-length-4 : tie.Need-shape_of-newnormals
 same-length-4 c = search rules
 
 returns : tie.Need-returns
-returns c = taken (Compaction _ _ _) _ _ c.compacted.ensures c.before.before.before.before.before.before.before.before.before.before.before.before.remove-unused-attrs.ensures
+returns c = taken (Compaction _ _ _) _ _ c.compacted.ensures c.remove_unused_attrs-made.ensures
 
-pub bh-remove-unused-attrs-spec : {M : Type 1} → statement M
-bh-remove-unused-attrs-spec = tie.close (tie.spec remove-unused-attrs-requires compacted-requires same_length same-length-2 same-length-3 same-length-4 returns)
+pub bh_remove_unused_attrs_spec : {M : Type 1} → statement M
+bh_remove_unused_attrs_spec = tie.close (tie.spec remove-unused-attrs-requires compacted-requires same_length same-length-2 same-length-3 same-length-4 returns)

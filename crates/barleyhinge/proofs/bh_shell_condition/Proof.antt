@@ -4,28 +4,28 @@ use borrow.Author.Rules.{rules}
 use Rattle.barleyhinge.proofs.bh_shell_condition.Statement.{statement}
 use Rattle.barleyhinge.proofs.bh_shell_condition.Tie as tie
 
-shell-condition-requires : tie.Need-shell-condition-requires
+shell-condition-requires : tie.Need-shell_condition-judged-requires
 shell-condition-requires c κs = search rules
 
-enum-known-judged : tie.Need-enum-known-judged
+enum-known-judged : tie.Need-enum_known-judged
 enum-known-judged c = search rules
 
-verdict-number-requires : tie.Need-verdict-number-requires
+verdict-number-requires : tie.Need-verdict_number-requires
 verdict-number-requires c κs = search rules
 
-enum-known-judged-2 : tie.Need-enum-known-judged-2
+enum-known-judged-2 : tie.Need-enum_known-judged-in-Refused-1
 enum-known-judged-2 c = search rules
 
-returns : tie.Need-returns
+returns : tie.Need-returns-in-Found
 returns c =
-    found _ _ _ _ _ c.before.before.before.before.shell-condition.ensures c.before.before.judged.given.1
-    c.verdict-number.ensures
+    found _ _ _ _ _ c.shell_condition-judged.ensures c.in-Found.is
+    c.verdict_number.ensures
 
-returns-2 : tie.Need-returns-2
-returns-2 c = refused _ _ _ _ c.before.before.before.shell-condition.ensures c.before.judged2.given.1
+returns-2 : tie.Need-returns-in-Refused
+returns-2 c = refused _ _ _ _ c.shell_condition-judged.ensures c.in-Refused.is
 
-pub bh-shell-condition-spec : {M : Type 1} → statement M
-bh-shell-condition-spec =
+pub bh_shell_condition_spec : {M : Type 1} → statement M
+bh_shell_condition_spec =
     tie.close
     (tie.spec
     shell-condition-requires
