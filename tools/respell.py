@@ -113,7 +113,7 @@ def main(root):
         # names that this file takes from the library keep their spelling
         kit = taken(text, crates)
         mine = dict(table)
-        here = "Rattle." + os.path.relpath(p, os.path.join(root, "crates"))[:-5].replace("/", ".")
+        here = "Rattle." + os.path.relpath(p, os.path.join(root, "crates"))[:-5].replace("/", ".").split("__")[0]
         for path, words in TYPES.items():
             if here == path:
                 mine |= words
