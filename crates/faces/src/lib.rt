@@ -5,8 +5,8 @@
 // The grouping itself is `grouping::push_all`; here stand the checks. What a caller cites stands in specs/Faces.antt.
 #![tactic(auto)]
 
-ghost use Rattle.std.specs.Prelude.{◌≡◌, ◌≤◌, length, ltb};
-ghost use Rattle.mesh.specs.Limits.{ring_limit, face_limit};
+ghost use Rattle.std.specs.Prelude.{◌≡◌, ◌≤◌, length};
+ghost use Rattle.mesh.specs.Limits.{face_limit};
 ghost use Rattle.mesh.specs.Table as table;
 ghost use Rattle.faces.specs.Faces as want;
 
@@ -32,10 +32,7 @@ pub fn push(corners: &[u32], sizes: &[u32], newcorners: &mut [u32], newsizes: &m
     if number != 0 {
         return refused(number);
     }
-    if newcorners.len() < corners.len() {
-        return refused(9);
-    }
-    if newsizes.len() < sizes.len() {
+    if newcorners.len() < corners.len() || newsizes.len() < sizes.len() {
         return refused(9);
     }
     let made = grouping::push_all(corners, sizes, newcorners, newsizes);
@@ -51,13 +48,14 @@ fn refused(number: u32) -> Pushed
     ensures { result ≡ want.refused_by number }
 {
     Pushed {
-        number: number,
+        number,
         corners: 0,
         faces: 0,
     }
 }
 
 // Rows 1 to 3 of the table, for faces that need not be grouped.
+#[tactic(auto, unfolding(crate::specs::Faces::faces_number))]
 fn faces_number(corners: &[u32], sizes: &[u32]) -> u32
     ensures { result ≡ want.faces_number corners.now sizes.now }
 {
@@ -74,42 +72,26 @@ fn faces_number(corners: &[u32], sizes: &[u32]) -> u32
 }
 
 // Row 1: there are more corner numbers than limit times width, or more face sizes than the limit.
+#[tactic(auto, unfolding(mesh::specs::Table::over_limits))]
 fn over_limits(corners: &[u32], sizes: &[u32]) -> bool
     ensures { result ≡ table.over_limits (want.bare corners.now sizes.now) }
 {
-    if mesh::CORNER_NUMBERS < corners.len() {
-        return true;
-    }
-    mesh::FACES < sizes.len()
+    mesh::CORNER_NUMBERS < corners.len() || mesh::FACES < sizes.len()
 }
 
 // Row 2: the corner numbers are no multiple of their width, or the sizes don't add up to them.
+#[tactic(auto, unfolding(mesh::specs::Table::uneven))]
 fn uneven(corners: &[u32], sizes: &[u32]) -> bool
     requires { length sizes.now ≤ face_limit }
     ensures { result ≡ table.uneven (want.bare corners.now sizes.now) }
 {
-    if corners.len() % mesh::WIDTH != 0 {
-        return true;
-    }
-    mesh::WIDTH * mesh::offset(sizes, sizes.len()) != corners.len()
+    corners.len() % mesh::WIDTH != 0
+        || mesh::WIDTH * mesh::offset(sizes, sizes.len()) != corners.len()
 }
 
 // Row 3: a face has more corners than the limit. One of fewer than three is no fault; it is dropped.
 fn too_large(sizes: &[u32]) -> bool
     ensures { result ≡ want.too_large sizes.now }
 {
-    let mut k: usize = 0;
-    while k < sizes.len() {
-        if is_too_large(sizes[k]) {
-            return true;
-        }
-        k += 1;
-    }
-    false
-}
-
-fn is_too_large(n: u32) -> bool
-    ensures { result ≡ ltb ring_limit n }
-{
-    mesh::RING < n as usize
+    sizes.iter().any(|n| mesh::RING < *n as usize)
 }
