@@ -1,11 +1,13 @@
 -- Stores to places in a row are one piece that is written. Assumes nothing.
-use mathlib.Core.Path.{◌≡◌}
-use mathlib.Core.List.{List, [], ◌∷◌}
+use mathlib.Core.Path.{◌≡◌, sym, ap, ◌∙◌}
+use mathlib.Core.List.{List, [], ◌∷◌, ◌++◌}
 use Prim.Native.Nat.{ℕ, suc, ◌+◌, ◌≤◌, ◌<◌}
 use native.Mathlib.Numerals.{towards_suc}
 use native.Mathlib.Omega.{arith}
 use lib.ListN.{length, get_or, take, drop, set}
-use lib.Seq.{sets, drop-cons}
+use lib.Seq.{sets, sets-eq, drop-cons}
+use Rattle.std.proofs.lemmas.List.{append_assoc, drop-drop}
+use borrow.Rule.Slice.PartMut.{put_mid}
 
 module _ {A : Type 0} (l : List A) (b : ℕ) where
   pub two_stores : (x y : A) → set (set l b x) (b + 1) y ≡ sets l b (x ∷ y ∷ [])
@@ -30,3 +32,11 @@ module _ {A : Type 0} (d : A) (from to : List A) (a b : ℕ) where
       let y : suc a < length from = omega arith in
       let z : suc (suc a) < length from = omega arith in
       simp towards_suc (rw (drop-cons from a d x, drop-cons from (suc a) d y, drop-cons from (suc (suc a)) d z))
+
+module _ {A : Type 0} where
+  -- what stands in a part of a list, of k places from the a-th on, is written there one after the other
+  pub put_mid-sets : (a k : ℕ) (xs ys zs : List A) → ys ≡ zs → length zs ≡ k → a + length zs ≤ length xs → put_mid a k xs ys ≡ sets xs a zs
+  put_mid-sets a k xs ys zs e q fits =
+      ap (λ l. take a xs ++ (l ++ drop k (drop a xs))) e
+      ∙ ap (λ l. take a xs ++ (zs ++ l)) (drop-drop k a xs ∙ ap (λ n. drop (a + n) xs) (sym q))
+      ∙ sym (sets-eq zs xs a fits ∙ append_assoc (take a xs) zs _)

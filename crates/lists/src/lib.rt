@@ -22,26 +22,10 @@ pub fn next_of(i: usize, n: usize) -> usize
     if i + 1 < n { i + 1 } else { 0 }
 }
 
-// The numbers of `part` go to `out`, from place `at` on.
-pub fn put(part: &[u32], out: &mut [u32], at: usize)
+// What stands in `part` goes to `out`, from place `at` on, bit for bit.
+pub fn put<T: Copy>(part: &[T], out: &mut [T], at: usize)
     requires { at + length part.now ≤ length out.old }
     ensures { out.new ≡ sets out.old at part.now }
 {
-    let mut i: usize = 0;
-    while i < part.len() {
-        out[at + i] = part[i];
-        i += 1;
-    }
-}
-
-// The coordinates of `part` go to `out`, from place `at` on, bit for bit.
-pub fn put_coordinates(part: &[f64], out: &mut [f64], at: usize)
-    requires { at + length part.now ≤ length out.old }
-    ensures { out.new ≡ sets out.old at part.now }
-{
-    let mut i: usize = 0;
-    while i < part.len() {
-        out[at + i] = part[i];
-        i += 1;
-    }
+    out[at..at + part.len()].copy_from_slice(part);
 }
