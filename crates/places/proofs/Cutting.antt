@@ -11,11 +11,11 @@ use Rattle.lists.specs.Lists.{every, joined}
 use Rattle.lists.proofs.Bools.{and_both}
 use Rattle.lists.proofs.Parts.{joined_append, every_append, every_take, every_drop}
 use Rattle.splitting.specs.Splitting.{folded_by, first_mated, mate_of, first_by, second_by, between, around, split_by, pieces_by}
-use Rattle.splitting.proofs.Search.{Pair, folded_found, folded_missing, folded_pair}
+use Rattle.splitting.proofs.Search.{Pair, folded_found, folded_missing}
 use Rattle.splitting.proofs.Splitting.{split_cut}
 use Rattle.splitting.proofs.Pieces.{pieces_cut}
-use Rattle.places.specs.Working.{is_place, Places, Room, Taken, Parted}
-use Rattle.places.proofs.Turning.{rear_part, both_parts}
+use Rattle.places.specs.Working.{is_place, Places, Found, Room, Taken, Parted}
+use Rattle.places.proofs.Parting.{rear_part, both_parts}
 use Rattle.places.proofs.Taking.{taken_both, room_less, room_left}
 
 -- ---- the row that begins at i
@@ -50,23 +50,15 @@ places_turned face r t i e h =
 pub not_folded : (key : ℕ → ℕ) (r : List ℕ) (i : ℕ) → i ≡ first_mated (map key r) → length r ≤ i → folded_by key r ≡ false
 not_folded key r i e h = folded_missing key r (omega arith)
 
--- the search has found i and j in the row r
-pub record Found (key : ℕ → ℕ) (r : List ℕ) (i j : ℕ) : Type 0 where
-  pub first : i ≡ first_mated (map key r)
-  pub within : i < length r
-  pub second : j ≡ mate_of (map key r) i
-
 module _ {key : ℕ → ℕ} {r : List ℕ} {i j : ℕ} (s : Found key r i j) where
   is_folded : folded_by key r ≡ true
-  is_folded = folded_found key r (omega (arith, s.first, s.within))
+  is_folded = folded_found key r (omega (arith, s.first, s.ordered, s.within))
 
   second : j ≡ mate_of (map key r) (first_mated (map key r))
   second = s.second ∙ ap (mate_of (map key r)) s.first
 
-  pub cut : Pair r i j
-  cut =
-      let q = folded_pair key r is_folded in
-      record { ordered = omega (arith, s.first, second, q.ordered); within = omega (arith, second, q.within) }
+  cut : Pair r i j
+  cut = record { ordered = s.ordered; within = s.within }
 
   -- t is the row that begins at i
   module _ {t : List ℕ} (e : t ≡ drop i r ++ take i r) where

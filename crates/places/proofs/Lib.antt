@@ -1,5 +1,5 @@
 pub mod Seeking
-pub mod Turning
+pub mod Parting
 pub mod Taking
 pub mod Cutting
 pub mod Corners

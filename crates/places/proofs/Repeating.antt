@@ -4,9 +4,8 @@ use mathlib.Core.Path.{◌≡◌, refl, sym, ap, ◌∙◌}
 use mathlib.Core.Bool.{true, false}
 use mathlib.Core.Logic.{⊎_elim}
 use mathlib.Core.List.{List, [], ◌∷◌, ◌++◌, map, append-nil}
-use Prim.Native.Nat.{ℕ, zero, suc, ◌+◌, ◌-◌, ◌≤◌, ◌<◌}
+use Prim.Native.Nat.{ℕ, zero, suc, ◌-◌, ◌≤◌, ◌<◌}
 use native.Mathlib.Nat.{eq-or-lt_of_le}
-use native.Mathlib.Numerals.{add-one}
 use native.Mathlib.Omega.{arith}
 use lib.ListN.{length, get_or, take, drop, length-map, length-drop, drop_of_length-le}
 use lib.Seq.{take_all}
@@ -20,29 +19,9 @@ use Rattle.splitting.specs.Splitting.{mate_of, first_mated, folded_by, split_by,
 use Rattle.splitting.proofs.Search.{mate_after, mate_first, first_first}
 use Rattle.splitting.proofs.Splitting.{split_whole}
 use Rattle.splitting.proofs.Pieces.{pieces_vanish}
-use Rattle.places.specs.Working.{is_place, Places, Repeats, Room, Parted}
+use Rattle.places.specs.Working.{is_place, Places, Found, Repeats, Room, Parted}
 use Rattle.places.proofs.Taking.{room_less}
-use Rattle.places.proofs.Cutting.{Found, cut_split, cut_pieces}
-
--- ---- the loop
-
-pub repeats_begin : (key : ℕ → ℕ) (row : List ℕ) → Repeats key row 0
-repeats_begin key row = record { within = λ i h. omega (arith, h); equal = λ i h. absurd (omega (arith, h)) }
-
-pub repeats_more :
-    (key : ℕ → ℕ) (row : List ℕ) (k : ℕ) → Repeats key row k → k + 1 < length row → key (get_or row k 0) ≡ key (get_or row (k + 1) 0)
-    → Repeats key row (k + 1)
-repeats_more key row k r h e = record {
-  within = λ i l. omega (arith, h, l);
-  equal = λ i l.
-      ⊎_elim (λ q. ap (λ (n : ℕ). key (get_or row n 0)) q ∙ e ∙ ap (λ (n : ℕ). key (get_or row n 0)) (add-one k ∙ ap suc (sym q))) (r.equal i)
-      (eq-or-lt_of_le (let u : i ≤ k = omega (arith, l) in u));
-}
-
--- with the place within the row
-pub record Repeating (key : ℕ → ℕ) (row : List ℕ) (k : ℕ) : Type 0 where
-  pub are : Repeats key row k
-  pub within : k ≤ length row
+use Rattle.places.proofs.Cutting.{cut_split, cut_pieces}
 
 -- ---- one place
 
@@ -59,8 +38,9 @@ found_first key r h e =
       first =
           ⊎_elim (λ q. q) (λ l. absurd (let u : length ks ≤ mate_of ks 0 = first_first ks 0 l in omega (arith, u, mate, n, h)))
           (eq-or-lt_of_le (let u : 0 ≤ first_mated ks = omega arith in u));
-      within = omega (arith, h);
       second = mate;
+      ordered = omega arith;
+      within = h;
     }
 
 alone : (key : ℕ → ℕ) (x : ℕ) → folded_by key (x ∷ []) ≡ false

@@ -3,18 +3,15 @@
 use mathlib.Core.Path.{◌≡◌, sym, ap, ap₂, ◌∙◌}
 use mathlib.Core.Bool.{Bool, true, false}
 use mathlib.Core.List.{List, map}
-use Prim.Native.Nat.{ℕ, ◌+◌, ◌*◌, ◌-◌, ◌≤◌, ◌<◌}
+use Prim.Native.Nat.{ℕ, ◌+◌, ◌-◌, ◌≤◌, ◌<◌}
 use native.Mathlib.Nat.{sub-zero}
 use native.Mathlib.Omega.{arith}
 use lib.ListN.{length, get_or, length-map}
 use lib.Dec.{ltb, eqb}
-use borrow.Author.Tests.{ltb-true, lt-ltb, le-ltb, eq-eqb, ne_eqb}
+use borrow.Author.Tests.{lt-ltb, le-ltb, eq-eqb, ne_eqb}
 use Rattle.lists.specs.Numbers.{seek}
 use Rattle.lists.proofs.Changing.{map_at, seek_same}
-use Rattle.lists.proofs.Parts.{every_at}
-use Rattle.mesh.specs.Limits.{width}
 use Rattle.splitting.specs.Splitting.{mate_of, first_mated}
-use Rattle.places.specs.Working.{is_place, Places}
 
 module _ (key : ℕ → ℕ) (row : List ℕ) where
   -- whether the places at i and j have equal keys
@@ -40,12 +37,8 @@ module _ (key : ℕ → ℕ) (row : List ℕ) where
 pub mate_found : (m q n : ℕ) → m ≡ q → m < n → ltb q n ≡ true
 mate_found m q n e h = lt-ltb q n (omega arith)
 
-pub mate_missing : (m q n : ℕ) → m ≡ q → n ≤ m → ltb q n ≡ false
-mate_missing m q n e h = le-ltb q n (omega arith)
-
--- the face has a corner at each place of the row
-pub place_at : (face row : List ℕ) (k : ℕ) → Places face row → k < length row → width * get_or row k 0 < length face
-place_at face row k h l = ltb-true _ _ (every_at (is_place face) 0 row k h l)
+pub mate_missing : (q n : ℕ) → n ≤ q → ltb q n ≡ false
+mate_missing q n h = le-ltb q n h
 
 -- two positions that were read, and are equal or not
 pub keys_equal : (x y a b : ℕ) → x ≡ a → y ≡ b → x ≡ y → eqb a b ≡ true

@@ -63,15 +63,6 @@ pub whole_parted :
     → Parted key r r o o' l l' c f c' f'
 whole_parted key r o o' l l' c f c' f' e t = record { rings = sym (ap joined (split_whole key r e) ∙ append-nil r); taken = t }
 
--- ---- the row that holds another ring's places
-
-pub parted_of :
-    (key : ℕ → ℕ) (r s z o o' l l' : List ℕ) (c f c' f' : ℕ) → r ≡ s → Parted key r z o o' l l' c f c' f' → Parted key s z o o' l l' c f c' f'
-parted_of key r s z o o' l l' c f c' f' e h = rw (sym e) h
-
-pub room_of : (n m : ℕ) (o l : List ℕ) (c f : ℕ) → m ≡ n → Room n o l c f → Room m o l c f
-room_of n m o l c f e h = rw e h
-
 -- ---- room
 
 pub room_less : (n m : ℕ) (o l : List ℕ) (c f : ℕ) → m ≤ n → Room n o l c f → Room m o l c f

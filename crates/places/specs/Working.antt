@@ -1,10 +1,10 @@
 -- What the split of a row of places asks and tells. Assumes nothing.
-use Rattle.std.specs.Prelude.{ℕ, suc, ◌+◌, ◌*◌, ◌%◌, ◌≤◌, ◌<◌, ◌≡◌, Bool, true, List, map, length, get_or, ltb}
+use Rattle.std.specs.Prelude.{ℕ, suc, ◌+◌, ◌*◌, ◌%◌, ◌≤◌, ◌<◌, ◌≡◌, Bool, true, List, map, length, get_or, ltb, Option, MatchOption}
 use Rattle.std.proofs.lemmas.List.Edits.{sets}
 use Rattle.lists.specs.Lists.{every, joined, sum}
 use Rattle.mesh.specs.Limits.{width, least_ring, ring_limit, corner_numbers}
 use Rattle.mesh.specs.Mesh.{position, corner_at}
-use Rattle.splitting.specs.Splitting.{split_by, pieces_by}
+use Rattle.splitting.specs.Splitting.{mate_of, first_mated, split_by, pieces_by}
 
 -- the position of the corner at a place of a face, whose corners lie in one list
 unfoldable pub position_at_lem : List ℕ → ℕ → ℕ
@@ -17,6 +17,17 @@ is_place face p = ltb (width * p) (length face)
 -- each number of the row is a place of the face
 abbrev pub Places : List ℕ → List ℕ → Type 0
 Places face row = every (is_place face) row ≡ true
+
+-- the first place after i with i's key: where there is none, `mate_of` gives the number of places or more
+abbrev pub Mate : (ℕ → ℕ) → List ℕ → ℕ → Option ℕ → Type 0
+Mate key row i found = MatchOption found (length row ≤ mate_of (map key row) i) (λ j. (j ≡ mate_of (map key row) i) × (j < length row))
+
+-- the search has found the places i and j in the row: i is the first that has a mate, and j its mate
+pub record Found (key : ℕ → ℕ) (row : List ℕ) (i j : ℕ) : Type 0 where
+  pub first : i ≡ first_mated (map key row)
+  pub second : j ≡ mate_of (map key row) i
+  pub ordered : i < j
+  pub within : j < length row
 
 -- each of the first k places has a place behind it with its key
 pub record Repeats (key : ℕ → ℕ) (row : List ℕ) (k : ℕ) : Type 0 where

@@ -3,18 +3,19 @@
 // written behind those that were taken before. No level of the calls has a row of its own.
 #![tactic(auto)]
 
-ghost use Rattle.std.specs.Prelude.{◌≡◌, ◌++◌, map, reverse, false, ◌+◌, ◌*◌, ◌<◌, ◌≤◌, length, take, drop};
+ghost use Rattle.std.specs.Prelude.{◌≡◌, map, false, ◌+◌, ◌*◌, ◌<◌, ◌≤◌, length, MatchOption};
 ghost use Rattle.std.proofs.lemmas.List.Edits.{sets};
 ghost use Rattle.lists.specs.Lists.{joined, span};
-ghost use Rattle.mesh.specs.Limits.{width, ring_limit};
+ghost use Rattle.mesh.specs.Limits.{width};
 ghost use Rattle.mesh.specs.Mesh.{corner_at};
-ghost use Rattle.splitting.specs.Splitting.{mate_of, first_mated, folded_by, pieces_by};
-ghost use Rattle.places.specs.Working.{position_at_lem, Places, Repeats, Room, Taken, Parted, Copied};
+ghost use Rattle.splitting.specs.Splitting.{folded_by, pieces_by};
+ghost use Rattle.places.specs.Working.{position_at_lem, Places, Mate, Found, Repeats, Room, Taken, Parted, Copied};
 
 use grouping::Filled;
 use mesh::{LEAST_RING, WIDTH};
 
 // The position of the corner at a place of the face.
+#[tactic(auto, unfolding(crate::specs::Working::position_at_lem))]
 fn position_at(face: &[u32], p: u32) -> u32
     requires { width * p < length face.now }
     ensures { result ≡ position_at_lem face.now p }
@@ -22,36 +23,34 @@ fn position_at(face: &[u32], p: u32) -> u32
     face[WIDTH * (p as usize)]
 }
 
-// The first place after i with i's position, or how many there are.
-fn mate_at(face: &[u32], row: &[u32], i: usize) -> usize
+// The first place after i with i's position.
+fn mate_at(face: &[u32], row: &[u32], i: usize) -> Option<usize>
     requires i_in_bounds { i < length row.now }
     requires places { Places face.now row.now }
-    ensures { result ≡ mate_of (map (position_at_lem face.now) row.now) i }
+    ensures { Mate (position_at_lem face.now) row.now i result }
 {
     let p = position_at(face, row[i]);
-    let mut j: usize = i + 1;
-    while j < row.len() {
+    for j in i + 1..row.len() {
         if p == position_at(face, row[j]) {
-            return j;
+            return Some(j);
         }
-        j += 1;
     }
-    j
+    None
 }
 
-// The first place that has such a mate, or how many there are.
-fn first_at(face: &[u32], row: &[u32]) -> usize
+// The first place that has such a mate, and its mate.
+fn first_pair(face: &[u32], row: &[u32]) -> Option<(usize, usize)>
     requires { Places face.now row.now }
-    ensures { result ≡ first_mated (map (position_at_lem face.now) row.now) }
+    ensures { MatchOption result
+        (folded_by (position_at_lem face.now) row.now ≡ false)
+        (λ p. Found (position_at_lem face.now) row.now p.0 p.1) }
 {
-    let mut i: usize = 0;
-    while i < row.len() {
-        if mate_at(face, row, i) < row.len() {
-            return i;
+    for i in 0..row.len() {
+        if let Some(j) = mate_at(face, row, i) {
+            return Some((i, j));
         }
-        i += 1;
     }
-    i
+    None
 }
 
 // How many places at the row's beginning have the position of the one behind them.
@@ -59,39 +58,12 @@ fn repeats(face: &[u32], row: &[u32]) -> usize
     requires { Places face.now row.now }
     ensures { Repeats (position_at_lem face.now) row.now result }
 {
-    let mut k: usize = 0;
-    while k + 1 < row.len() {
-        let p = position_at(face, row[k]);
-        if p != position_at(face, row[k + 1]) {
-            return k;
+    for k in 1..row.len() {
+        if position_at(face, row[k - 1]) != position_at(face, row[k]) {
+            return k - 1;
         }
-        k += 1;
     }
-    k
-}
-
-// The row, the other way round.
-fn turn_round(row: &mut [u32])
-    ensures { row.new ≡ reverse row.old }
-{
-    let n = row.len();
-    let mut k: usize = 0;
-    while k + k + 1 < n {
-        let a = row[k];
-        row[k] = row[n - 1 - k];
-        row[n - 1 - k] = a;
-        k += 1;
-    }
-}
-
-// The row begins with what stood at i; what stood before it goes to the end.
-fn rotate(row: &mut [u32], i: usize)
-    requires { i ≤ length row.old }
-    ensures { row.new ≡ drop i row.old ++ take i row.old }
-{
-    turn_round(&mut row[..i]);
-    turn_round(&mut row[i..]);
-    turn_round(row);
+    row.len().saturating_sub(1)
 }
 
 // A ring that is not folded is one piece where it has three places or more.
@@ -106,13 +78,11 @@ fn put_piece(face: &[u32], row: &[u32], took: &mut [u32], lens: &mut [u32], at: 
     if n < LEAST_RING {
         return at;
     }
-    let c = at.corners;
-    let f = at.faces;
-    lists::put(row, took, c);
-    lens[f] = n as u32;
+    lists::put(row, took, at.corners);
+    lens[at.faces] = n as u32;
     Filled {
-        corners: c + n,
-        faces: f + 1,
+        corners: at.corners + n,
+        faces: at.faces + 1,
     }
 }
 
@@ -136,28 +106,13 @@ fn split_places(
     if 0 < s {
         return split_places(face, &mut row[s..], took, lens, at);
     }
-    let n = row.len();
-    let i = first_at(face, row);
-    if i < n {
-        let j = mate_at(face, row, i);
+    if let Some((i, j)) = first_pair(face, row) {
         let m = j - i;
-        rotate(row, i);
+        row.rotate_left(i);
         let mid = split_places(face, &mut row[..m], took, lens, at);
         return split_places(face, &mut row[m..], took, lens, mid);
     }
     put_piece(face, row, took, lens, at)
-}
-
-// The places 0, 1, .. to the whole row.
-fn all_places(row: &mut [u32])
-    requires { length row.old ≤ ring_limit }
-    ensures { row.new ≡ span 0 (length row.old) }
-{
-    let mut k: usize = 0;
-    while k < row.len() {
-        row[k] = k as u32;
-        k += 1;
-    }
 }
 
 // The pieces of a face, place by place. The row has an entry for each of its corners; what stands there before does not matter.
@@ -174,7 +129,7 @@ pub fn split_ring(
         took.old took.new lens.old lens.new
         at.corners at.faces result.corners result.faces }
 {
-    all_places(row);
+    sorting::count_up(row);
     split_places(face, row, took, lens, at)
 }
 
@@ -191,10 +146,7 @@ pub fn put_places(face: &[u32], places: &[u32], out: &mut [u32], at: usize)
     requires { Copied face.now places.now out.old at }
     ensures { out.new ≡ sets out.old at (joined (map (corner_at face.now) places.now)) }
 {
-    let mut k: usize = 0;
-    while k < places.len() {
-        let corner = mesh::corner_at(face, places[k] as usize);
-        put_corner(corner, out, at + WIDTH * k);
-        k += 1;
+    for (k, p) in places.iter().enumerate() {
+        put_corner(mesh::corner_at(face, *p as usize), out, at + WIDTH * k);
     }
 }
