@@ -6,7 +6,7 @@ use native.Mathlib.Omega.{arith}
 use lib.ListN.{length, set}
 use Rattle.lists.specs.Lists.{each}
 use Rattle.lists.specs.Putting.{Room, Written}
-use Rattle.lists.proofs.Listing.{written_long, written_one, written_then, room_first, room_then}
+use Rattle.lists.proofs.Listing.{written_one, written_then, room_first, room_then}
 use Rattle.text.specs.Text.{digit_byte, decimal, spaced}
 use Rattle.text.proofs.Decimals.{decimal_small, decimal_more}
 
@@ -32,14 +32,6 @@ pub written_last :
 written_last n d o o1 at m h e w =
     rw (decimal_more n h, ← e) (written_then (decimal (n / 10)) (d ∷ []) o o1 (set o1 m d) at m (m + 1) w (written_one d o1 m))
 
--- a number behind a space
-pub room_number : (n : ℕ) (o : List ℕ) (at : ℕ) → Room (32 ∷ decimal n) o at → Room (decimal n) (set o at 32) (at + 1)
-room_number n o at r = room_then (32 ∷ []) (decimal n) o (set o at 32) at (at + 1) r (written_one 32 o at)
-
-pub written_number :
-    (n : ℕ) (o o1 : List ℕ) (at next : ℕ) → Written (decimal n) (set o at 32) o1 (at + 1) next → Written (32 ∷ decimal n) o o1 at next
-written_number n o o1 at next w = written_then (32 ∷ []) (decimal n) o (set o at 32) o1 at (at + 1) next (written_one 32 o at) w
-
 -- numbers, each behind a space
 abbrev pub number_text : ℕ → List ℕ
 number_text n = 32 ∷ decimal n
@@ -47,22 +39,6 @@ number_text n = 32 ∷ decimal n
 pub spaced_numbers : (ns : List ℕ) → spaced (map decimal ns) ≡ each number_text ns
 spaced_numbers [] = refl
 spaced_numbers (n ∷ ns) = ap (λ (l : List ℕ). number_text n ++ l) (spaced_numbers ns)
-
--- a line: a word a, what follows it, b, and the line feed
-pub room_word : (a b o : List ℕ) (at : ℕ) → Room (a ++ b ++ 10 ∷ []) o at → Room a o at
-room_word a b o at r = room_first a b o at (room_first (a ++ b) (10 ∷ []) o at r)
-
-pub room_rest : (a b o o1 : List ℕ) (at m : ℕ) → Room (a ++ b ++ 10 ∷ []) o at → Written a o o1 at m → Room b o1 m
-room_rest a b o o1 at m r w = room_then a b o o1 at m (room_first (a ++ b) (10 ∷ []) o at r) w
-
-pub room_feed :
-    (a b o o1 o2 : List ℕ) (at m next : ℕ) → Room (a ++ b ++ 10 ∷ []) o at → Written a o o1 at m → Written b o1 o2 m next
-    → (next + 1 ≤ length o) × (length o2 ≡ length o)
-room_feed a b o o1 o2 at m next r v w =
-    let both : Written (a ++ b) o o2 at next = written_then a b o o1 o2 at m next v w in
-    let l : Room (10 ∷ []) o2 next = room_then (a ++ b) (10 ∷ []) o o2 at next r both in
-    let n : length o2 ≡ length o = written_long (a ++ b) o o2 at next both in
-    (omega (arith, l.fits), n)
 
 pub written_line :
     (a b o o1 o2 : List ℕ) (at m next : ℕ) → Written a o o1 at m → Written b o1 o2 m next

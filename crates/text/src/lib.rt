@@ -15,7 +15,7 @@ pub fn put_line(word: &[u8], ns: &[u32], out: &mut [u8], at: usize) -> usize
 {
     let start = put_bytes(word, out, at);
     let end = put_numbers(ns, out, start);
-    out[end] = 10;
+    out[end] = b'\n';
     end + 1
 }
 
@@ -24,11 +24,7 @@ pub fn put_bytes(text: &[u8], out: &mut [u8], at: usize) -> usize
     requires { Room text.now out.old at }
     ensures { Written text.now out.old out.new at result }
 {
-    let mut i: usize = 0;
-    while i < text.len() {
-        out[at + i] = text[i];
-        i += 1;
-    }
+    lists::put(text, out, at);
     at + text.len()
 }
 
@@ -38,10 +34,8 @@ fn put_numbers(ns: &[u32], out: &mut [u8], at: usize) -> usize
     ensures { Written (spaced (map decimal ns.now)) out.old out.new at result }
 {
     let mut to = at;
-    let mut i: usize = 0;
-    while i < ns.len() {
-        to = put_number(long(ns[i]), out, to);
-        i += 1;
+    for n in ns {
+        to = put_number(u64::from(*n), out, to);
     }
     to
 }
@@ -50,7 +44,7 @@ fn put_numbers(ns: &[u32], out: &mut [u8], at: usize) -> usize
 pub fn long(n: u32) -> u64
     ensures { result ≡ n }
 {
-    n as u64
+    u64::from(n)
 }
 
 // A number behind a space. It has 64 bits, as a length may need them.
@@ -58,7 +52,7 @@ pub fn put_number(n: u64, out: &mut [u8], at: usize) -> usize
     requires { Room (32 ∷ decimal n) out.old at }
     ensures { Written (32 ∷ decimal n) out.old out.new at result }
 {
-    out[at] = 32;
+    out[at] = b' ';
     put_decimal(n, out, at + 1)
 }
 
@@ -80,5 +74,5 @@ fn digit(d: u64) -> u8
     requires { d < 10 }
     ensures { result ≡ digit_byte d }
 {
-    48 + d as u8
+    b'0' + d as u8
 }
