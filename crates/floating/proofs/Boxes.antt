@@ -96,9 +96,6 @@ module _ (s : List Float) where
   count : length scaled_points ≡ length s / 3
   count = length-map (points_of s) (scaled_in (box_of (points_of s))) ∙ length_points s
 
-  pub scaling_begins : (l : List Float) → Scaling s l l 0
-  scaling_begins l = record { within = omega arith; written = refl; long = refl }
-
   one_more : (l : List Float) (i : ℕ) → i < length s / 3
       → sets (sets l 0 (each coordinates (take i scaled_points))) (3 * i) (coordinates (scaled_in (box_of (points_of s)) (point_at s i))) ≡ sets l 0 (each coordinates (take (i + 1) scaled_points))
   one_more l i h =

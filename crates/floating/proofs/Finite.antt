@@ -1,70 +1,28 @@
--- What is finite lies between the two infinities, and is no NaN; and what three finite lists say of each. Assumes nothing.
-use mathlib.Core.Path.{◌≡◌, refl, sym, ◌∙◌}
-use mathlib.Core.Bool.{Bool, true, false, not, ◌&&◌, ◌||◌}
-use mathlib.Core.List.{List, [], ◌∷◌}
+-- What is finite is so by the library too, and is no NaN; and what three finite lists say of each. Assumes nothing.
+use mathlib.Core.Path.{◌≡◌, refl, sym}
+use mathlib.Core.Bool.{true, not, ◌&&◌}
+use mathlib.Core.List.{List}
 use lib.Dec.{T}
-use lib.Ieee.{Float, nan, inf, fin, binary64, of_bits, div, neg, lt, is_nan}
-use Rattle.lists.specs.Lists.{some, every}
+use Rattle.std.specs.Float.{float_is_finite}
+use lib.Ieee.{Float, nan, inf, fin, is_nan}
+use Rattle.lists.specs.Lists.{every}
 use Rattle.lists.proofs.Bools.{and_both, and_left, and_right, true_false}
 use Rattle.floating.specs.Limits.{finite, all_finite}
 
 -- ---- one number
 
--- the infinities, which the code makes by a division
-pub most_made : div binary64 (of_bits binary64 0x3ff0_0000_0000_0000) (of_bits binary64 0) ≡ inf false
-unfolding div of_bits
-most_made = refl
-
-pub least_made : div binary64 (neg (of_bits binary64 0x3ff0_0000_0000_0000)) (of_bits binary64 0) ≡ inf true
-unfolding div of_bits neg
-least_made = refl
-
-pub above_least : (x : Float) → lt (inf true) x ≡ true → lt x (inf false) ≡ finite x
-unfolding lt finite
-above_least nan h = true_false (sym h)
-above_least (inf false) h = refl
-above_least (inf true) h = true_false (sym h)
-above_least (fin s m e) h = refl
-
-pub not_above_least : (x : Float) → lt (inf true) x ≡ false → false ≡ finite x
-unfolding lt finite
-not_above_least nan h = refl
-not_above_least (inf s) h = refl
-not_above_least (fin s m e) h = true_false h
+-- what the library says of a number
+pub finite_is : (x : Float) → float_is_finite x ≡ finite x
+unfolding float_is_finite finite
+finite_is nan = refl
+finite_is (inf s) = refl
+finite_is (fin s m e) = refl
 
 pub no_nan : (x : Float) → finite x ≡ true → T (not (is_nan x))
 unfolding finite is_nan
 no_nan nan h = true_false (sym h)
 no_nan (inf s) h = tt
 no_nan (fin s m e) h = tt
-
--- ---- a list
-
--- one that is not finite, which the code looks for
-abbrev pub broken : Float → Bool
-broken x = not (finite x)
-
-some_broken : (l : List Float) → some broken l ≡ not (every finite l)
-some_broken [] = refl
-some_broken (x ∷ l) = go (finite x) (some_broken l)
-  where
-    go : (b : Bool) → some broken l ≡ not (every finite l) → (not b || some broken l) ≡ not (b && every finite l)
-    go true e = e
-    go false e = refl
-
-pub one_broken : (l : List Float) → true ≡ some broken l → false ≡ every finite l
-one_broken l h = go (every finite l) (h ∙ some_broken l)
-  where
-    go : (b : Bool) → true ≡ not b → false ≡ b
-    go true e = true_false e
-    go false e = refl
-
-pub none_broken : (l : List Float) → false ≡ some broken l → true ≡ every finite l
-none_broken l h = go (every finite l) (h ∙ some_broken l)
-  where
-    go : (b : Bool) → false ≡ not b → true ≡ b
-    go true e = refl
-    go false e = true_false (sym e)
 
 -- ---- the three lists of a mesh
 

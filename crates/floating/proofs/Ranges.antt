@@ -11,7 +11,7 @@ use lib.Pow.{pow_pos}
 use lib.Ieee.{Float, nan, inf, fin, up, down, binary64, of_bits, neg, lt, eq, le}
 use lib.Ieee.Fits.{down_pos}
 use borrow.Author.Tests.{lt-ltb, le-leb, lt-leb, eq-eqb, ne_eqb, ltb-true, ltb-false}
-use Rattle.lists.proofs.Bools.{by_cases, true_false}
+use Rattle.lists.proofs.Bools.{by_cases}
 use Rattle.lists.proofs.Others.{eqb_flip}
 use Rattle.floating.proofs.Literals.{one_is, least_is, most_is, edge_is}
 use Rattle.floating.specs.Limits.{power, unfit, boundless, far}
@@ -113,23 +113,13 @@ bounded_tests x = record { are = rw most_is (bounded x) }
 pub short_tests : (x : Float) → Tests (lt (neg (of_bits binary64 0x4340_0000_0000_0000)) x) (lt x (of_bits binary64 0x4340_0000_0000_0000)) (far x)
 short_tests x = record { are = rw edge_is (short x) }
 
-module _ {a b z : Bool} (e : Tests a b z) where
-  pub both_hold : a ≡ true → b ≡ true → false ≡ z
-  both_hold p q = go z (sym e.are ∙ rw (p, q))
-    where
-      go : (z : Bool) → not z ≡ true → false ≡ z
-      go false h = refl
-      go true h = true_false (sym h)
+module _ {a b z r : Bool} (e : Tests a b z) where
+  refused : r ≡ (a && b) → not r ≡ z
+  refused h = ap not (h ∙ e.are) ∙ sym (twice z)
 
-  fails : (a && b) ≡ false → true ≡ z
-  fails p = go z (sym e.are ∙ p)
-    where
-      go : (z : Bool) → not z ≡ false → true ≡ z
-      go true h = refl
-      go false h = true_false h
+  -- the second test is asked where the first holds
+  pub first_holds : a ≡ true → r ≡ b → not r ≡ z
+  first_holds p h = refused (rw p h)
 
-  pub second_fails : a ≡ true → b ≡ false → true ≡ z
-  second_fails p q = fails (rw (p, q))
-
-  pub first_fails : a ≡ false → true ≡ z
-  first_fails p = fails (rw p)
+  pub first_fails : a ≡ false → r ≡ a → not r ≡ z
+  first_fails p h = refused (rw p (h ∙ p))

@@ -11,10 +11,9 @@ use lib.Ieee.{Float, nan, binary64, add}
 use Rattle.lists.specs.Lists.{some}
 use Rattle.lists.proofs.Copies.{map_take}
 use Rattle.lists.proofs.Parts.{some_take, some_drop}
-use Rattle.floating.specs.Points.{coordinates, leading, point, point_at, texel_at, row}
+use Rattle.floating.specs.Points.{coordinates, leading, point, point_at, points_of, row}
 use Rattle.floating.specs.Near.{square, sum_from, squared}
 use Rattle.floating.specs.declared.Point.{Point}
-use Rattle.floating.specs.declared.Texel.{Texel}
 
 -- point i of n fits
 pub row_fits : (w i n : ℕ) → i < n → w * i + w ≤ w * n
@@ -60,24 +59,28 @@ pub point_row : (s : List Float) (i : ℕ) → 3 * i + 3 ≤ length s → coordi
 unfolding point_at
 point_row s i h = sym (row_three nan s i h)
 
-pub texel_row : (s : List Float) (i : ℕ) → 2 * i + 2 ≤ length s → ((texel_at s i).u ∷ (texel_at s i).v ∷ []) ≡ row 2 s i
-unfolding texel_at
-texel_row s i h = sym (row_two nan s i h)
-
 -- a width that is not 2 is 3
 pub three : (w : ℕ) → (w ≡ 2 → ⊥) → 2 ≤ w → w ≤ 3 → w ≡ 3
 three w a b c = omega arith
 
--- point i at a width that is 2, and at one that is 3
-pub texel_attr : (w : ℕ) (s : List Float) (i : ℕ) (p : Texel) (z : Float) → w ≡ 2 → w * i + w ≤ length s → p ≡ texel_at s i → leading w (point p.u p.v z) ≡ row w s i
-texel_attr w s i p z e h q =
-    subst (λ (k : ℕ). leading k (point p.u p.v z) ≡ row k s i) (sym e)
-    (ap (λ (t : Texel). t.u ∷ t.v ∷ []) q ∙ texel_row s i (subst (λ (k : ℕ). k * i + k ≤ length s) e h))
+-- point i at a width that is 2, with any third coordinate, and at one that is 3
+pub attr_two :
+    (w : ℕ) (s : List Float) (i : ℕ) (z : Float) → w ≡ 2 → w * i + w ≤ length s
+    → leading w (point (get_or s (w * i) nan) (get_or s (w * i + 1) nan) z) ≡ row w s i
+attr_two w s i z e =
+    subst (λ (k : ℕ). k * i + k ≤ length s → leading k (point (get_or s (k * i) nan) (get_or s (k * i + 1) nan) z) ≡ row k s i) (sym e)
+    (λ h. sym (row_two nan s i h))
 
-pub point_attr : (w : ℕ) (s : List Float) (i : ℕ) (p : Point) → w ≡ 3 → w * i + w ≤ length s → p ≡ point_at s i → leading w p ≡ row w s i
-point_attr w s i p e h q =
-    subst (λ (k : ℕ). leading k p ≡ row k s i) (sym e)
-    (ap coordinates q ∙ point_row s i (subst (λ (k : ℕ). k * i + k ≤ length s) e h))
+pub attr_three :
+    (w : ℕ) (s : List Float) (i : ℕ) → w ≡ 3 → w * i + w ≤ length s
+    → leading w (point (get_or s (w * i) nan) (get_or s (w * i + 1) nan) (get_or s (w * i + 2) nan)) ≡ row w s i
+attr_three w s i e =
+    subst (λ (k : ℕ). k * i + k ≤ length s → leading k (point (get_or s (k * i) nan) (get_or s (k * i + 1) nan) (get_or s (k * i + 2) nan)) ≡ row k s i) (sym e)
+    (λ h. sym (row_three nan s i h))
+
+-- a point of width 3 is its row
+pub attr_point : (s : List Float) (i : ℕ) (p : Point) → 3 * i + 3 ≤ length s → leading 3 p ≡ row 3 s i → p ≡ point_at s i
+attr_point s i p h e = ap (λ (l : List Float). get_or (points_of l) 0 p) (e ∙ sym (point_row s i h))
 
 -- ---- the squared distance at a width that is 2, and at one that is 3
 

@@ -5,5 +5,3 @@ pub mod Scaling
 pub mod Cells
 pub mod Near
 pub mod Promises
--- steps of the code, which a caller does not need
-pub mod Bits

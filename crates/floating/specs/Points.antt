@@ -17,12 +17,9 @@ coordinates p = p.x ∷ p.y ∷ p.z ∷ []
 abbrev pub leading : ℕ → Point → List Float
 leading w p = take w (coordinates p)
 
--- point i, and texture point i, of a flat list
+-- point i of a flat list
 unfoldable pub point_at : List Float → ℕ → Point
 point_at s i = point (get_or s (3 * i) nan) (get_or s (3 * i + 1) nan) (get_or s (3 * i + 2) nan)
-
-unfoldable pub texel_at : List Float → ℕ → Texel
-texel_at s i = texel (get_or s (2 * i) nan) (get_or s (2 * i + 1) nan)
 
 -- the points of a flat list, three coordinates each
 abbrev pub points_of : List Float → List Point

@@ -1,6 +1,6 @@
 -- Positions are first scaled on each axis, as document 01, 'Merging', has it: one f64 operation at a time, in the order written.
 -- Assumes nothing.
-use Rattle.std.specs.Prelude.{cond, List, [], ◌∷◌, map, pos, Float}
+use Rattle.std.specs.Prelude.{◌≡◌, cond, List, [], ◌∷◌, map, pos, Float}
 use Rattle.std.specs.Float.{nan, binary64}
 use Rattle.std.specs.Float.Ieee.{add, sub, mul, div, lt}
 use Rattle.lists.specs.Lists.{each}
@@ -39,6 +39,10 @@ axes1 f p = point (f p.x) (f p.y) (f p.z)
 
 abbrev pub axes2 : (Float → Float → Float) → Point → Point → Point
 axes2 f p q = point (f p.x q.x) (f p.y q.y) (f p.z q.z)
+
+-- r is what a step that answers by `post` makes of p and q on each axis: whatever rule the step keeps to, r is by it
+abbrev pub OnAxes : (Float → Float → Float → Type 0) → Point → Point → Point → Type 0
+OnAxes post p q r = (f : Float → Float → Float) → ((a b c : Float) → post a b c → c ≡ f a b) → r ≡ axes2 f p q
 
 abbrev pub axes3 : (Float → Float → Float → Float) → Point → Point → Point → Point
 axes3 f p q r = point (f p.x q.x r.x) (f p.y q.y r.y) (f p.z q.z r.z)

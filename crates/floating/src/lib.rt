@@ -3,17 +3,16 @@
 // Clients cite specs/: `unfit`, `boundless`, `distant` and `finite` of the table, `scaled_list`, `cell`, `compared` and `near`.
 #![tactic(auto)]
 
-ghost use Rattle.std.specs.Prelude.{◌≡◌, Bool, true, false, not, ◌&&◌, List, [], ◌∷◌, map, ℕ, ◌+◌, ◌*◌, ◌^◌, ◌≤◌, ◌<◌, ◌/◌, min, T, length, get_or, Float};
+ghost use Rattle.std.specs.Prelude.{◌≡◌, false, ◌+◌, ◌*◌, ◌≤◌, length};
 ghost use Rattle.std.proofs.lemmas.List.Edits.{sets};
 ghost use Rattle.std.specs.Float.{binary64};
-ghost use Rattle.std.specs.Float.Ieee.{of_bits, nan_bits, add, div};
+ghost use Rattle.std.specs.Float.Ieee.{of_bits, add, div};
 ghost use Rattle.lists.specs.Lists.{every};
 ghost use Rattle.floating.specs.Limits.{unfit, boundless, far, distant, finite};
-ghost use Rattle.floating.specs.Points.{coordinates, leading, point_at, texel_at, points_of, row, Whole};
-ghost use Rattle.floating.specs.Scaling.{lesser, greater, scaled_of, axes1, axes2, axes3, box_with, box_of, centre, divisor, scaled_list};
-ghost use Rattle.floating.specs.Cells.{cut, place, beside};
+ghost use Rattle.floating.specs.Points.{coordinates, leading, points_of, row, Whole};
+ghost use Rattle.floating.specs.Scaling.{lesser, greater, scaled_of, OnAxes, axes1, axes2, axes3, box_with, box_of, centre, divisor, scaled_list};
+ghost use Rattle.floating.specs.Cells.{cut, place};
 ghost use Rattle.floating.specs.Near.{squared};
-ghost use Rattle.floating.specs.Bits.{whole_of};
 
 // A position or a normal; a texture point; the box of some positions.
 #[derive(Clone, Copy)]
@@ -35,18 +34,6 @@ pub struct Bounds {
     pub greatest: Point,
 }
 
-// The bits of an f64: its sign above all, then its exponent, then its fraction. The bit that a fraction leaves out stands for 1 where the
-// exponent is EXPONENT_OF_ONE; at EXPONENT_OF_WHOLE a number is just its bits; INFINITY is the greatest that are no NaN's.
-const SIGN: u64 = 0x8000_0000_0000_0000;
-
-const INFINITY: u64 = 0x7ff0_0000_0000_0000;
-
-const LEADING: u64 = 0x10_0000_0000_0000;
-
-const EXPONENT_OF_ONE: u64 = 1023;
-
-const EXPONENT_OF_WHOLE: u64 = 1075;
-
 // The least tolerance, 2^-30, and the greatest; the greatest magnitude of a coordinate, 2^60; what that of a quotient stays below, 2^53, as
 // a number and among the cells.
 const LEAST_TOLERANCE: f64 = 0.000000000931322574615478515625;
@@ -57,7 +44,7 @@ const COORDINATE_MOST: f64 = 1152921504606846976.0;
 
 const QUOTIENT_EDGE: f64 = 9007199254740992.0;
 
-const QUOTIENT_LIMIT: u64 = 0x20_0000_0000_0000;
+const QUOTIENT_LIMIT: i64 = 0x20_0000_0000_0000;
 
 // ---- bits
 
@@ -65,11 +52,7 @@ const QUOTIENT_LIMIT: u64 = 0x20_0000_0000_0000;
 pub fn of_bits(n: u64) -> f64
     ensures { result ≡ of_bits binary64 n }
 {
-    if n % SIGN > INFINITY {
-        0.0 / 0.0
-    } else {
-        f64::from_bits(n)
-    }
+    std::num::f64_from_bits_with_nan(n)
 }
 
 // ---- what the table asks of one number
@@ -78,24 +61,14 @@ pub fn of_bits(n: u64) -> f64
 pub fn is_unfit(t: f64) -> bool
     ensures { result ≡ unfit t }
 {
-    if LEAST_TOLERANCE <= t {
-        if t <= GREATEST_TOLERANCE {
-            return false;
-        }
-    }
-    true
+    !(LEAST_TOLERANCE <= t && t <= GREATEST_TOLERANCE)
 }
 
 // 7: a coordinate is not finite, or its magnitude is above 2^60.
 pub fn is_boundless(x: f64) -> bool
     ensures { result ≡ boundless x }
 {
-    if -COORDINATE_MOST <= x {
-        if x <= COORDINATE_MOST {
-            return false;
-        }
-    }
-    true
+    !(-COORDINATE_MOST <= x && x <= COORDINATE_MOST)
 }
 
 // 8: a coordinate divided by the tolerance has magnitude 2^53 or more.
@@ -103,77 +76,35 @@ pub fn is_distant(t: f64, x: f64) -> bool
     ensures { result ≡ distant t x }
 {
     let q = x / t;
-    if -QUOTIENT_EDGE < q {
-        if q < QUOTIENT_EDGE {
-            return false;
-        }
-    }
-    true
+    !(-QUOTIENT_EDGE < q && q < QUOTIENT_EDGE)
 }
 
-// 14: a coordinate is finite where it lies between the infinities; a NaN lies nowhere.
+// 14: a coordinate is finite.
 pub fn is_finite(x: f64) -> bool
     ensures { result ≡ finite x }
 {
-    if -1.0 / 0.0 < x {
-        return x < 1.0 / 0.0;
-    }
-    false
+    x.is_finite()
 }
 
 // Every coordinate of a list is.
 pub fn are_finite(s: &[f64]) -> bool
     ensures { result ≡ every finite s.now }
 {
-    let mut k: usize = 0;
-    while k < s.len() {
-        if !is_finite(s[k]) {
-            return false;
-        }
-        k += 1;
-    }
-    true
+    s.iter().all(|x| is_finite(*x))
 }
 
 // ---- points of a flat list
-
-fn point_at(s: &[f64], i: usize) -> Point
-    requires { 3 * i + 3 ≤ length s.now }
-    ensures { result ≡ point_at s.now i }
-{
-    let a = 3 * i;
-    Point {
-        x: s[a],
-        y: s[a + 1],
-        z: s[a + 2],
-    }
-}
-
-fn texel_at(s: &[f64], i: usize) -> Texel
-    requires { 2 * i + 2 ≤ length s.now }
-    ensures { result ≡ texel_at s.now i }
-{
-    let a = 2 * i;
-    Texel {
-        u: s[a],
-        v: s[a + 1],
-    }
-}
 
 // Point i of a list of width 2 or 3. A texture point gets a third coordinate, which no rule of width 2 reads.
 pub fn attr_at(s: &[f64], w: usize, i: usize) -> Point
     requires { (2 ≤ w) × (w ≤ 3) × (w * i + w ≤ length s.now) }
     ensures { leading w result ≡ row w s.now i }
 {
-    if w == 2 {
-        let p = texel_at(s, i);
-        Point {
-            x: p.u,
-            y: p.v,
-            z: 0.0,
-        }
-    } else {
-        point_at(s, i)
+    let a = w * i;
+    Point {
+        x: s[a],
+        y: s[a + 1],
+        z: if w == 2 { 0.0 } else { s[a + 2] },
     }
 }
 
@@ -215,6 +146,19 @@ pub fn over(p: Point, d: f64) -> Point
 
 // ---- the box, and scaling
 
+// A rule of one axis, at each of the three.
+fn on_axes<F: Fn(f64, f64) -> f64>(rule: F, p: Point, q: Point) -> Point
+    requires { F.IsAlwaysCallable rule }
+    ensures { OnAxes (F.post rule) p q result }
+{
+    Point {
+        x: rule(p.x, q.x),
+        y: rule(p.y, q.y),
+        z: rule(p.z, q.z),
+    }
+}
+
+// `f64::min` and `f64::max` answer the other number where one is a NaN, and either of two that are equal; the rule says which.
 fn lesser_of(a: f64, b: f64) -> f64
     ensures { result ≡ lesser a b }
 {
@@ -231,19 +175,9 @@ fn greater_of(a: f64, b: f64) -> f64
 fn with_point(b: Bounds, p: Point) -> Bounds
     ensures { result ≡ box_with b p }
 {
-    let l = b.least;
-    let g = b.greatest;
     Bounds {
-        least: Point {
-            x: lesser_of(l.x, p.x),
-            y: lesser_of(l.y, p.y),
-            z: lesser_of(l.z, p.z),
-        },
-        greatest: Point {
-            x: greater_of(g.x, p.x),
-            y: greater_of(g.y, p.y),
-            z: greater_of(g.z, p.z),
-        },
+        least: on_axes(lesser_of, b.least, p),
+        greatest: on_axes(greater_of, b.greatest, p),
     }
 }
 
@@ -251,26 +185,14 @@ fn with_point(b: Bounds, p: Point) -> Bounds
 fn centre_of(b: Bounds) -> Point
     ensures { result ≡ centre b }
 {
-    let l = b.least;
-    let g = b.greatest;
-    Point {
-        x: l.x + (g.x - l.x) / 2.0,
-        y: l.y + (g.y - l.y) / 2.0,
-        z: l.z + (g.z - l.z) / 2.0,
-    }
+    on_axes(|l, g| l + (g - l) / 2.0, b.least, b.greatest)
 }
 
 // The larger of greatest - least and 1, on each axis.
 fn divisor_of(b: Bounds) -> Point
     ensures { result ≡ divisor b }
 {
-    let l = b.least;
-    let g = b.greatest;
-    Point {
-        x: greater_of(g.x - l.x, 1.0),
-        y: greater_of(g.y - l.y, 1.0),
-        z: greater_of(g.z - l.z, 1.0),
-    }
+    on_axes(|l, g| greater_of(g - l, 1.0), b.least, b.greatest)
 }
 
 // 2·((p - centre)/divisor), on each axis.
@@ -289,15 +211,13 @@ fn box_of(positions: &[f64]) -> Bounds
     requires { Whole positions.now }
     ensures { result ≡ box_of (points_of positions.now) }
 {
-    let first = point_at(positions, 0);
+    let first = attr_at(positions, 3, 0);
     let mut b = Bounds {
         least: first,
         greatest: first,
     };
-    let mut i: usize = 1;
-    while i < positions.len() / 3 {
-        b = with_point(b, point_at(positions, i));
-        i += 1;
+    for i in 1..positions.len() / 3 {
+        b = with_point(b, attr_at(positions, 3, i));
     }
     b
 }
@@ -307,10 +227,7 @@ pub fn put_point(p: Point, out: &mut [f64], i: usize)
     requires { 3 * i + 3 ≤ length out.old }
     ensures { out.new ≡ sets out.old (3 * i) (coordinates p) }
 {
-    let a = 3 * i;
-    out[a] = p.x;
-    out[a + 1] = p.y;
-    out[a + 2] = p.z;
+    lists::put(&[p.x, p.y, p.z], out, 3 * i);
 }
 
 // The scaled positions go to `out`.
@@ -321,41 +238,17 @@ pub fn scale(positions: &[f64], out: &mut [f64])
     let b = box_of(positions);
     let c = centre_of(b);
     let d = divisor_of(b);
-    let mut i: usize = 0;
-    while i < positions.len() / 3 {
-        put_point(scaled_by(point_at(positions, i), c, d), out, i);
-        i += 1;
+    for i in 0..positions.len() / 3 {
+        put_point(scaled_by(attr_at(positions, 3, i), c, d), out, i);
     }
 }
 
 // ---- cells
 
-// The whole part of the magnitude that 64 bits stand for: exact below 2^53, and 2^53 from there on.
-fn whole_of_bits(b: u64) -> u64
-    requires { T (not (nan_bits binary64 b)) }
-    ensures { result ≡ whole_of (of_bits binary64 b) }
-{
-    let e = b % SIGN / LEADING;
-    let t = b % LEADING;
-    if e < EXPONENT_OF_ONE {
-        0
-    } else if e <= EXPONENT_OF_WHOLE {
-        (LEADING + t) >> (EXPONENT_OF_WHOLE - e)
-    } else {
-        QUOTIENT_LIMIT
-    }
-}
-
-// The cell of a quotient, as its place among the numbers from 0: cut toward zero, from the bits.
+// The cell of a quotient, as its place among the numbers from 0: cut toward zero.
 pub fn cell_of(q: f64) -> u64
     requires { far q ≡ false }
     ensures { result ≡ place (cut q) }
 {
-    let b = f64::to_bits(q);
-    let n = whole_of_bits(b);
-    if b < SIGN {
-        QUOTIENT_LIMIT + n
-    } else {
-        QUOTIENT_LIMIT - n
-    }
+    (QUOTIENT_LIMIT + std::num::saturating_f64_to_i64(q)) as u64
 }
