@@ -1,5 +1,6 @@
 -- Plain list functions that the rules are written with: one sentence each. Their laws stand in proofs/. Assumes nothing.
-use Rattle.std.specs.Prelude.{ℕ, zero, suc, ◌+◌, Bool, true, false, not, ◌&&◌, ◌||◌, List, [], ◌∷◌, ◌++◌, eqb}
+use Rattle.std.specs.Prelude.{ℕ, zero, suc, ◌+◌, Bool, true, false, not, ◌&&◌, List, [], ◌∷◌, ◌++◌, eqb}
+use Rattle.std.specs.List.{list_any, list_all}
 
 module _ {A : Type 0} where
   -- a in front of l where the test holds, else l
@@ -12,14 +13,12 @@ module _ {A : Type 0} where
   only p [] = []
   only p (a ∷ l) = keep_if (p a) a (only p l)
 
-  -- whether some element passes the test; whether every one does
+  -- whether some element passes the test; whether every one does: the library's words for what `any` and `all` of an iterator say
   abbrev pub some : (A → Bool) → List A → Bool
-  some p [] = false
-  some p (a ∷ l) = p a || some p l
+  some p l = list_any p l
 
   abbrev pub every : (A → Bool) → List A → Bool
-  every p [] = true
-  every p (a ∷ l) = p a && every p l
+  every p l = list_all p l
 
   -- the last element, alone; nothing of no elements
   abbrev pub last_of : List A → List A
