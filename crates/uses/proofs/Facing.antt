@@ -1,5 +1,5 @@
 -- The two loops that write the uses: over the corners of a face, and over the faces. Assumes nothing.
-use mathlib.Core.Path.{◌≡◌, refl, sym, ap, ◌∙◌, subst}
+use mathlib.Core.Path.{◌≡◌, sym, ap, ◌∙◌, subst}
 use mathlib.Core.List.{List, [], ◌∷◌, ◌++◌}
 use Prim.Native.Nat.{ℕ, ◌+◌, ◌*◌, ◌/◌, ◌≤◌, ◌<◌}
 use native.Mathlib.Nat.{add-zero, add_assoc}
@@ -14,7 +14,7 @@ use Rattle.mesh.proofs.Faces.{face_length, offset_step}
 use Rattle.mesh.specs.Edges.{Edge, edges_of}
 use Rattle.lists.specs.Numbers.{next_of}
 use Rattle.uses.specs.Uses.{Written, Columned, face_edges}
-use Rattle.uses.proofs.Sides.{edges_from, edges_begin, edges_step, edges_end, length_face_edges, uses_step, uses_end}
+use Rattle.uses.proofs.Sides.{edges_from, edges_begin, edges_step, edges_end, length_face_edges, uses_step}
 use Rattle.uses.proofs.Filling.{Filling, fill_begins, fill_left, fill_part, fill_ends}
 
 -- lists that keep their lengths keep their room
@@ -67,9 +67,6 @@ pub record Facing (cs s l₀ h₀ d₀ l h d : List ℕ) (at k : ℕ) : Type 0 w
   pub filling : Filling l₀ h₀ d₀ l h d 0 at (edges_of (rings s cs)) (edges_of (rings (drop k s) (drop (width * offset_of s k) cs)))
 
 module _ (cs s l₀ h₀ d₀ : List ℕ) where
-  pub face_begins : Facing cs s l₀ h₀ d₀ l₀ h₀ d₀ 0 0
-  face_begins = record { within = omega arith; offset = refl; filling = fill_begins l₀ h₀ d₀ 0 (edges_of (rings s cs)) }
-
   pub face_turns :
       (l h d l' h' d' : List ℕ) (at k n : ℕ) (face : List ℕ) → Sound cs s → k < length s → n ≡ get_or s k 0 → face ≡ face_of cs s k
       → Written (face_edges face) at l h d l' h' d' → Facing cs s l₀ h₀ d₀ l h d at k → Facing cs s l₀ h₀ d₀ l' h' d' (at + n) (k + 1)
@@ -89,10 +86,6 @@ module _ (cs s l₀ h₀ d₀ : List ℕ) where
             (fill_part l₀ h₀ d₀ l h d 0 at (edges_of (rings s cs)) l' h' d' new left w
             (fill_left l₀ h₀ d₀ l h d 0 at (edges_of (rings s cs)) (edges_of (rings (drop k s) (drop (width * offset_of s k) cs))) (new ++ left) (uses_step s cs k lt) f.filling));
       }
-
-  pub face_ends : (l h d : List ℕ) (at k : ℕ) → length s ≤ k → Facing cs s l₀ h₀ d₀ l h d at k → Written (edges_of (rings s cs)) 0 l₀ h₀ d₀ l h d
-  face_ends l h d at k ge f =
-      fill_ends l₀ h₀ d₀ l h d 0 at (edges_of (rings s cs)) (edges_of (rings (drop k s) (drop (width * offset_of s k) cs))) (uses_end s cs k ge) f.filling
 
   -- face k ends within the corners, and there is room for its uses
   pub face_within : (l h d : List ℕ) (at k : ℕ) → Sound cs s → k < length s → Facing cs s l₀ h₀ d₀ l h d at k → at + get_or s k 0 ≤ length cs / width

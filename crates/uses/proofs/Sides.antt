@@ -110,9 +110,6 @@ pub uses_step :
 unfolding face_edges
 uses_step s cs k h = ap edges_of (rings_step s cs k h)
 
-pub uses_end : (s cs : List ℕ) (k : ℕ) → length s ≤ k → edges_of (rings (drop k s) (drop (width * offset_of s k) cs)) ≡ []
-uses_end s cs k h = ap (λ (t : List ℕ). edges_of (rings t (drop (width * offset_of s k) cs))) (drop_of_length-le s h)
-
 length_edges : (fs : List Ring) → length (edges_of fs) ≡ sum (map length fs)
 length_edges [] = refl
 length_edges (f ∷ fs) =

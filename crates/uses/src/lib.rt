@@ -38,16 +38,10 @@ pub fn goes_on(lowers: &[u32], highers: &[u32], downs: &[u32], order: &[u32], i:
     requires { ReadyAt lowers.now highers.now downs.now order.now i }
     ensures { result ≡ goes_on lowers.now highers.now (get_or order.now i 0) (drop (i + 1) order.now) }
 {
-    let next = i + 1;
-    if next < order.len() {
-        same_edge(
-            lowers,
-            highers,
-            lists::wide(order[i]),
-            lists::wide(order[next]),
-        )
-    } else {
-        false
+    let u = order[i] as usize;
+    match order.get(i + 1) {
+        Some(next) => same_edge(lowers, highers, u, *next as usize),
+        None => false,
     }
 }
 
@@ -56,10 +50,7 @@ fn same_edge(lowers: &[u32], highers: &[u32], u: usize, v: usize) -> bool
     requires { (u < length lowers.now) × (v < length lowers.now) × (length highers.now ≡ length lowers.now) }
     ensures { result ≡ same (key_at lowers.now highers.now u) (key_at lowers.now highers.now v) }
 {
-    if lowers[u] != lowers[v] {
-        return false;
-    }
-    highers[u] == highers[v]
+    lowers[u] == lowers[v] && highers[u] == highers[v]
 }
 
 // The uses of all edges, in the order of the faces.
@@ -76,12 +67,10 @@ fn put_uses(
         lowers.new highers.new downs.new }
 {
     let mut at: usize = 0;
-    let mut k: usize = 0;
-    while k < sizes.len() {
+    for (k, size) in sizes.iter().enumerate() {
         let face = mesh::face_at(corners, sizes, k, at);
         put_face(face, lowers, highers, downs, at);
-        at += lists::wide(sizes[k]);
-        k += 1;
+        at += *size as usize;
     }
 }
 
@@ -93,12 +82,10 @@ fn put_face(face: &[u32], lowers: &mut [u32], highers: &mut [u32], downs: &mut [
         highers.new downs.new }
 {
     let n = face.len() / mesh::WIDTH;
-    let mut i: usize = 0;
-    while i < n {
+    for i in 0..n {
         let a = mesh::WIDTH * i;
         let b = mesh::WIDTH * lists::next_of(i, n);
         put_use(face[a], face[b], lowers, highers, downs, at + i);
-        i += 1;
     }
 }
 
