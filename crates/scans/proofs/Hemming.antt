@@ -6,25 +6,15 @@ use Prim.Native.Nat.{ℕ, ◌+◌, ◌≤◌, ◌<◌}
 use native.Mathlib.Nat.{add-zero}
 use native.Mathlib.Numerals.{add-one}
 use native.Mathlib.Omega.{arith}
-use lib.ListN.{length, get_or, drop, set, length-map, drop_of_length-le}
+use lib.ListN.{length, get_or, drop, length-map, drop_of_length-le}
 use lib.Seq.{sets, drop-cons}
-use lib.Dec.{eqb}
-use borrow.Author.Tests.{eq-eqb, ne_eqb}
 use Rattle.lists.specs.Lists.{keep_if}
-use Rattle.lists.proofs.Growing.{Growing, grow_begins, grow_part}
+use Rattle.lists.proofs.Growing.{Growing, grow_part}
 use Rattle.uses.specs.Uses.{goes_on}
 use Rattle.scans.specs.Runs.{hems_at, odd_after, last_odd, start_at, end_at, Put, HemStep}
 use Rattle.scans.specs.declared.Place.{Place}
 
 module _ (lowers highers downs : List ℕ) where
-  -- one use, read from the columns
-  module _ (u at : ℕ) (starts ends : List ℕ) where
-    pub hem_down : get_or downs u 0 ≡ 1 → Put lowers highers downs (u ∷ []) at (at + 1) starts ends (set starts at (get_or highers u 0)) (set ends at (get_or lowers u 0))
-    hem_down p = let e : eqb (get_or downs u 0) 1 ≡ true = eq-eqb (get_or downs u 0) 1 p in record { behind = refl; starting = rw e; ending = rw e }
-
-    pub hem_up : (get_or downs u 0 ≡ 1 → ⊥) → Put lowers highers downs (u ∷ []) at (at + 1) starts ends (set starts at (get_or lowers u 0)) (set ends at (get_or highers u 0))
-    hem_up p = let e : eqb (get_or downs u 0) 1 ≡ false = ne_eqb (get_or downs u 0) 1 p in record { behind = refl; starting = rw e; ending = rw e }
-
   -- a use that is not the last of its edge; the last of an odd number; the last of an even number
   module _ (u : ℕ) (us : List ℕ) (o b : Bool) (on : b ≡ goes_on lowers highers u us) (at : ℕ) (starts ends : List ℕ) where
     abbrev Step : Bool → ℕ → List ℕ → List ℕ → Type 0
@@ -77,14 +67,6 @@ pub record Hemming (lowers highers downs order starts₀ ends₀ starts ends : L
       (map (end_at lowers highers downs) (last_odd lowers highers p.odd (drop i order)))
 
 module _ (lowers highers downs order starts₀ ends₀ : List ℕ) where
-  pub hem_begins : Hemming lowers highers downs order starts₀ ends₀ starts₀ ends₀ (record { odd = false; count = 0 }) 0
-  hem_begins = record {
-    within = omega arith;
-    small = omega arith;
-    starting = grow_begins starts₀ 0 (map (start_at lowers highers downs) (last_odd lowers highers false order));
-    ending = grow_begins ends₀ 0 (map (end_at lowers highers downs) (last_odd lowers highers false order));
-  }
-
   -- at most one is written for each use
   hems_few : (o : Bool) (u : ℕ) (us : List ℕ) → length (hems_at lowers highers o u us) ≤ 1
   unfolding hems_at

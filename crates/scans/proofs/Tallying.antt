@@ -1,5 +1,5 @@
 -- The scan for the verdict, use after use: one use more, and the loop over all of them. Assumes nothing.
-use mathlib.Core.Path.{◌≡◌, refl, sym, ap, ◌∙◌}
+use mathlib.Core.Path.{◌≡◌, sym, ap, ◌∙◌}
 use mathlib.Core.Bool.{Bool, true, false, cond}
 use mathlib.Core.List.{List, ◌∷◌}
 use Prim.Native.Nat.{ℕ, ◌+◌, ◌≤◌, ◌<◌}
@@ -50,9 +50,6 @@ pub record Tallying (lowers highers downs order : List ℕ) (t : Tally) (i : ℕ
   pub rest : tallied lowers highers downs t (drop i order) ≡ tallied lowers highers downs (tally_of 0 0 false false false) order
 
 module _ (lowers highers downs order : List ℕ) where
-  pub tally_begins : Tallying lowers highers downs order (tally_of 0 0 false false false) 0
-  tally_begins = record { within = omega arith; small = omega arith; rest = refl }
-
   stepped_small : (t : Tally) (u : ℕ) (us : List ℕ) → (stepped lowers highers downs t u us).ups + (stepped lowers highers downs t u us).downs ≤ t.ups + t.downs + 1
   unfolding stepped closed counted
   stepped_small t u us = go (goes_on lowers highers u us)

@@ -1,6 +1,6 @@
 -- The steps of the code, and no rules of document 01: what a scan finds that goes over the uses, sorted by edge (uses/specs/Uses.antt).
 -- Crate verdicts has the rules, and crate edges the laws by which these steps come to them. Assumes nothing.
-use Rattle.std.specs.Prelude.{◌≡◌, Bool, false, cond, not, ◌||◌, List, [], ◌∷◌, ◌++◌, map, ℕ, ◌+◌, ◌≤◌, ◌<◌, length, get_or, leb, eqb}
+use Rattle.std.specs.Prelude.{◌≡◌, Bool, false, cond, not, ◌||◌, List, [], ◌∷◌, ◌++◌, map, ℕ, ◌+◌, ◌≤◌, length, get_or, leb, eqb}
 use Rattle.std.proofs.lemmas.List.Edits.{sets}
 use Rattle.lists.specs.Lists.{keep_if}
 use Rattle.uses.specs.Uses.{Ready, Columned, goes_on}
@@ -70,22 +70,10 @@ module _ (lowers highers downs : List ℕ) where
 
 -- ---- what the functions rest on
 
--- the use at place i, of which t has counted those before it at most
-pub record TallyAt (lowers highers downs order : List ℕ) (i : ℕ) (t : Tally) : Type 0 where
-  pub ready : Ready lowers highers downs order
-  pub inside : i < length order
-  pub small : t.ups + t.downs ≤ i
-
 -- all uses, with room for as many hem edges
 pub record PutReady (lowers highers downs order starts ends : List ℕ) : Type 0 where
   pub ready : Ready lowers highers downs order
   pub room : HemRoom (length order) starts ends
-
--- the use at place i, with room for one hem edge more than `count`
-pub record HemAt (lowers highers downs order : List ℕ) (i count : ℕ) (starts ends : List ℕ) : Type 0 where
-  pub ready : Ready lowers highers downs order
-  pub inside : i < length order
-  pub room : HemRoom (count + 1) starts ends
 
 -- use u is in the columns, with room for one hem edge more than `at`
 pub record UseAt (lowers highers downs : List ℕ) (u at : ℕ) (starts ends : List ℕ) : Type 0 where

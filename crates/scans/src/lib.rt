@@ -8,7 +8,7 @@ pub mod writing;
 
 // What a scan over the sorted uses has seen: how many uses of the present edge run up and how many down, and whether an edge
 // that is passed was used three times or more, twice in the same direction, exactly once.
-#[derive(Clone, Copy)]
+#[derive(Clone, Copy, Default)]
 pub struct Tally {
     pub ups: usize,
     pub downs: usize,
@@ -19,7 +19,7 @@ pub struct Tally {
 
 // Where a scan stands that writes the hem edges: whether an odd number of the present edge's uses is passed, and how many hem
 // edges are written.
-#[derive(Clone, Copy)]
+#[derive(Clone, Copy, Default)]
 pub struct Place {
     pub odd: bool,
     pub count: usize,
