@@ -86,19 +86,10 @@ pub fn hem_edges(
 {
     let number = mesh::number(positions, textures, normals, corners, sizes);
     if number != 0 {
-        return HemEdges {
-            number: number,
-            count: 0,
-        };
+        return HemEdges { number, count: 0 };
     }
     let room = corners.len() / mesh::WIDTH;
-    if starts.len() < room {
-        return HemEdges {
-            number: 9,
-            count: 0,
-        };
-    }
-    if ends.len() < room {
+    if starts.len() < room || ends.len() < room {
         return HemEdges {
             number: 9,
             count: 0,
@@ -213,13 +204,11 @@ fn hem(
         corners, sizes, positions, lowers, highers, downs, first, order,
     );
     let count = scans::writing::put_hems(lowers, highers, downs, order, starts, ends);
-    Hems {
-        count: count,
-        verdict: verdict,
-    }
+    Hems { count, verdict }
 }
 
 // The verdict by what was seen.
+#[tactic(auto, unfolding(crate::specs::Runs::named, crate::specs::Answers::verdict_of))]
 fn name_of(t: Tally) -> ShellCondition
     ensures { verdict_of result ≡ named t }
 {
