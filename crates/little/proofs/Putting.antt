@@ -1,28 +1,30 @@
--- Bytes that are stored one behind the other. Assumes nothing.
-use mathlib.Core.Path.{◌≡◌, sym, ap, ap₂, ◌∙◌}
-use mathlib.Core.List.{List, ◌++◌}
-use Prim.Native.Nat.{ℕ, ◌+◌, ◌/◌, ◌%◌}
-use native.Mathlib.Numerals.{add-one}
-use lib.ListN.{length, set}
-use lib.Seq.{sets}
-use Rattle.lists.proofs.Writing.{sets_append}
+-- The bytes of a number as std gives them are those of the rules. Assumes nothing.
+use Rattle.std.proofs.Common.{◌≡◌, ℕ, ◌/◌, ◌%◌, bit_and, arith}
+use Rattle.std.proofs.lemmas.Nat.{and_mask}
+use Rattle.std.specs.Int.{to_le_bytes, w16, w32, w64}
 use Rattle.little.specs.Little.{half_bytes, word_bytes, long_bytes}
-use Rattle.little.proofs.Written.{length_half, length_word, word_cut}
 
--- what is stored behind a stored part
-pub stored_behind : {A : Type 0} (l l1 l2 : List A) (at n : ℕ) (a b : List A) → length a ≡ n → l1 ≡ sets l at a → l2 ≡ sets l1 (at + n) b → l2 ≡ sets l at (a ++ b)
-stored_behind l l1 l2 at n a b e f g =
-    g ∙ ap₂ (λ x (k : ℕ). sets x (at + k) b) f (sym e) ∙ sym (sets_append l at a b)
-
-module _ (l : List ℕ) (at x : ℕ) where
-  pub half_stored : set (set l at (x % 256)) (at + 1) (x / 256 % 256) ≡ sets l at (half_bytes x)
+module _ (x : ℕ) where
+  -- its two lowest bytes, which a mask takes
+  pub to_le_bytes-half : to_le_bytes w16 (bit_and x 65535) ≡ half_bytes x
   unfolding half_bytes
-  half_stored = rw (add-one at)
+  to_le_bytes-half =
+      let m : bit_and x 65535 ≡ x % 65536 = and_mask x 16 in
+      let a : x % 65536 % 256 ≡ x % 256 = omega arith in
+      let b : x % 65536 / 256 % 256 ≡ x / 256 % 256 = omega arith in
+      rw m (cc)
 
-  pub word_stored : (l1 l2 : List ℕ) → l1 ≡ sets l at (half_bytes x) → l2 ≡ sets l1 (at + 2) (half_bytes (x / 65536)) → l2 ≡ sets l at (word_bytes x)
-  unfolding word_bytes
-  word_stored l1 l2 f g = stored_behind l l1 l2 at 2 (half_bytes x) (half_bytes (x / 65536)) (length_half x) f g
+  pub to_le_bytes-word : to_le_bytes w32 x ≡ word_bytes x
+  unfolding word_bytes half_bytes
+  to_le_bytes-word =
+      let a : x / 16777216 % 256 ≡ x / 65536 / 256 % 256 = omega arith in
+      cc
 
-  pub long_stored : (l1 l2 : List ℕ) → l1 ≡ sets l at (word_bytes (x % 4294967296)) → l2 ≡ sets l1 (at + 4) (word_bytes (x / 4294967296)) → l2 ≡ sets l at (long_bytes x)
-  unfolding long_bytes
-  long_stored l1 l2 f g = stored_behind l l1 l2 at 4 (word_bytes x) (word_bytes (x / 4294967296)) (length_word x) (f ∙ ap (sets l at) (word_cut x)) g
+  pub to_le_bytes-long : to_le_bytes w64 x ≡ long_bytes x
+  unfolding long_bytes word_bytes half_bytes
+  to_le_bytes-long =
+      let a : x / 16777216 % 256 ≡ x / 65536 / 256 % 256 = omega arith in
+      let b : x / 1099511627776 % 256 ≡ x / 4294967296 / 256 % 256 = omega arith in
+      let d : x / 281474976710656 % 256 ≡ x / 4294967296 / 65536 % 256 = omega arith in
+      let e : x / 72057594037927936 % 256 ≡ x / 4294967296 / 65536 / 256 % 256 = omega arith in
+      cc

@@ -6,13 +6,6 @@ ghost use Rattle.std.specs.Prelude.{◌≡◌, ◌+◌, ◌≤◌, ◌<◌, leng
 ghost use Rattle.std.proofs.lemmas.List.Edits.{sets};
 ghost use Rattle.little.specs.Little as little;
 
-// How many values a byte, two bytes and four bytes have.
-const BYTE_VALUES: u32 = 256;
-
-const HALF_VALUES: u32 = BYTE_VALUES * BYTE_VALUES;
-
-const WORD_VALUES: u64 = 4294967296;
-
 // ---- reading
 
 // A byte as a number that fits more.
@@ -27,7 +20,7 @@ pub fn half(s: &[u8], i: usize) -> u32
     requires { i + 2 ≤ length s.now }
     ensures { (result ≡ little.half s.now i) × (result < little.half_values) }
 {
-    wide(s[i]) + BYTE_VALUES * wide(s[i + 1])
+    u32::from(u16::from_le_bytes([s[i], s[i + 1]]))
 }
 
 // Four bytes.
@@ -35,7 +28,7 @@ pub fn word(s: &[u8], i: usize) -> u32
     requires { i + 4 ≤ length s.now }
     ensures { result ≡ little.word s.now i }
 {
-    half(s, i) + HALF_VALUES * half(s, i + 2)
+    u32::from_le_bytes([s[i], s[i + 1], s[i + 2], s[i + 3]])
 }
 
 // Eight bytes.
@@ -43,9 +36,16 @@ pub fn long(s: &[u8], i: usize) -> u64
     requires { i + 8 ≤ length s.now }
     ensures { result ≡ little.long s.now i }
 {
-    let low = word(s, i) as u64;
-    let high = word(s, i + 4) as u64;
-    low + WORD_VALUES * high
+    u64::from_le_bytes([
+        s[i],
+        s[i + 1],
+        s[i + 2],
+        s[i + 3],
+        s[i + 4],
+        s[i + 5],
+        s[i + 6],
+        s[i + 7],
+    ])
 }
 
 // ---- writing
@@ -55,8 +55,8 @@ pub fn put_half(out: &mut [u8], at: usize, x: u32)
     requires { at + 2 ≤ length out.old }
     ensures { out.new ≡ sets out.old at (little.half_bytes x) }
 {
-    out[at] = (x % BYTE_VALUES) as u8;
-    out[at + 1] = (x / BYTE_VALUES % BYTE_VALUES) as u8;
+    let low = (x & 0xffff) as u16;
+    lists::put(&low.to_le_bytes(), out, at);
 }
 
 // Its four bytes.
@@ -64,8 +64,7 @@ pub fn put_word(out: &mut [u8], at: usize, x: u32)
     requires { at + 4 ≤ length out.old }
     ensures { out.new ≡ sets out.old at (little.word_bytes x) }
 {
-    put_half(out, at, x);
-    put_half(out, at + 2, x / HALF_VALUES);
+    lists::put(&x.to_le_bytes(), out, at);
 }
 
 // The eight bytes of a number that has more.
@@ -73,8 +72,5 @@ pub fn put_long(out: &mut [u8], at: usize, x: u64)
     requires { at + 8 ≤ length out.old }
     ensures { out.new ≡ sets out.old at (little.long_bytes x) }
 {
-    let low = (x % WORD_VALUES) as u32;
-    let high = (x / WORD_VALUES) as u32;
-    put_word(out, at, low);
-    put_word(out, at + 4, high);
+    lists::put(&x.to_le_bytes(), out, at);
 }
