@@ -3,9 +3,9 @@ use mathlib.Core.Path.{◌≡◌, refl, sym, ap, ◌∙◌}
 use mathlib.Core.Bool.{Bool, true, false, not}
 use mathlib.Core.List.{List, [], ◌∷◌, ◌++◌, append-nil}
 use Prim.Native.Nat.{ℕ, zero, suc, ◌+◌, ◌*◌, ◌≤◌, ◌<◌}
-use native.Mathlib.Numerals.{add-one, towards_suc}
+use native.Mathlib.Numerals.{add-one}
 use native.Mathlib.Omega.{arith}
-use lib.ListN.{length, get_or, set}
+use lib.ListN.{length, get_or}
 use lib.Seq.{sets, length-sets}
 use lib.Dec.{eqb}
 use borrow.Author.Tests.{eq-eqb, ne_eqb}
@@ -25,16 +25,6 @@ use Rattle.records.specs.Records.{corner_from, ring_from, has_mark, any_mark}
 pub size_most : (m : Bool) (k : ℕ) → corner_size m * k ≤ marked_length * k
 size_most false k = omega arith
 size_most true k = omega arith
-
--- corner k of n ends where they all end at the latest
-pub size_within : (m : Bool) (k n : ℕ) → k < n → corner_size m * k + corner_size m ≤ corner_size m * n
-size_within false k n h = omega arith
-size_within true k n h = omega arith
-
--- and its first three numbers stand in it
-pub size_least : (m : Bool) → corner_length ≤ corner_size m
-size_least false = omega arith
-size_least true = omega arith
 
 next_place : (m : Bool) (a k : ℕ) → a + corner_size m + corner_size m * k ≡ a + corner_size m * suc k
 next_place false a k = omega arith
@@ -76,9 +66,6 @@ pub record Ringing (m : Bool) (s : List ℕ) (a n : ℕ) (o o' : List ℕ) (at k
   pub long : length o' ≡ length o
 
 module _ (m : Bool) (s : List ℕ) (a n : ℕ) (o : List ℕ) (at : ℕ) where
-  pub ringing_begins : Ringing m s a n o o at 0
-  ringing_begins = record { within = omega arith; written = refl; long = refl }
-
   pub ringing_turns :
       (o' o'' : List ℕ) (k i : ℕ) → k < n → i ≡ a + corner_size m * k → o'' ≡ sets o' (width * (at + k)) (corner_from m s i)
       → Ringing m s a n o o' at k → Ringing m s a n o o'' at (k + 1)
@@ -98,15 +85,6 @@ module _ (m : Bool) (s : List ℕ) (a n : ℕ) (o : List ℕ) (at : ℕ) where
             ∙ ap (sets o (width * at)) (sym (joined_append done (c ∷ [])) ∙ ap joined (sym (ring_more m s k a)));
         long = ap length w ∙ length-sets o' (width * (at + k)) (corner_from m s i) ∙ r.long;
       }
-
-  pub ringing_ends : (o' : List ℕ) (k : ℕ) → n ≤ k → Ringing m s a n o o' at k → o' ≡ sets o (width * at) (joined (ring_from m s n a))
-  ringing_ends o' k h r =
-      let e : k ≡ n = omega (arith, r.within) in r.written ∙ ap (λ (j : ℕ). sets o (width * at) (joined (ring_from m s j a))) e
-
--- one corner, number by number
-pub corner_stores :
-    (l : List ℕ) (b x y z v : ℕ) → set (set (set (set l b x) (b + 1) y) (b + 2) z) (b + 3) v ≡ sets l b (x ∷ y ∷ z ∷ v ∷ [])
-corner_stores l b x y z v = simp towards_suc
 
 -- ---- the search for a mark
 

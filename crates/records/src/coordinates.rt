@@ -13,6 +13,7 @@ use floating::{Point, Texel};
 const THIRD: usize = 2 * COORDINATE_LENGTH;
 
 // The f64 of eight bytes.
+#[tactic(auto, unfolding(crate::specs::Records::coordinate))]
 pub fn coordinate(s: &[u8], i: usize) -> f64
     requires { i + coordinate_length ≤ length s.now }
     ensures { result ≡ records.coordinate s.now i }
@@ -20,6 +21,7 @@ pub fn coordinate(s: &[u8], i: usize) -> f64
     floating::of_bits(little::long(s, i))
 }
 
+#[tactic(auto, unfolding(crate::specs::Records::point_from))]
 pub fn point_from(s: &[u8], i: usize) -> Point
     requires { i + point_length ≤ length s.now }
     ensures { result ≡ records.point_from s.now i }
@@ -31,6 +33,7 @@ pub fn point_from(s: &[u8], i: usize) -> Point
     }
 }
 
+#[tactic(auto, unfolding(crate::specs::Records::texel_from))]
 pub fn texel_from(s: &[u8], i: usize) -> Texel
     requires { i + texel_length ≤ length s.now }
     ensures { result ≡ records.texel_from s.now i }
@@ -45,19 +48,11 @@ pub fn texel_from(s: &[u8], i: usize) -> Texel
 pub fn point_is_finite(p: Point) -> bool
     ensures { result ≡ every finite (coordinates p) }
 {
-    if floating::is_finite(p.x) {
-        if floating::is_finite(p.y) {
-            return floating::is_finite(p.z);
-        }
-    }
-    false
+    floating::is_finite(p.x) && floating::is_finite(p.y) && floating::is_finite(p.z)
 }
 
 pub fn texel_is_finite(t: Texel) -> bool
     ensures { result ≡ every finite (t.u ∷ t.v ∷ []) }
 {
-    if floating::is_finite(t.u) {
-        return floating::is_finite(t.v);
-    }
-    false
+    floating::is_finite(t.u) && floating::is_finite(t.v)
 }

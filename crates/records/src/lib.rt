@@ -7,14 +7,15 @@
 
 mod coordinates;
 
-ghost use Rattle.std.specs.Prelude.{◌≡◌, true, false, not, ◌+◌, ◌*◌, ◌≤◌, ◌<◌, length};
+ghost use Rattle.std.specs.Prelude.{◌≡◌, true, ◌+◌, ◌*◌, ◌≤◌, ◌<◌, length};
 ghost use Rattle.std.proofs.lemmas.List.Edits.{sets};
-ghost use Rattle.lists.specs.Lists.{joined};
-ghost use Rattle.mesh.specs.Limits.{width};
-ghost use Rattle.little.specs.Little.{half_values, long_values};
-ghost use Rattle.records.specs.Lengths.{marked_length, corner_size, byte_count, wide_count, last_kind};
+ghost use Rattle.floating.specs.Limits.{finite};
+ghost use Rattle.lists.specs.Lists.{every, joined};
+ghost use Rattle.mesh.specs.Limits.{width, ring_limit};
+ghost use Rattle.little.specs.Little.{half, half_values, long_values};
+ghost use Rattle.records.specs.Kinds.{number_of_kind, Decodes};
+ghost use Rattle.records.specs.Lengths.{marked_length, corner_size, byte_count, wide_count};
 ghost use Rattle.records.specs.Records as records;
-ghost use Rattle.records.specs.declared.Record.TheVariants.{Position, Texture, Normal};
 
 use floating::{Point, Texel};
 
@@ -56,14 +57,12 @@ pub const POINT_RECORD: usize = HEADER_LENGTH + POINT_LENGTH;
 
 pub const TEXEL_RECORD: usize = HEADER_LENGTH + TEXEL_LENGTH;
 
-// The kinds of a face, whose count is a byte, or two, or two and its corners carry marks: no kind comes behind them.
+// The numbers of the kinds of a face, whose count is a byte, or two, or two and its corners carry marks.
 pub const BYTE_KIND: u32 = 4;
 
 pub const WIDE_KIND: u32 = 5;
 
 pub const MARKED_KIND: u32 = 6;
-
-const LAST_KIND: u32 = MARKED_KIND;
 
 // What one record answers.
 #[derive(Clone, Copy)]
@@ -74,10 +73,47 @@ pub enum Record {
     // The place of its first corner, how many corners there are, and whether they carry marks.
     Face(usize, u32, bool),
     End,
+    // Among the answers, and not in an `Err`: the theorems of specs/ name it so.
     Refused(u32),
 }
 
+// The kind of a record.
+#[derive(Clone, Copy)]
+enum Kind {
+    End,
+    Position,
+    Texture,
+    Normal,
+    Face,
+    WideFace,
+    MarkedFace,
+}
+
+// A number that is no kind's.
+#[derive(Clone, Copy)]
+struct UnknownKind;
+
+impl TryFrom<u32> for Kind {
+    type Error = UnknownKind;
+
+    ghost try_from_gives = { Decodes };
+
+    fn try_from(number: u32) -> Result<Kind, UnknownKind> {
+        match number {
+            0 => Ok(Kind::End),
+            1 => Ok(Kind::Position),
+            2 => Ok(Kind::Texture),
+            3 => Ok(Kind::Normal),
+            BYTE_KIND => Ok(Kind::Face),
+            WIDE_KIND => Ok(Kind::WideFace),
+            MARKED_KIND => Ok(Kind::MarkedFace),
+            _ => Err(UnknownKind),
+        }
+    }
+}
+
 // The record at a place of the file: header cut 11, kind 12, length 12, body cut 11, then its body.
+#[tactic(auto, unfolding(crate::specs::Records::record_from))]
 pub fn record_at(s: &[u8], at: usize) -> Record
     requires { at ≤ length s.now }
     ensures { result ≡ records.record_from s.now at }
@@ -86,11 +122,10 @@ pub fn record_at(s: &[u8], at: usize) -> Record
         return Record::Refused(11);
     }
     let n = little::half(s, at) as usize;
-    let kind = little::half(s, at + 2);
-    if LAST_KIND < kind {
+    let Ok(kind) = Kind::try_from(little::half(s, at + 2)) else {
         return Record::Refused(12);
-    }
-    if misfits(kind, n) {
+    };
+    if !fits(kind, n) {
         return Record::Refused(12);
     }
     let b = at + HEADER_LENGTH;
@@ -100,140 +135,78 @@ pub fn record_at(s: &[u8], at: usize) -> Record
     body(s, b, n, kind)
 }
 
-// Whether a body of n bytes is wrong for its kind.
-fn misfits(kind: u32, n: usize) -> bool
-    requires { kind ≤ last_kind }
-    ensures { result ≡ not (records.length_fits kind n) }
+// Whether a body of n bytes is right for its kind.
+#[tactic(auto, unfolding(crate::specs::Records::length_fits))]
+fn fits(kind: Kind, n: usize) -> bool
+    ensures { result ≡ records.length_fits (number_of_kind kind) n }
 {
-    if kind == 0 {
-        return n != 0;
+    match kind {
+        Kind::End => n == 0,
+        Kind::Position | Kind::Normal => n == POINT_LENGTH,
+        Kind::Texture => n == TEXEL_LENGTH,
+        Kind::Face => n <= LONGEST_FACE && n % CORNER_LENGTH == BYTE_COUNT,
+        Kind::WideFace => SHORTEST_WIDE <= n && n % CORNER_LENGTH == WIDE_COUNT,
+        Kind::MarkedFace => SHORTEST_MARKED <= n && n % MARKED_LENGTH == WIDE_COUNT,
     }
-    if kind == 2 {
-        return n != TEXEL_LENGTH;
-    }
-    if kind == BYTE_KIND {
-        if n <= LONGEST_FACE {
-            return n % CORNER_LENGTH != BYTE_COUNT;
-        }
-        return true;
-    }
-    if kind == WIDE_KIND {
-        if SHORTEST_WIDE <= n {
-            return n % CORNER_LENGTH != WIDE_COUNT;
-        }
-        return true;
-    }
-    if kind == MARKED_KIND {
-        if SHORTEST_MARKED <= n {
-            return n % MARKED_LENGTH != WIDE_COUNT;
-        }
-        return true;
-    }
-    n != POINT_LENGTH
 }
 
 // The body of n bytes at b.
-fn body(s: &[u8], b: usize, n: usize, kind: u32) -> Record
-    requires { (kind ≤ last_kind) × ((b + n ≤ length s.now) × (records.length_fits kind n ≡ true)) }
-    ensures { result ≡ records.body_from s.now b n kind }
+#[tactic(auto, unfolding(crate::specs::Records::body_from, crate::specs::Records::length_fits, crate::specs::Records::wide_face_from, crate::specs::Records::marked_face_from))]
+fn body(s: &[u8], b: usize, n: usize, kind: Kind) -> Record
+    requires within { b + n ≤ length s.now }
+    requires fits { records.length_fits (number_of_kind kind) n ≡ true }
+    ensures { result ≡ records.body_from s.now b n (number_of_kind kind) }
 {
-    if kind == 0 {
-        return Record::End;
+    match kind {
+        Kind::End => Record::End,
+        Kind::Position => {
+            let p = coordinates::point_from(s, b);
+            attribute(Record::Position(p), coordinates::point_is_finite(p))
+        }
+        Kind::Texture => {
+            let t = coordinates::texel_from(s, b);
+            attribute(Record::Texture(t), coordinates::texel_is_finite(t))
+        }
+        Kind::Normal => {
+            let p = coordinates::point_from(s, b);
+            attribute(Record::Normal(p), coordinates::point_is_finite(p))
+        }
+        Kind::Face => face(s, b, n),
+        Kind::WideFace => wide_face(false, s, b, n),
+        Kind::MarkedFace => wide_face(true, s, b, n),
     }
-    if kind == 1 {
-        return position(coordinates::point_from(s, b));
-    }
-    if kind == 2 {
-        return texture(coordinates::texel_from(s, b));
-    }
-    if kind == 3 {
-        return normal(coordinates::point_from(s, b));
-    }
-    if kind == BYTE_KIND {
-        return face(s, b, n);
-    }
-    if kind == WIDE_KIND {
-        return wide_face(s, b, n);
-    }
-    marked_face(s, b, n)
 }
 
 // A position, a texture point or a normal: a coordinate that is not finite gives 14.
-fn position(p: Point) -> Record
-    ensures { result ≡ records.attribute (Position p) }
+#[tactic(auto, unfolding(crate::specs::Records::attribute))]
+fn attribute(r: Record, is_finite: bool) -> Record
+    requires { is_finite ≡ every finite (records.values_of r) }
+    ensures { result ≡ records.attribute r }
 {
-    if coordinates::point_is_finite(p) {
-        return Record::Position(p);
-    }
-    Record::Refused(14)
+    if is_finite { r } else { Record::Refused(14) }
 }
 
-fn texture(t: Texel) -> Record
-    ensures { result ≡ records.attribute (Texture t) }
-{
-    if coordinates::texel_is_finite(t) {
-        return Record::Texture(t);
-    }
-    Record::Refused(14)
-}
-
-fn normal(p: Point) -> Record
-    ensures { result ≡ records.attribute (Normal p) }
-{
-    if coordinates::point_is_finite(p) {
-        return Record::Normal(p);
-    }
-    Record::Refused(14)
-}
-
-// A face of kind 4, one of kind 5, and one of kind 6.
+// A face of kind 4, and one of kind 5 or 6.
+#[tactic(auto, unfolding(crate::specs::Records::face_from))]
 fn face(s: &[u8], b: usize, n: usize) -> Record
     requires { (byte_count ≤ n) × (b + n ≤ length s.now) }
     ensures { result ≡ records.face_from s.now b n }
 {
-    counted(
-        false,
-        s,
-        BYTE_COUNT,
-        BYTE_FACE,
-        little::wide(s[b]),
-        b + BYTE_COUNT,
-        n,
-    )
+    let count = little::wide(s[b]);
+    counted(false, s, BYTE_COUNT, BYTE_FACE, count, b + BYTE_COUNT, n)
 }
 
-fn wide_face(s: &[u8], b: usize, n: usize) -> Record
+fn wide_face(marked: bool, s: &[u8], b: usize, n: usize) -> Record
     requires { (wide_count ≤ n) × (b + n ≤ length s.now) }
-    ensures { result ≡ records.wide_face_from s.now b n }
+    ensures { result ≡ records.counted marked s.now wide_count ring_limit (half s.now b) (b + wide_count) n }
 {
-    counted(
-        false,
-        s,
-        WIDE_COUNT,
-        mesh::RING,
-        little::half(s, b),
-        b + WIDE_COUNT,
-        n,
-    )
-}
-
-fn marked_face(s: &[u8], b: usize, n: usize) -> Record
-    requires { (wide_count ≤ n) × (b + n ≤ length s.now) }
-    ensures { result ≡ records.marked_face_from s.now b n }
-{
-    counted(
-        true,
-        s,
-        WIDE_COUNT,
-        mesh::RING,
-        little::half(s, b),
-        b + WIDE_COUNT,
-        n,
-    )
+    let count = little::half(s, b);
+    counted(marked, s, WIDE_COUNT, mesh::RING, count, b + WIDE_COUNT, n)
 }
 
 // A face whose count of w bytes says so many corners, the first of them at a: a count unlike the length's gives 12, no mark where marks are
 // carried 12, a count over the limit 3.
+#[tactic(auto, unfolding(crate::specs::Records::counted))]
 fn counted(marked: bool, s: &[u8], w: usize, limit: usize, count: u32, a: usize, n: usize) -> Record
     requires { (w ≤ wide_count) × ((count < half_values) × (a + n ≤ w + length s.now)) }
     ensures { result ≡ records.counted marked s.now w limit count a n }
@@ -256,10 +229,8 @@ pub fn corner_place(marked: bool, a: usize, k: usize) -> usize
     requires { a + corner_size marked * k < long_values }
     ensures { result ≡ a + corner_size marked * k }
 {
-    if marked {
-        return a + MARKED_LENGTH * k;
-    }
-    a + CORNER_LENGTH * k
+    let size = if marked { MARKED_LENGTH } else { CORNER_LENGTH };
+    a + size * k
 }
 
 // Whether marks are carried and all of them are 0.
@@ -267,10 +238,7 @@ fn lacks_marks(marked: bool, s: &[u8], a: usize, n: usize) -> bool
     requires { a + corner_size marked * n ≤ length s.now }
     ensures { result ≡ records.lacks_marks marked (records.ring_from marked s.now n a) }
 {
-    if marked {
-        return !any_mark(s, a, n);
-    }
-    false
+    marked && !any_mark(s, a, n)
 }
 
 // Whether any of the n marks is not 0.
@@ -278,12 +246,10 @@ fn any_mark(s: &[u8], a: usize, n: usize) -> bool
     requires { a + marked_length * n ≤ length s.now }
     ensures { result ≡ records.any_mark (records.ring_from true s.now n a) }
 {
-    let mut k: usize = 0;
-    while k < n {
+    for k in 0..n {
         if little::word(s, a + MARKED_LENGTH * k + CORNER_LENGTH) != 0 {
             return true;
         }
-        k += 1;
     }
     false
 }
@@ -293,10 +259,7 @@ fn mark_at(marked: bool, s: &[u8], i: usize) -> u32
     requires { marked ≡ true → i + 4 ≤ length s.now }
     ensures { result ≡ records.mark_from marked s.now i }
 {
-    if marked {
-        return little::word(s, i);
-    }
-    0
+    if marked { little::word(s, i) } else { 0 }
 }
 
 // This paper's number for an answer: that of a refusal, 0 for every other.
@@ -315,11 +278,9 @@ pub fn put_ring(marked: bool, file: &[u8], a: usize, n: usize, out: &mut [u32], 
     ensures { out.new
         ≡ sets out.old (width * at) (joined (records.ring_from marked file.now n a)) }
 {
-    let mut k: usize = 0;
-    while k < n {
+    for k in 0..n {
         let from = corner_place(marked, a, k);
         put_corner(marked, file, from, out, mesh::WIDTH * (at + k));
-        k += 1;
     }
 }
 
@@ -328,8 +289,11 @@ fn put_corner(marked: bool, file: &[u8], from: usize, out: &mut [u32], to: usize
     requires { (from + corner_size marked ≤ length file.now) × (to + width ≤ length out.old) }
     ensures { out.new ≡ sets out.old to (records.corner_from marked file.now from) }
 {
-    out[to] = little::word(file, from);
-    out[to + 1] = little::word(file, from + 4);
-    out[to + 2] = little::word(file, from + 8);
-    out[to + 3] = mark_at(marked, file, from + CORNER_LENGTH);
+    let corner = [
+        little::word(file, from),
+        little::word(file, from + 4),
+        little::word(file, from + 8),
+        mark_at(marked, file, from + CORNER_LENGTH),
+    ];
+    lists::put(&corner, out, to);
 }
