@@ -21,7 +21,7 @@ use Rattle.grouping.specs.Push.{Placed}
 use Rattle.splitting.specs.Splitting.{split_by, pieces_by}
 use Rattle.splitting.proofs.Pieces.{pieces_fewer, pieces_every}
 use Rattle.splitting.proofs.Mapped.{split_same, pieces_same, pieces_places}
-use Rattle.places.specs.Working.{position_at_lem, is_place, Room, Parted, Copied}
+use Rattle.places.specs.Working.{position_at_lem, is_place, Parted, Copied}
 use Rattle.places.proofs.Corners.{under, every_span, places_span}
 use Rattle.folding.specs.Folding.{ring_pieces}
 use Rattle.folding.specs.Places.{position_in, ring_places}
@@ -80,9 +80,6 @@ module _ {A B : Type 0} (g : A → List B) where
 module _ (face row took out lens : List ℕ) (c f : ℕ) (s : Splittable face row took out lens c f) where
   abbrev ps : List (List ℕ)
   ps = pieces_by (position_at_lem face) (span 0 (length row))
-
-  pub place_room : Room (length row) took lens 0 f
-  place_room = record { small = s.room.small; places = omega (arith, s.places); sizes = s.room.sizes }
 
   module _ (row' took' lens' : List ℕ) (n f' : ℕ) (t : Parted (position_at_lem face) (span 0 (length row)) row' took took' lens lens' 0 f n f') where
     pub few : n ≤ length row

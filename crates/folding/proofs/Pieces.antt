@@ -7,13 +7,14 @@ use Prim.Native.Nat.{ℕ, suc, ◌≤◌}
 use native.Mathlib.Omega.{arith}
 use lib.ListN.{length, get_or}
 use lib.Dec.{eqb}
+use Rattle.std.proofs.lemmas.Bool.Decides.{nat_tests}
 use borrow.Author.Tests.{le-leb, eqb-true, eqb-false, ne_eqb, eq-eqb}
 use Rattle.lists.specs.Lists.{every, sum}
 use Rattle.lists.proofs.Bools.{by_cases, true_false, and_both, and_left, and_right, or_false_left, or_false_right}
 use Rattle.lists.proofs.Parts.{every_append}
 use Rattle.lists.proofs.Only.{every_only}
 use Rattle.mesh.specs.Mesh.{Corner, Ring, position}
-use Rattle.splitting.specs.Splitting.{twice, folded_by, split_by, is_piece, pieces_by}
+use Rattle.splitting.specs.Splitting.{folded_by, split_by, is_piece, pieces_by}
 use Rattle.splitting.proofs.Splitting.{split_all}
 use Rattle.splitting.proofs.Pieces.{pieces_stay, pieces_all, pieces_fewer, pieces_every}
 use Rattle.folding.specs.Folding.{folded, triangle_pieces, fold_of, left, quadrangle_pieces, ring_pieces, pieces}
@@ -69,25 +70,12 @@ three_corners (a ∷ b ∷ []) h = absurd (let z : ◌≡◌ {A = ℕ} 2 3 = h i
 three_corners (a ∷ b ∷ c ∷ []) h = refl
 three_corners (a ∷ b ∷ c ∷ d ∷ t) h = absurd (let z : suc (suc (suc (suc (length t)))) ≡ 3 = h in omega arith)
 
-module _ (t : Ring) (h : length t ≡ 3) where
-  abbrev at : ℕ → ℕ
-  at k = position (get_or t k [])
+abbrev at : Ring → ℕ → ℕ
+at t k = position (get_or t k [])
 
-  tests : folded t ≡ twice (at 0 ∷ at 1 ∷ at 2 ∷ [])
-  unfolding folded_by
-  tests = ap folded (three_corners t h)
-
-  pub first_two : at 0 ≡ at 1 → true ≡ folded t
-  first_two e = sym (tests ∙ simp (eq-eqb (at 0) (at 1) e))
-
-  pub last_two : (at 0 ≡ at 1 → ⊥) → at 1 ≡ at 2 → true ≡ folded t
-  last_two a e = sym (tests ∙ simp (ne_eqb (at 0) (at 1) a, eq-eqb (at 1) (at 2) e, ne_eqb (at 0) (at 2) (λ f. a (f ∙ sym e))))
-
-  pub last_test : (at 0 ≡ at 1 → ⊥) → (at 1 ≡ at 2 → ⊥) → eqb (at 2) (at 0) ≡ folded t
-  last_test a b =
-      by_cases (eqb (at 2) (at 0))
-      (λ e. e ∙ sym (tests ∙ simp (ne_eqb (at 0) (at 1) a, eq-eqb (at 0) (at 2) (sym (eqb-true _ _ e)))))
-      (λ e. e ∙ sym (tests ∙ simp (ne_eqb (at 0) (at 1) a, ne_eqb (at 1) (at 2) b, ne_eqb (at 0) (at 2) (λ f. eqb-false _ _ e (sym f)))))
+pub folded_three : (t : Ring) → length t ≡ 3 → folded t ≡ (eqb (at t 0) (at t 1) || eqb (at t 1) (at t 2) || eqb (at t 2) (at t 0))
+unfolding folded_by
+folded_three t h = ap folded (three_corners t h) ∙ grind (arith, nat_tests)
 
 -- ---- a larger face
 

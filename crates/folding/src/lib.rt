@@ -2,9 +2,9 @@
 // `split_into_nondegenerate` have it. A corner's first number, its position, decides. A larger face is split by its places, in crate places.
 #![tactic(auto)]
 
-ghost use Rattle.std.specs.Prelude.{◌≡◌, ◌<◌, length};
+ghost use Rattle.std.specs.Prelude.{◌≡◌};
 ghost use Rattle.mesh.specs.Mesh.{corners_in};
-ghost use Rattle.splitting.specs.Splitting.{mate_of, first_mated};
+ghost use Rattle.splitting.specs.Splitting.{first_mated};
 ghost use Rattle.folding.specs.Folding.{fold_of, without_q1, without_q3, folded};
 ghost use Rattle.folding.specs.Working.{Splittable, WithPlaces};
 
@@ -21,22 +21,18 @@ pub enum Fold {
 }
 
 // The decision on a triangle: whether it is folded.
+#[tactic(auto, using(crate::proofs::Pieces::folded_three))]
 pub fn degenerate_triangle(tri: [[u32; WIDTH]; 3]) -> bool
     ensures { result ≡ folded tri }
 {
     let t0 = tri[0][0];
     let t1 = tri[1][0];
     let t2 = tri[2][0];
-    if t0 == t1 {
-        return true;
-    }
-    if t1 == t2 {
-        return true;
-    }
-    t2 == t0
+    t0 == t1 || t1 == t2 || t2 == t0
 }
 
 // The decision on a quadrangle.
+#[tactic(auto, unfolding(crate::specs::Folding::fold_of))]
 pub fn degenerate_quadrangle(quad: [[u32; WIDTH]; 4]) -> Fold
     ensures { result ≡ fold_of quad }
 {
@@ -44,40 +40,22 @@ pub fn degenerate_quadrangle(quad: [[u32; WIDTH]; 4]) -> Fold
     let q1 = quad[1][0];
     let q2 = quad[2][0];
     let q3 = quad[3][0];
-    if q0 == q2 {
-        return Fold::Goes;
+    if q0 == q2 || q1 == q3 || (q0 == q1 && q2 == q3) || (q1 == q2 && q3 == q0) {
+        Fold::Goes
+    } else if q0 == q1 || q1 == q2 {
+        Fold::WithoutQ1
+    } else if q2 == q3 || q3 == q0 {
+        Fold::WithoutQ3
+    } else {
+        Fold::Stays
     }
-    if q1 == q3 {
-        return Fold::Goes;
-    }
-    if q0 == q1 {
-        if q2 == q3 {
-            return Fold::Goes;
-        }
-        return Fold::WithoutQ1;
-    }
-    if q1 == q2 {
-        if q3 == q0 {
-            return Fold::Goes;
-        }
-        return Fold::WithoutQ1;
-    }
-    if q2 == q3 {
-        return Fold::WithoutQ3;
-    }
-    if q3 == q0 {
-        return Fold::WithoutQ3;
-    }
-    Fold::Stays
 }
 
 // The triangle (q0,q2,q3).
 pub fn without_q1(quad: [[u32; WIDTH]; 4]) -> [[u32; WIDTH]; 3]
     ensures { result ≡ without_q1 quad }
 {
-    let q0 = quad[0];
-    let q2 = quad[2];
-    let q3 = quad[3];
+    let [q0, _, q2, q3] = quad;
     [q0, q2, q3]
 }
 
@@ -85,40 +63,20 @@ pub fn without_q1(quad: [[u32; WIDTH]; 4]) -> [[u32; WIDTH]; 3]
 pub fn without_q3(quad: [[u32; WIDTH]; 4]) -> [[u32; WIDTH]; 3]
     ensures { result ≡ without_q3 quad }
 {
-    let q0 = quad[0];
-    let q1 = quad[1];
-    let q2 = quad[2];
+    let [q0, q1, q2, _] = quad;
     [q0, q1, q2]
 }
 
-// The first place after i with i's position, or how many there are.
-fn mate(places: &[u32], i: usize) -> usize
-    requires { i < length places.now }
-    ensures { result ≡ mate_of places.now i }
-{
-    let p = places[i];
-    let mut j: usize = i + 1;
-    while j < places.len() {
-        if p == places[j] {
-            return j;
-        }
-        j += 1;
-    }
-    j
-}
-
-// The first place that has such a mate, or how many there are.
+// The first place whose position comes again behind it, or how many there are.
 pub fn first(places: &[u32]) -> usize
     ensures { result ≡ first_mated places.now }
 {
-    let mut i: usize = 0;
-    while i < places.len() {
-        if mate(places, i) < places.len() {
+    for i in 0..places.len() {
+        if places[i + 1..].contains(&places[i]) {
             return i;
         }
-        i += 1;
     }
-    i
+    places.len()
 }
 
 // The pieces of a larger face go to two lists, corners and sizes, behind what is written, and to a third, from its beginning on, which
@@ -143,10 +101,9 @@ pub fn split_into_nondegenerate(
         faces: at.faces,
     };
     let left = places::split_ring(face, row, took, lens, from);
-    let n = left.corners;
-    places::put_places(face, &took[..n], out, WIDTH * c);
+    places::put_places(face, &took[..left.corners], out, WIDTH * c);
     Filled {
-        corners: c + n,
+        corners: c + left.corners,
         faces: left.faces,
     }
 }

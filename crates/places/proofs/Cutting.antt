@@ -99,9 +99,6 @@ module _ {key : ℕ → ℕ} {r : List ℕ} {i j : ℕ} (s : Found key r i j) wh
       abbrev rest : List ℕ
       rest = take (length row - (j - i)) (drop (j - i) row)
 
-      pub row_long : length row ≡ length r
-      row_long = omega (arith, length-append ys (drop (j - i) t), length-drop (j - i) t, same, length_one, long, cut.within)
-
       rest_two : rest ≡ drop (j - i) t
       rest_two = rear_part t ys (j - i) (same ∙ length_one)
 

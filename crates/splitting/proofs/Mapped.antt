@@ -148,8 +148,5 @@ module _ {A : Type 0} (key : A → ℕ) (d : A) (r : List A) where
   abbrev at : ℕ → A
   at i = get_or r i d
 
-  pub split_places : split_by key r ≡ map (map at) (split_by (λ i. key (at i)) (span 0 (length r)))
-  split_places = ap (split_by key) (sym (map_span d r)) ∙ split_map at key (span 0 (length r))
-
   pub pieces_places : pieces_by key r ≡ map (map at) (pieces_by (λ i. key (at i)) (span 0 (length r)))
   pieces_places = ap (pieces_by key) (sym (map_span d r)) ∙ pieces_map at key (span 0 (length r))

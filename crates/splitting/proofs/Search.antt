@@ -11,7 +11,7 @@ use lib.Dec.{ltb, eqb}
 use borrow.Author.Tests.{ltb-true, ltb-false}
 use Rattle.lists.specs.Lists.{has}
 use Rattle.lists.proofs.Bools.{by_cases, true_false, or_left, or_right, or_neither}
-use Rattle.lists.proofs.Numbers.{seek_low, seek_high, seek_found, seek_before}
+use Rattle.lists.proofs.Numbers.{seek_low, seek_found, seek_before}
 use Rattle.lists.proofs.Parts.{some_true_at, some_none}
 use Rattle.splitting.specs.Splitting.{twice, mate_of, first_mated, folded_by, first_by, second_by}
 
@@ -38,10 +38,6 @@ mate_first ps i j h l = seek_before (same_as ps i) (length ps - (i + 1)) (i + 1)
 
 has_mate : List ℕ → ℕ → Bool
 has_mate ps i = ltb (mate_of ps i) (length ps)
-
-pub first_within : (ps : List ℕ) → first_mated ps ≤ length ps
-unfolding first_mated has_mate
-first_within ps = omega (arith, seek_high (has_mate ps) (length ps) 0)
 
 pub first_mated_lem : (ps : List ℕ) → first_mated ps < length ps → mate_of ps (first_mated ps) < length ps
 unfolding first_mated has_mate
