@@ -1,6 +1,7 @@
 -- The corners of a flat list: one more of what is left, the one at a place, flat again, and those of two parts. How many numbers a
 -- corner has matters to one law alone, that of the numbers of one corner. Assumes nothing.
 use Rattle.std.proofs.Common.{◌≡◌, ℕ, zero, suc, ◌+◌, ◌-◌, ◌*◌, ◌/◌, ◌%◌, ◌<◌, ◌≤◌, Bool, true, eqb, List, [], ◌∷◌, ◌++◌, length, get_or, take, drop, sym, refl, ap, ◌∙◌, append_assoc, le_of_suc-le-suc, not-suc-le-zero, arith, length-append, length-drop, take-append-drop, length-take-le, drop-cons, drop-drop, take_at, drop_at, eq-eqb, eqb-true}
+use Rattle.std.specs.Simd.{first_chunks}
 use native.Mathlib.Numerals.{towards_suc}
 use Rattle.lists.specs.Lists.{every, joined}
 use Rattle.lists.proofs.Bools.{and_both, and_left, and_right}
@@ -49,6 +50,14 @@ get_or-first (suc n) cs (suc k) h =
 
 pub get_or-corners_in : (cs : List ℕ) (k : ℕ) → k < length cs / width → get_or (corners_in cs) k [] ≡ corner_at cs k
 get_or-corners_in cs k h = get_or-first (length cs / width) cs k h ∙ corner_of cs (width * k) (omega arith)
+
+-- the library's chunks of a list of corners are its corners
+chunks_first : (n : ℕ) (cs : List ℕ) → first_chunks width n cs ≡ first_corners n cs
+chunks_first zero cs = refl
+chunks_first (suc n) cs = ap (λ (r : Ring). take width cs ∷ r) (chunks_first n (drop width cs))
+
+pub first_chunks-corners_in : (cs : List ℕ) → first_chunks width (length cs / width) cs ≡ corners_in cs
+first_chunks-corners_in cs = chunks_first (length cs / width) cs
 
 -- how long a corner is
 abbrev pub is_corner : Corner → Bool

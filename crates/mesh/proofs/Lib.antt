@@ -1,3 +1,5 @@
+pub mod Refusals
+pub mod KindOrder
 pub mod Corners
 pub mod Faces
 pub mod Rows

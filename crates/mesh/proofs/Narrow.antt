@@ -32,15 +32,6 @@ not_below p q x y f g =
     (λ e. lt-ltb q y (f (leb-true p x e)) ∙ sym e)
     (λ e. le-ltb q y (g (leb-false p x e)) ∙ sym e)
 
-pub beyond_next : (count i : ℕ) → i ≤ missing → ltb count ((i + 1) % 4294967296) ≡ beyond_unless_missing count i
-beyond_next count i h =
-    by_cases (eqb i missing)
-    (λ e. let z : (i + 1) % 4294967296 ≡ 0 = omega (arith, eqb-true i missing e) in rw (e, z, le-ltb count 0 (omega arith)))
-    (λ e.
-    let f : i ≡ missing → ⊥ = eqb-false i missing e in
-    let z : (i + 1) % 4294967296 ≡ i + 1 = omega (arith, h, f) in
-    rw (e, z) (not_below count count i (i + 1) (λ a. omega (arith, a)) (λ a. omega (arith, a))))
-
 -- a corner is astray by the counts exactly where it is by the counts in 32 bits
 pub strays_astray : (p t n x y z : ℕ) → 0 < p → x ≤ missing → y ≤ missing → z ≤ missing → strays (narrow (p - 1)) (narrow t) (narrow n) x y z ≡ astray_by p t n x y z
 strays_astray p t n x y z h a b c =

@@ -6,3 +6,6 @@ pub mod Edges
 pub mod Listed
 pub mod Working
 pub mod Full
+pub mod Refusals
+pub mod Kinds
+pub mod Seen
