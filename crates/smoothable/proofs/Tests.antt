@@ -1,6 +1,6 @@
 -- One test each: a triangle that is folded, a value within -1 to 1. Assumes nothing.
 use mathlib.Core.Path.{◌≡◌, refl, sym, ap, ◌∙◌}
-use mathlib.Core.Bool.{Bool, true, ◌&&◌}
+use mathlib.Core.Bool.{Bool, true, false, ◌&&◌}
 use mathlib.Core.List.{List, []}
 use Prim.Native.Nat.{ℕ, ◌<◌}
 use lib.ListN.{get_or}
@@ -23,6 +23,14 @@ low_is : neg (of_bits binary64 0x3ff0_0000_0000_0000) ≡ fin true 1 (pos 0)
 unfolding neg of_bits
 low_is = refl
 
-pub within_one_lem :
+within_one_lem :
     (c : Float) → (le (neg (of_bits binary64 0x3ff0_0000_0000_0000)) c && le c (of_bits binary64 0x3ff0_0000_0000_0000)) ≡ within_one c
 within_one_lem c = rw (low_is, one_is)
+
+-- the lower bound first, then the upper one
+pub within_one_above :
+    (c : Float) → le (neg (of_bits binary64 0x3ff0_0000_0000_0000)) c ≡ true → le c (of_bits binary64 0x3ff0_0000_0000_0000) ≡ within_one c
+within_one_above c h = ap (λ b. b && le c (of_bits binary64 0x3ff0_0000_0000_0000)) (sym h) ∙ within_one_lem c
+
+pub within_one_below : (c : Float) → le (neg (of_bits binary64 0x3ff0_0000_0000_0000)) c ≡ false → le (neg (of_bits binary64 0x3ff0_0000_0000_0000)) c ≡ within_one c
+within_one_below c h = h ∙ ap (λ b. b && le c (of_bits binary64 0x3ff0_0000_0000_0000)) (sym h) ∙ within_one_lem c

@@ -62,10 +62,7 @@ pub fn number(
     if unoriented(corners, sizes, n) {
         return 10;
     }
-    if unfit_list(ones) {
-        return 17;
-    }
-    if unfit_list(twos) {
+    if unfit_list(ones) || unfit_list(twos) {
         return 17;
     }
     0
@@ -75,14 +72,7 @@ pub fn number(
 fn boundless_position(positions: &[f64]) -> bool
     ensures { result ≡ some boundless positions.now }
 {
-    let mut k: usize = 0;
-    while k < positions.len() {
-        if floating::is_boundless(positions[k]) {
-            return true;
-        }
-        k += 1;
-    }
-    false
+    positions.iter().any(|x| floating::is_boundless(*x))
 }
 
 // 15: a face isn't a triangle.
@@ -96,14 +86,7 @@ fn other_face(sizes: &[u32]) -> bool
 fn some_other(list: &[u32], x: u32) -> bool
     ensures { result ≡ some (λ k. not (eqb k x)) list.now }
 {
-    let mut k: usize = 0;
-    while k < list.len() {
-        if list[k] != x {
-            return true;
-        }
-        k += 1;
-    }
-    false
+    list.iter().any(|k| *k != x)
 }
 
 // 16: a face is folded or a position is in no face.
@@ -111,23 +94,17 @@ fn folded_or_idle(corners: &[u32], positions: usize) -> bool
     requires { Triangular corners.now positions }
     ensures { result ≡ (some folded (triangles corners.now) || not (all_used positions (triangles corners.now))) }
 {
-    if any_folded(corners) {
-        return true;
-    }
-    any_idle(corners, positions)
+    any_folded(corners) || any_idle(corners, positions)
 }
 
 fn any_folded(corners: &[u32]) -> bool
     requires { length corners.now ≤ corner_numbers }
     ensures { result ≡ some folded (triangles corners.now) }
 {
-    let count = corners.len() / TRIANGLE;
-    let mut k: usize = 0;
-    while k < count {
+    for k in 0..corners.len() / TRIANGLE {
         if folding::degenerate_triangle(triangle_at(corners, k)) {
             return true;
         }
-        k += 1;
     }
     false
 }
@@ -166,12 +143,8 @@ fn mark_used(corners: &[u32], used: &mut [u32])
     requires { Markable corners.now used.old }
     ensures { Marked corners.now used.old used.new }
 {
-    let count = corners.len() / WIDTH;
-    let mut k: usize = 0;
-    while k < count {
-        let p = lists::wide(corners[WIDTH * k]);
-        used[p] = USED;
-        k += 1;
+    for k in 0..corners.len() / WIDTH {
+        used[corners[WIDTH * k] as usize] = USED;
     }
 }
 
@@ -183,14 +156,13 @@ fn unoriented(corners: &[u32], sizes: &[u32], positions: usize) -> bool
     !is_oriented(edges::verdict_of(corners, sizes, positions))
 }
 
+#[tactic(auto, unfolding(edges::specs::Answers::verdict_of))]
 fn is_oriented(verdict: ShellCondition) -> bool
     ensures { result ≡ oriented (verdict_of verdict) }
 {
     match verdict {
-        ShellCondition::Irregular => false,
-        ShellCondition::Regular => false,
-        ShellCondition::Oriented => true,
-        ShellCondition::Closed => true,
+        ShellCondition::Irregular | ShellCondition::Regular => false,
+        ShellCondition::Oriented | ShellCondition::Closed => true,
     }
 }
 
@@ -198,42 +170,25 @@ fn is_oriented(verdict: ShellCondition) -> bool
 fn unfit_list(cosines: &[f64]) -> bool
     ensures { result ≡ unfit_list cosines.now }
 {
-    if cosines.len() != COSINES {
-        return true;
-    }
-    any_without(cosines)
+    cosines.len() != COSINES || any_without(cosines)
 }
 
 fn any_without(cosines: &[f64]) -> bool
     ensures { result ≡ some (λ c. not (within_one c)) cosines.now }
 {
-    let mut k: usize = 0;
-    while k < cosines.len() {
-        if !is_within_one(cosines[k]) {
-            return true;
-        }
-        k += 1;
-    }
-    false
+    cosines.iter().any(|c| !is_within_one(*c))
 }
 
 // What is no number lies nowhere.
 fn is_within_one(c: f64) -> bool
     ensures { result ≡ within_one c }
 {
-    (-1.0 <= c) & (c <= 1.0)
+    -1.0 <= c && c <= 1.0
 }
 
 // 17: a position has over 64 neighbours.
 pub fn crowded(degrees: &[u32]) -> bool
     ensures { result ≡ some (ltb cosine_count) degrees.now }
 {
-    let mut k: usize = 0;
-    while k < degrees.len() {
-        if NEIGHBOURS < lists::wide(degrees[k]) {
-            return true;
-        }
-        k += 1;
-    }
-    false
+    degrees.iter().any(|n| NEIGHBOURS < *n as usize)
 }
