@@ -1,12 +1,9 @@
 -- The columns, one face more at a time, and in the end all of them; and that they hold positions. Assumes nothing.
-use mathlib.Core.Path.{◌≡◌, refl, sym, ap, ◌∙◌, subst}
-use mathlib.Core.List.{List, [], ◌∷◌, map, map-append}
-use Prim.Native.Nat.{ℕ, ◌+◌, ◌*◌, ◌/◌, ◌≤◌, ◌<◌}
-use native.Mathlib.Nat.{zero-add}
-use native.Mathlib.Omega.{arith}
-use lib.ListN.{length, set, length-map}
+use Rattle.std.proofs.Common.{◌≡◌, refl, sym, ap, ◌∙◌, subst, List, [], ◌∷◌, map, ℕ, ◌+◌, ◌*◌, ◌/◌, ◌≤◌, ◌<◌, zero-add, arith, min, max, leb, length, set, leb-true, leb-false}
+use mathlib.Core.List.{map-append}
+use Rattle.lists.proofs.Bools.{by_cases}
+use lib.ListN.{length-map}
 use lib.Seq.{sets, length-sets}
-use borrow.Author.Tests.{le-leb, lt-leb}
 use Rattle.lists.specs.Lists.{each, span}
 use Rattle.lists.proofs.Buckets.{each_span_snoc}
 use Rattle.lists.proofs.Copies.{sets_whole}
@@ -22,28 +19,20 @@ use Rattle.sides.proofs.Triangles.{triangle_count, triangle_uses, length_uses}
 
 -- ---- one use
 
--- the lower and the higher of two positions
+-- the key of an edge has the lower of its two positions, and the higher
 module _ (p q : ℕ) where
-  pub lower_first : p ≤ q → p ≡ (key (p, q)).0
+  key_min : min p q ≡ (key (p, q)).0
   unfolding key
-  lower_first h = rw (le-leb p q h)
+  key_min = by_cases (leb p q) (λ h. let l : p ≤ q = leb-true p q h in rw h (omega arith)) (λ h. let l : q < p = leb-false p q h in rw h (omega arith))
 
-  pub lower_second : q < p → q ≡ (key (p, q)).0
+  key_max : max p q ≡ (key (p, q)).1
   unfolding key
-  lower_second h = rw (lt-leb p q h)
-
-  pub higher_second : p ≤ q → q ≡ (key (p, q)).1
-  unfolding key
-  higher_second h = rw (le-leb p q h)
-
-  pub higher_first : q < p → p ≡ (key (p, q)).1
-  unfolding key
-  higher_first h = rw (lt-leb p q h)
+  key_max = by_cases (leb p q) (λ h. let l : p ≤ q = leb-true p q h in rw h (omega arith)) (λ h. let l : q < p = leb-false p q h in rw h (omega arith))
 
   pub use_written :
-      (r at x y : ℕ) (l h w : List ℕ) → x ≡ (key (p, q)).0 → y ≡ (key (p, q)).1
+      (r at x y : ℕ) (l h w : List ℕ) → x ≡ min p q → y ≡ max p q
       → UseWritten (key (p, q), r) at l h w (set l at x) (set h at y) (set w at r)
-  use_written r at x y l h w e f = record { lower_is = ap (set l at) e; higher_is = ap (set h at) f; wing_is = refl }
+  use_written r at x y l h w e f = record { lower_is = ap (set l at) (e ∙ key_min); higher_is = ap (set h at) (f ∙ key_max); wing_is = refl }
 
 -- ---- one face
 

@@ -1,13 +1,7 @@
 -- The columns of triangles can be sorted, and the marks of the sort are the first uses of edges. Assumes nothing.
-use mathlib.Core.Path.{◌≡◌, refl, sym, ap, ◌∙◌, subst}
-use mathlib.Core.Bool.{Bool, true, false, ◌&&◌}
-use mathlib.Core.List.{List}
-use Prim.Native.Nat.{ℕ, zero, suc, ◌+◌, ◌*◌, ◌/◌, ◌≤◌, ◌<◌}
-use native.Mathlib.Omega.{arith}
-use lib.ListN.{length, get_or, take, replicate, length-map, get_or-map, get_or-replicate}
-use lib.Seq.{get_or-take}
-use lib.Dec.{eqb}
-use borrow.Author.Tests.{eq-eqb}
+use Rattle.std.proofs.Common.{◌≡◌, refl, sym, ap, ◌∙◌, subst, Bool, true, false, ◌&&◌, List, ℕ, zero, suc, ◌+◌, ◌*◌, ◌/◌, ◌≤◌, ◌<◌, arith, length, get_or, take, replicate, get_or-take, eqb}
+use Rattle.std.proofs.Common.{eq-eqb}
+use lib.ListN.{length-map, get_or-map, get_or-replicate}
 use Rattle.lists.specs.Lists.{each, span}
 use Rattle.lists.proofs.Buckets.{length_front}
 use Rattle.mesh.specs.Limits.{width, least_ring, entry_limit, corner_limit}
@@ -20,7 +14,7 @@ use Rattle.smoothed.specs.Around.{Use, uses_of}
 use Rattle.smoothed.specs.Columns.{Triangular, triangles}
 use Rattle.smoothed.proofs.All.{All, none, more, all_each}
 use Rattle.sides.specs.Sides.{lower_of, higher_of, edge_at, Sides, EdgeColumns, Marked}
-use Rattle.sides.specs.Steps.{position_at_lem, uses_at, MarkRoom}
+use Rattle.sides.specs.Steps.{position_at_lem, uses_at}
 use Rattle.sides.proofs.Triangles.{triangle_count, triangle_uses, length_uses}
 
 -- ---- lower and higher positions are positions
@@ -76,6 +70,13 @@ module _ (cs : List ℕ) (t : Triangular cs entry_limit) where
       }
 
 -- ---- the sort
+
+-- a row that is alike all along, and a row to work in
+pub record MarkRoom (lower higher alike order firsts : List ℕ) : Type 0 where
+  pub columns : EdgeColumns lower higher firsts
+  pub alike_long : length alike ≡ length lower
+  pub alike_is : (x : ℕ) → x < length lower → get_or alike x 0 ≡ normal_digit 0
+  pub order_long : length order ≡ length lower
 
 digit_one : normal_digit 0 ≡ 1
 unfolding normal_digit

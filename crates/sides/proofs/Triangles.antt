@@ -1,9 +1,6 @@
 -- The uses of all triangles of a flat list of corners are those of triangle 0, of triangle 1, and so on. Assumes nothing.
-use mathlib.Core.Path.{◌≡◌, refl, sym, ap, ◌∙◌}
-use mathlib.Core.List.{List, [], map}
-use Prim.Native.Nat.{ℕ, zero, suc, ◌+◌, ◌*◌, ◌/◌, ◌≤◌, ◌<◌}
-use native.Mathlib.Omega.{arith}
-use lib.ListN.{length, get_or, take, drop, replicate, length-replicate, get_or-replicate}
+use Rattle.std.proofs.Common.{◌≡◌, refl, sym, ap, ◌∙◌, List, [], map, ℕ, zero, suc, ◌+◌, ◌*◌, ◌/◌, ◌≤◌, ◌<◌, arith, length, get_or, take, drop, replicate}
+use lib.ListN.{length-replicate, get_or-replicate}
 use Rattle.lists.specs.Lists.{each, span, sum}
 use Rattle.lists.proofs.Buckets.{each_span_cong}
 use Rattle.lists.proofs.Copies.{length_part, part_at}

@@ -2,10 +2,9 @@
 use Rattle.std.specs.Prelude.{◌≡◌, List, [], ◌∷◌, map, ℕ, ◌+◌, ◌*◌, ◌≤◌, ◌<◌, length, get_or, set}
 use Rattle.std.proofs.lemmas.List.Edits.{sets}
 use Rattle.mesh.specs.Limits.{width, least_ring, corner_limit, corner_numbers}
-use Rattle.columns.specs.Columns.{normal_digit}
 use Rattle.verdicts.specs.Edges.{key}
 use Rattle.smoothed.specs.Around.{Use}
-use Rattle.sides.specs.Sides.{lower_of, higher_of, wing_of, EdgeColumns}
+use Rattle.sides.specs.Sides.{lower_of, higher_of, wing_of}
 
 -- the position of corner j
 abbrev pub position_at_lem : List ℕ → ℕ → ℕ
@@ -43,10 +42,3 @@ pub record UseWritten (u : Use) (at : ℕ) (lower higher wing lower' higher' win
   pub lower_is : lower' ≡ set lower at (lower_of u)
   pub higher_is : higher' ≡ set higher at (higher_of u)
   pub wing_is : wing' ≡ set wing at (wing_of u)
-
--- a row that is alike all along, and a row to work in
-pub record MarkRoom (lower higher alike order firsts : List ℕ) : Type 0 where
-  pub columns : EdgeColumns lower higher firsts
-  pub alike_long : length alike ≡ length lower
-  pub alike_is : (x : ℕ) → x < length lower → get_or alike x 0 ≡ normal_digit 0
-  pub order_long : length order ≡ length lower

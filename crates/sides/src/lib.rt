@@ -8,7 +8,7 @@ ghost use Rattle.mesh.specs.Limits.{least_ring};
 ghost use Rattle.verdicts.specs.Edges.{key};
 ghost use Rattle.smoothed.specs.Columns.{triangles};
 ghost use Rattle.sides.specs.Sides.{SideRoom, Sides, EdgeColumns, Marked};
-ghost use Rattle.sides.specs.Steps.{uses_at, FaceRoom, FaceSides, UseRoom, UseWritten, MarkRoom};
+ghost use Rattle.sides.specs.Steps.{uses_at, FaceRoom, FaceSides, UseRoom, UseWritten};
 
 // The digit that every use has in place of its normals: where all are alike they change no order.
 const ALIKE: u32 = 1;
@@ -21,11 +21,8 @@ pub fn put_sides(corners: &[u32], lower: &mut [u32], higher: &mut [u32], wing: &
     requires { SideRoom corners.now lower.old higher.old wing.old }
     ensures { Sides (triangles corners.now) lower.new higher.new wing.new }
 {
-    let n = corners.len() / TRIANGLE;
-    let mut k: usize = 0;
-    while k < n {
+    for k in 0..corners.len() / TRIANGLE {
         put_face(corners, k, lower, higher, wing);
-        k += 1;
     }
 }
 
@@ -57,21 +54,9 @@ fn put_side(
     requires { UseRoom at lower.old higher.old wing.old }
     ensures { UseWritten (key (p, q), r) at lower.old higher.old wing.old lower.new higher.new wing.new }
 {
-    lower[at] = lower_of(p, q);
-    higher[at] = higher_of(p, q);
+    lower[at] = p.min(q);
+    higher[at] = p.max(q);
     wing[at] = r;
-}
-
-fn lower_of(p: u32, q: u32) -> u32
-    ensures { result ≡ (key (p, q)).0 }
-{
-    if p <= q { p } else { q }
-}
-
-fn higher_of(p: u32, q: u32) -> u32
-    ensures { result ≡ (key (p, q)).1 }
-{
-    if p <= q { q } else { p }
 }
 
 // Each use is marked with the first use of its edge.
@@ -82,13 +67,13 @@ pub fn mark_firsts(lower: &[u32], higher: &[u32], firsts: &mut [u32])
     let alike = [ALIKE; mesh::CORNERS];
     let mut order = [0u32; mesh::CORNERS];
     let u = lower.len();
-    mark_in(lower, higher, &alike[..u], &mut order[..u], firsts);
-}
-
-// The same, in a row to work in, with a row that is alike all along.
-fn mark_in(lower: &[u32], higher: &[u32], alike: &[u32], order: &mut [u32], firsts: &mut [u32])
-    requires { MarkRoom lower.now higher.now alike.now order.old firsts.old }
-    ensures { Marked lower.now higher.now firsts.new }
-{
-    keys::firsts::put_firsts(lower, higher, alike, alike, false, order, firsts);
+    keys::firsts::put_firsts(
+        lower,
+        higher,
+        &alike[..u],
+        &alike[..u],
+        false,
+        &mut order[..u],
+        firsts,
+    );
 }
