@@ -1,15 +1,9 @@
 -- The pass over the uses: after x of them the rows hold them. Assumes nothing.
-use mathlib.Core.Path.{◌≡◌, refl, sym, ap, ap₂, ◌∙◌, subst}
-use mathlib.Core.Bool.{Bool, true, false, cond}
-use mathlib.Core.List.{List, [], ◌∷◌, ◌++◌}
-use Prim.Native.Nat.{ℕ, ◌+◌, ◌≤◌, ◌<◌}
-use native.Mathlib.Nat.{zero-add}
-use native.Mathlib.Numerals.{add-one}
-use native.Mathlib.Omega.{arith}
-use lib.Dec.{eqb}
-use borrow.Author.Tests.{eqb-true, eqb-false}
-use lib.ListN.{length, get_or, take, drop, set, length-append, length-map, get_or-append}
-use lib.Seq.{sets, length-sets, take-suc, take-length, length-take-le, get_or-take, get_or-drop, get_or-append-add, set-append_left}
+use Rattle.std.proofs.Common.{◌≡◌, refl, sym, ap, ap₂, ◌∙◌, subst, Bool, true, false, cond, List, [], ◌∷◌, ◌++◌, ℕ, ◌+◌, ◌≤◌, ◌<◌, zero-add, add-one, arith, eqb, eqb-true, length, get_or}
+use Rattle.std.proofs.Common.{take, drop, set, length-append, take-suc, length-take-le, get_or-take, get_or-drop, get_or-append-add}
+use borrow.Author.Tests.{eqb-false}
+use lib.ListN.{length-map, get_or-append}
+use lib.Seq.{sets, length-sets, take-length, set-append_left}
 use Rattle.lists.specs.Lists.{some}
 use Rattle.lists.proofs.Buckets.{length_table, table_at}
 use Rattle.lists.proofs.Changing.{map_at}

@@ -1,4 +1,3 @@
 pub mod OneUse
 pub mod Laying
-pub mod Taking
 pub mod Whole

@@ -1,11 +1,8 @@
 -- One use more: an edge that is new comes to stand behind all, with one wing; one that is there gets a wing more at its place.
 -- Assumes nothing.
-use mathlib.Core.Path.{◌≡◌, refl, sym, ap, ap₂, ◌∙◌, subst}
-use mathlib.Core.Bool.{Bool, true, false}
-use mathlib.Core.List.{List, [], ◌∷◌, ◌++◌, append-nil, map, map-append}
-use Prim.Native.Nat.{ℕ, ◌+◌, ◌-◌, ◌≤◌, ◌<◌}
-use native.Mathlib.Omega.{arith}
-use lib.ListN.{length, get_or, set, length-append, length-map, get_or-append}
+use Rattle.std.proofs.Common.{◌≡◌, refl, sym, ap, ap₂, ◌∙◌, subst, Bool, true, false, List, [], ◌∷◌, ◌++◌, append-nil, map, ℕ, ◌+◌, ◌-◌, ◌≤◌, ◌<◌, arith, length, get_or, set, length-append}
+use mathlib.Core.List.{map-append}
+use lib.ListN.{length-map, get_or-append}
 use lib.Seq.{set-get_or, get_or-append_seam}
 use Rattle.lists.specs.Lists.{only, keep_if, some}
 use Rattle.lists.proofs.Alike.{some_map}

@@ -1,9 +1,7 @@
 -- All uses of triangles: the rows are those of the rules, and so is what the call asks. Assumes nothing.
-use mathlib.Core.Path.{◌≡◌, sym, ap, ◌∙◌, subst}
-use mathlib.Core.List.{List, map, map-map}
-use Prim.Native.Nat.{ℕ, ◌*◌, ◌/◌, ◌<◌}
-use native.Mathlib.Omega.{arith}
-use lib.ListN.{length, get_or, take, replicate, length-map, get_or-map}
+use Rattle.std.proofs.Common.{◌≡◌, sym, ap, ◌∙◌, subst, List, map, ℕ, ◌*◌, ◌/◌, ◌<◌, arith, length, get_or, take, replicate}
+use mathlib.Core.List.{map-map}
+use lib.ListN.{length-map, get_or-map}
 use lib.Seq.{sets}
 use Rattle.lists.specs.Lists.{each}
 use Rattle.lists.proofs.Buckets.{length_front, table_ext}
@@ -15,10 +13,10 @@ use Rattle.verdicts.specs.Edges.{Edge}
 use Rattle.smoothed.specs.Smoothed.{first_uses, edges_by_use, place}
 use Rattle.smoothed.specs.Around.{Use, uses_of, wings}
 use Rattle.smoothed.specs.Columns.{Triangular, triangles, edge_numbers, edge_lowers, edge_highers, edge_firsts, edge_seconds, edge_wings}
-use Rattle.sides.specs.Sides.{lower_of, higher_of, wing_of, Sides, EdgeColumns, Marked}
+use Rattle.sides.specs.Sides.{lower_of, higher_of, wing_of, SideRoom, Sides, EdgeColumns, Marked}
 use Rattle.sides.proofs.Marks.{columns_ready}
-use Rattle.numbering.specs.Numbering.{Rows, rows, Numberable, Numbered}
-use Rattle.numbering.specs.Steps.{edges_in, wings_in, each_edge, first_of, last_of, numbers_in, lowers_in, highers_in, Laid, use_at, uses_in, WorkRoom, Marks}
+use Rattle.numbering.specs.Numbering.{Rows, rows, Long, Numberable, Numbered}
+use Rattle.numbering.specs.Steps.{edges_in, wings_in, each_edge, first_of, last_of, numbers_in, lowers_in, highers_in, Laid, use_at, uses_in, Marks}
 use Rattle.numbering.proofs.Laying.{numbers_long}
 
 -- the uses come back from their columns
@@ -32,6 +30,11 @@ uses_back us =
       (sym (get_or-map lower_of us x ((0, 0), 0)) i, sym (get_or-map higher_of us x ((0, 0), 0)) i),
       sym (get_or-map wing_of us x ((0, 0), 0)) i,
     )))
+
+-- rows of one number for each use, to work in
+pub record WorkRoom (cs lower higher wing : List ℕ) (r : Rows) : Type 0 where
+  pub room : SideRoom cs lower higher wing
+  pub long : Long r (length cs / width)
 
 module _ (fs : List Ring) where
   edges_all : edges_in (each uses_of fs) ≡ edges_by_use fs

@@ -1,12 +1,12 @@
 -- The steps of the code, and no rules: the same rows over some of the uses, and what one use more does to them. Assumes nothing.
-use Rattle.std.specs.Prelude.{◌≡◌, Bool, cond, List, map, ℕ, ◌+◌, ◌-◌, ◌/◌, ◌≤◌, ◌<◌, length, get_or, set, eqb}
+use Rattle.std.specs.Prelude.{◌≡◌, Bool, cond, List, map, ℕ, ◌+◌, ◌-◌, ◌≤◌, ◌<◌, length, get_or, set, eqb}
 use Rattle.std.proofs.lemmas.List.Edits.{sets}
 use Rattle.lists.specs.Lists.{only, span}
-use Rattle.mesh.specs.Limits.{width, corner_limit}
+use Rattle.mesh.specs.Limits.{corner_limit}
 use Rattle.verdicts.specs.Edges.{Edge, same}
 use Rattle.smoothed.specs.Smoothed.{first_uses, place}
 use Rattle.smoothed.specs.Around.{Use}
-use Rattle.sides.specs.Sides.{SideRoom, Marked}
+use Rattle.sides.specs.Sides.{Marked}
 use Rattle.numbering.specs.Numbering.{Rows, rows, Long}
 
 -- ---- over some of the uses
@@ -99,8 +99,3 @@ pub record Takeable (x k : ℕ) (lower higher wing : List ℕ) (r : Rows) : Type
 pub record Taken (x k : ℕ) (u : Use) (before after : Rows) (k' : ℕ) : Type 0 where
   pub is : after ≡ cond (is_first before x) (begun before x k u) (met before x (number_at before x) u)
   pub count : k' ≡ cond (is_first before x) (k + 1) k
-
--- rows of one number for each use, to work in
-pub record WorkRoom (cs lower higher wing : List ℕ) (r : Rows) : Type 0 where
-  pub room : SideRoom cs lower higher wing
-  pub long : Long r (length cs / width)

@@ -6,7 +6,7 @@
 ghost use Rattle.std.specs.Prelude.{◌≡◌};
 ghost use Rattle.smoothed.specs.Columns.{triangles};
 ghost use Rattle.numbering.specs.Numbering.{rows, Numberable, Numbered};
-ghost use Rattle.numbering.specs.Steps.{use_at, uses_in, WorkRoom, Laid, Marks, Takeable, Taken};
+ghost use Rattle.numbering.specs.Steps.{use_at, uses_in, Laid, Marks, Takeable, Taken};
 
 // Every row has one number for each corner. `numbers` gets for each use the number of its edge; the others get for each edge its lower
 // and its higher position, its first and its last wing, and how many wings it has. Returns how many edges there are.
@@ -24,43 +24,13 @@ pub fn number_edges(
         (rows numbers.old lowers.old highers.old firsts.old seconds.old wings.old)
         (rows numbers.new lowers.new highers.new firsts.new seconds.new wings.new) result }
 {
-    let mut lower = [0u32; mesh::CORNERS];
-    let mut higher = [0u32; mesh::CORNERS];
-    let mut wing = [0u32; mesh::CORNERS];
+    let mut lower_row = [0u32; mesh::CORNERS];
+    let mut higher_row = [0u32; mesh::CORNERS];
+    let mut wing_row = [0u32; mesh::CORNERS];
     let u = corners.len() / mesh::WIDTH;
-    number_in(
-        corners,
-        &mut lower[..u],
-        &mut higher[..u],
-        &mut wing[..u],
-        numbers,
-        lowers,
-        highers,
-        firsts,
-        seconds,
-        wings,
-    )
-}
-
-// The same, in rows to work in, for the columns of the uses.
-fn number_in(
-    corners: &[u32],
-    lower: &mut [u32],
-    higher: &mut [u32],
-    wing: &mut [u32],
-    numbers: &mut [u32],
-    lowers: &mut [u32],
-    highers: &mut [u32],
-    firsts: &mut [u32],
-    seconds: &mut [u32],
-    wings: &mut [u32],
-) -> usize
-    requires { WorkRoom corners.now lower.old higher.old wing.old
-        (rows numbers.old lowers.old highers.old firsts.old seconds.old wings.old) }
-    ensures { Numbered (triangles corners.now)
-        (rows numbers.old lowers.old highers.old firsts.old seconds.old wings.old)
-        (rows numbers.new lowers.new highers.new firsts.new seconds.new wings.new) result }
-{
+    let lower = &mut lower_row[..u];
+    let higher = &mut higher_row[..u];
+    let wing = &mut wing_row[..u];
     sides::put_sides(corners, lower, higher, wing);
     sides::mark_firsts(lower, higher, numbers);
     number_uses(
@@ -86,13 +56,11 @@ fn number_uses(
         (rows numbers.old lowers.old highers.old firsts.old seconds.old wings.old)
         (rows numbers.new lowers.new highers.new firsts.new seconds.new wings.new) result }
 {
-    let mut count: usize = 0;
-    let mut x: usize = 0;
-    while x < lower.len() {
+    let mut count = 0;
+    for x in 0..lower.len() {
         count = take_use(
             x, count, lower, higher, wing, numbers, lowers, highers, firsts, seconds, wings,
         );
-        x += 1;
     }
     count
 }
@@ -118,7 +86,7 @@ fn take_use(
         (rows numbers.old lowers.old highers.old firsts.old seconds.old wings.old)
         (rows numbers.new lowers.new highers.new firsts.new seconds.new wings.new) result }
 {
-    let first = lists::wide(numbers[x]);
+    let first = numbers[x] as usize;
     if first == x {
         lowers[count] = lower[x];
         highers[count] = higher[x];
@@ -129,9 +97,9 @@ fn take_use(
         return count + 1;
     }
     let number = numbers[first];
-    let edge = lists::wide(number);
+    let edge = number as usize;
     seconds[edge] = wing[x];
-    wings[edge] = wings[edge] + 1;
+    wings[edge] += 1;
     numbers[x] = number;
     count
 }
