@@ -1,11 +1,6 @@
 -- How many neighbours each position has, one edge more at a time. Assumes nothing.
-use mathlib.Core.Path.{◌≡◌, sym, ap, ap₂, ◌∙◌, subst}
-use mathlib.Core.List.{List, [], ◌∷◌}
-use Prim.Native.Nat.{ℕ, ◌+◌, ◌≤◌, ◌<◌}
-use native.Mathlib.Nat.{add-zero}
-use native.Mathlib.Omega.{arith}
-use lib.ListN.{length, get_or, set, replicate, length-replicate}
-use lib.Seq.{get_or-set_other}
+use Rattle.std.proofs.Common.{◌≡◌, sym, ap, ap₂, ◌∙◌, subst, List, [], ◌∷◌, ℕ, ◌+◌, ◌≤◌, ◌<◌, add-zero, arith, length, get_or, set, replicate, get_or-set_other}
+use lib.ListN.{length-replicate}
 use Rattle.lists.proofs.Buckets.{table_ext}
 use Rattle.mesh.specs.Limits.{corner_limit, largest}
 use Rattle.verdicts.specs.Edges.{Edge}

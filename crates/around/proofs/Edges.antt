@@ -1,12 +1,7 @@
 -- The edges of two rows, one more at a time. Assumes nothing.
-use mathlib.Core.Path.{◌≡◌, ap, ◌∙◌}
-use mathlib.Core.Bool.{Bool, true, false}
-use mathlib.Core.List.{List, [], ◌∷◌, ◌++◌, map, map-append, append-nil}
-use Prim.Native.Nat.{ℕ, ◌+◌, ◌-◌, ◌≤◌, ◌<◌}
-use native.Mathlib.Nat.{zero-add}
-use native.Mathlib.Omega.{arith}
-use lib.Dec.{eqb}
-use lib.ListN.{length, get_or, length-map, replicate, length-replicate}
+use Rattle.std.proofs.Common.{◌≡◌, ap, ◌∙◌, Bool, true, false, List, [], ◌∷◌, ◌++◌, map, append-nil, ℕ, ◌+◌, ◌-◌, ◌≤◌, ◌<◌, zero-add, arith, eqb, length, get_or, replicate}
+use mathlib.Core.List.{map-append}
+use lib.ListN.{length-map, length-replicate}
 use lib.Seq.{sets}
 use Rattle.lists.specs.Lists.{keep_if, only, span}
 use Rattle.lists.proofs.Buckets.{only_snoc, span_snoc, length_span}

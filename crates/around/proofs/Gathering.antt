@@ -1,13 +1,10 @@
 -- A pass over edges in which each edge changes the entries of its two ends, each by the other end: at each position stands what its
 -- neighbours make of it, one after the other, in their order. One law for every kind of entry. Assumes nothing.
-use mathlib.Core.Path.{◌≡◌, refl, sym, ap, ◌∙◌, subst}
-use mathlib.Core.Bool.{true, false}
-use mathlib.Core.List.{List, [], ◌∷◌, ◌++◌, map, map-append}
-use Prim.Native.Nat.{ℕ, ◌<◌}
-use lib.Dec.{eqb}
-use lib.ListN.{length, get_or, replicate, length-set, get_or-replicate}
-use lib.Seq.{get_or-set_same, get_or-set_other, lt-length-set}
-use borrow.Author.Tests.{eqb-true, eqb-false}
+use Rattle.std.proofs.Common.{◌≡◌, refl, sym, ap, ◌∙◌, subst, true, false, List, [], ◌∷◌, ◌++◌, map, ℕ, ◌<◌, eqb, length, get_or, replicate, length-set, get_or-set_same, get_or-set_other}
+use Rattle.std.proofs.Common.{lt-length-set, eqb-true}
+use mathlib.Core.List.{map-append}
+use lib.ListN.{get_or-replicate}
+use borrow.Author.Tests.{eqb-false}
 use Rattle.lists.specs.Lists.{only}
 use Rattle.lists.proofs.Bools.{by_cases}
 use Rattle.lists.proofs.Only.{only_append}

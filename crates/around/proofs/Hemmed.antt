@@ -1,13 +1,8 @@
 -- The first two neighbours of each position along a hem, one edge more at a time. Assumes nothing.
-use mathlib.Core.Path.{◌≡◌, refl, sym, ap, ap₂, ◌∙◌, subst}
-use mathlib.Core.Bool.{Bool, true, false, cond}
-use mathlib.Core.List.{List, [], ◌∷◌, ◌++◌}
-use Prim.Native.Nat.{ℕ, ◌+◌, ◌≤◌, ◌<◌}
-use native.Mathlib.Omega.{arith}
-use lib.Dec.{eqb}
-use lib.ListN.{length, get_or, set, replicate, length-set, length-replicate, get_or-replicate}
-use lib.Seq.{get_or-set_same, get_or-set_other}
-use borrow.Author.Tests.{eq-eqb, ne_eqb}
+use Rattle.std.proofs.Common.{◌≡◌, refl, sym, ap, ap₂, ◌∙◌, subst, Bool, true, false, cond, List, [], ◌∷◌, ◌++◌, ℕ, ◌+◌, ◌≤◌, ◌<◌, arith, eqb, length, get_or, set, replicate, length-set}
+use Rattle.std.proofs.Common.{get_or-set_same, get_or-set_other, eq-eqb, ne_eqb}
+use lib.ListN.{length-replicate, get_or-replicate}
+use Rattle.std.proofs.lemmas.List.{set-get_or}
 use Rattle.lists.proofs.Buckets.{table_ext}
 use Rattle.mesh.specs.Limits.{entry_limit}
 use Rattle.mesh.specs.Mesh.{missing}
@@ -70,10 +65,28 @@ first_two v (more {x = w} {l = ws} q r) =
 
 -- ---- two lists
 
-pub given_is :
-    (first second : List ℕ) (v w x y : ℕ) → x ≡ filled (get_or first v 0) w → y ≡ second_filled (get_or first v 0) (get_or second v 0) w
-    → ◌≡◌ {A = Hems} (set first v x, set second v y) (given v w (first, second))
-given_is first second v w x y p q = ap₂ (λ (a b : ℕ). (set first v a, set second v b)) p q
+module _ (first second : List ℕ) (v w : ℕ) where
+  given_is :
+      (x y : ℕ) → x ≡ filled (get_or first v 0) w → y ≡ second_filled (get_or first v 0) (get_or second v 0) w
+      → ◌≡◌ {A = Hems} (set first v x, set second v y) (given v w (first, second))
+  given_is x y p q = ap₂ (λ (a b : ℕ). (set first v a, set second v b)) p q
+
+  -- the first entry is missing, or the second alone, or neither
+  pub given_first : get_or first v 0 ≡ missing → ◌≡◌ {A = Hems} (set first v w, second) (given v w (first, second))
+  given_first e =
+      ap (λ (s : List ℕ). (set first v w, s)) (sym (set-get_or second v 0))
+      ∙ given_is w (get_or second v 0) (fill_missing _ w e) (second_missing _ _ w e)
+
+  module _ (there : get_or first v 0 ≡ missing → ⊥) where
+    pub given_second : get_or second v 0 ≡ missing → ◌≡◌ {A = Hems} (first, set second v w) (given v w (first, second))
+    given_second e =
+        ap (λ (f : List ℕ). (f, set second v w)) (sym (set-get_or first v 0))
+        ∙ given_is (get_or first v 0) w (fill_there _ w there) (second_there _ _ w w there (fill_missing _ w e))
+
+    pub given_neither : (get_or second v 0 ≡ missing → ⊥) → ◌≡◌ {A = Hems} (first, second) (given v w (first, second))
+    given_neither d =
+        ap₂ (λ (f s : List ℕ). (f, s)) (sym (set-get_or first v 0)) (sym (set-get_or second v 0))
+        ∙ given_is (get_or first v 0) (get_or second v 0) (fill_there _ w there) (second_there _ _ w _ there (fill_there _ w d))
 
 abbrev entries : Hems → ℕ → Pair
 entries h u = (get_or h.0 u 0, get_or h.1 u 0)

@@ -1,13 +1,8 @@
 -- What is gathered from the rows of the edges is what the rules of smoothing say. Assumes nothing.
-use mathlib.Core.Path.{◌≡◌, refl, sym, ap, ap₂, ◌∙◌, subst, fun_ext}
-use mathlib.Core.Bool.{Bool, true, false, cond, ◌||◌}
-use mathlib.Core.List.{List, [], ◌∷◌, map}
-use Prim.Native.Nat.{ℕ, zero, suc, ◌≤◌, ◌<◌}
-use native.Mathlib.Nat.{not-suc-le-zero, le_of_suc-le-suc}
-use native.Mathlib.Omega.{arith}
-use lib.Dec.{eqb}
-use lib.ListN.{length, get_or, length-map}
-use borrow.Author.Tests.{eqb-true}
+use Rattle.std.proofs.Common.{◌≡◌, refl, sym, ap, ap₂, ◌∙◌, subst, Bool, true, false, cond, ◌||◌, List, [], ◌∷◌, map, ℕ, zero, suc, ◌≤◌, ◌<◌, not-suc-le-zero, le_of_suc-le-suc, arith, eqb}
+use Rattle.std.proofs.Common.{length, get_or, eqb-true}
+use mathlib.Core.Path.{fun_ext}
+use lib.ListN.{length-map}
 use Rattle.lists.specs.Lists.{keep_if, only, span}
 use Rattle.lists.proofs.Buckets.{table_ext, each_span_cong}
 use Rattle.lists.proofs.Changing.{map_at}

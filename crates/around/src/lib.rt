@@ -6,21 +6,16 @@
 
 ghost use Rattle.std.specs.Prelude.{◌≡◌, length};
 ghost use Rattle.around.specs.Rows.{edges_in, hems_in, degrees_in, EdgeRows, HemRows, HemsAre};
-ghost use Rattle.around.specs.Steps.{both, one_more, filled, second_filled, given, given_at, CountAt, Entries, HemAt};
+ghost use Rattle.around.specs.Steps.{both, one_more, given, given_at, CountAt, Entries, HemAt};
 
 // How many neighbours each position has.
 pub fn put_degrees(lowers: &[u32], highers: &[u32], degrees: &mut [u32])
     requires { EdgeRows (length degrees.old) lowers.now highers.now }
     ensures { degrees.new ≡ degrees_in (edges_in lowers.now highers.now) (length degrees.old) }
 {
-    let n = degrees.len();
-    grouping::fill_tags(degrees, 0, n, 0);
-    let mut e: usize = 0;
-    while e < lowers.len() {
-        let a = lists::wide(lowers[e]);
-        let b = lists::wide(highers[e]);
-        count_ends(a, b, degrees);
-        e += 1;
+    degrees.fill(0);
+    for (a, b) in lowers.iter().zip(highers) {
+        count_ends(*a as usize, *b as usize, degrees);
     }
 }
 
@@ -47,13 +42,10 @@ pub fn put_hems(
     ensures { HemsAre
         (length first.old) (hems_in lowers.now highers.now wings.now) first.new second.new }
 {
-    let n = first.len();
-    grouping::fill_tags(first, 0, n, mesh::MISSING);
-    grouping::fill_tags(second, 0, n, mesh::MISSING);
-    let mut e: usize = 0;
-    while e < lowers.len() {
+    first.fill(mesh::MISSING);
+    second.fill(mesh::MISSING);
+    for e in 0..lowers.len() {
         put_hem(lowers, highers, wings, e, first, second);
-        e += 1;
     }
 }
 
@@ -73,8 +65,8 @@ fn put_hem(
     if wings[e] == 1 {
         let a = lowers[e];
         let b = highers[e];
-        give(lists::wide(a), b, first, second);
-        give(lists::wide(b), a, first, second);
+        give(a as usize, b, first, second);
+        give(b as usize, a, first, second);
     }
 }
 
@@ -83,25 +75,9 @@ fn give(v: usize, w: u32, first: &mut [u32], second: &mut [u32])
     requires { Entries v first.old second.old }
     ensures { (first.new, second.new) ≡ given v w (first.old, second.old) }
 {
-    let x = first[v];
-    let y = second[v];
-    first[v] = fill(x, w);
-    second[v] = fill_second(x, y, w);
-}
-
-// What stands there, or w where it was missing.
-fn fill(x: u32, w: u32) -> u32
-    ensures { result ≡ filled x w }
-{
-    if x == mesh::MISSING { w } else { x }
-}
-
-// The same of a second entry, where the first was there already.
-fn fill_second(x: u32, y: u32, w: u32) -> u32
-    ensures { result ≡ second_filled x y w }
-{
-    if x == mesh::MISSING {
-        return y;
+    if first[v] == mesh::MISSING {
+        first[v] = w;
+    } else if second[v] == mesh::MISSING {
+        second[v] = w;
     }
-    fill(y, w)
 }
