@@ -13,8 +13,7 @@ use Rattle.mesh.proofs.After.{after_refused, two_roomy, first_short, second_shor
 use Rattle.mesh.proofs.Numbers.{first_is, first_on, first_head, first_tail, when_not, row_given, row_passed}
 use Rattle.mesh.proofs.Accepted.{within, even}
 use Rattle.grouping.specs.Push.{Placed, pushed, corner_count}
-use Rattle.faces.specs.declared.Pushed.{Pushed}
-use Rattle.faces.specs.Faces.{FaceLists, faces_of, bare, too_large, faces_number, too_short, push_number, grouped, Grouped, refused_by}
+use Rattle.faces.specs.Faces.{FaceLists, faces_of, bare, too_large, faces_number, too_short, push_number, grouped, Pushed, Grouped, refused_by}
 
 -- faces that earn none of 1 to 3 add up
 pub sound : (c s : List ℕ) → faces_number c s ≡ 0 → Sound c s

@@ -1,13 +1,15 @@
 -- Faces in any order, grouped as `push` does (document 01, 'What is carried over', 'The mesh' and 'Numbers returned'): what the call
 -- answers and leaves. Assumes nothing.
-use Rattle.std.specs.Prelude.{ℕ, ◌≡◌, Bool, List, [], ◌∷◌, map, length, ltb}
+use Rattle.std.specs.Prelude.{ℕ, ◌≡◌, Bool, List, [], ◌∷◌, map, length, ltb, Result, Ok, Err}
 use Rattle.std.proofs.lemmas.List.Edits.{sets}
 use Rattle.lists.specs.Lists.{some, joined, each}
 use Rattle.mesh.specs.Limits.{ring_limit}
 use Rattle.mesh.specs.Mesh.{Mesh, Ring, mesh_of, rings}
 use Rattle.mesh.specs.Table.{over_limits, uneven, first_of, when, lent, short, after}
 use Rattle.grouping.specs.Push.{pushed, corner_count}
-use Rattle.faces.specs.declared.Pushed.{Pushed}
+use Rattle.grouping.specs.declared.Filled.{Filled}
+use Rattle.mesh.specs.declared.refusal.Refusal.{Refusal}
+use Rattle.mesh.specs.Refusals.{number_of}
 
 -- the corners of faces one behind the other, and how many each face has: the two lists that are given, and the two that are lent, at
 -- one moment
@@ -43,6 +45,12 @@ push_number given lists = first_of (faces_number given.corners given.sizes ∷ w
 abbrev pub grouped : FaceLists → List Ring
 grouped given = pushed (rings given.sizes given.corners)
 
+-- the number returned, and how many corners and faces are written
+pub record Pushed : Type 0 where
+  pub number : ℕ
+  pub corners : ℕ
+  pub faces : ℕ
+
 -- what the call answers, and what the lent lists hold before and after it: on 0 the corners and sizes of the grouped faces from
 -- their beginning on, room past them unchanged, and how many corners and faces there are; on any other number nothing is written,
 -- and each count is 0
@@ -56,3 +64,8 @@ pub record Grouped (given before afterwards : FaceLists) (answer : Pushed) : Typ
 -- a refusal: each count beside the number is 0
 abbrev pub refused_by : ℕ → Pushed
 refused_by n = record { number = n; corners = 0; faces = 0 }
+
+-- what the call's result says: 0 and the counts, or a refusal
+abbrev pub pushed_of : Result Filled Refusal → Pushed
+pushed_of (Ok filled) = record { number = 0; corners = filled.corners; faces = filled.faces }
+pushed_of (Err refusal) = refused_by (number_of refusal)

@@ -7,68 +7,50 @@
 
 ghost use Rattle.std.specs.Prelude.{◌≡◌, ◌≤◌, length};
 ghost use Rattle.mesh.specs.Limits.{face_limit};
+ghost use Rattle.mesh.specs.Refusals.{refused_number};
 ghost use Rattle.mesh.specs.Table as table;
 ghost use Rattle.faces.specs.Faces as want;
 
-// The number returned, and how many corners and faces are written.
-#[derive(Clone, Copy)]
-pub struct Pushed {
-    pub number: u32,
-    pub corners: usize,
-    pub faces: usize,
-}
+use grouping::Filled;
+use mesh::Refusal;
 
-// Lends two lists for the result, each with the room of the list that it is made from. Answers 0 and how many corners and faces
-// are written; or 1, 2 or 3 as the faces earn, or 9 where a result list is too short, with counts of 0 and nothing written. Indices
-// are not looked at: no list of positions, texture points or normals is given.
-pub fn push(corners: &[u32], sizes: &[u32], newcorners: &mut [u32], newsizes: &mut [u32]) -> Pushed
+// Lends two lists for the result, each with the room of the list that it is made from. Answers how many corners and faces are
+// written; or the refusal 1, 2 or 3 as the faces earn, or 9 where a result list is too short, with nothing written. Indices are not
+// looked at: no list of positions, texture points or normals is given.
+pub fn push(
+    corners: &[u32],
+    sizes: &[u32],
+    newcorners: &mut [u32],
+    newsizes: &mut [u32],
+) -> Result<Filled, Refusal>
     ensures { want.Grouped
         (want.faces_of corners.now sizes.now)
         (want.faces_of newcorners.old newsizes.old)
         (want.faces_of newcorners.new newsizes.new)
-        result }
+        (want.pushed_of result) }
 {
-    let number = faces_number(corners, sizes);
-    if number != 0 {
-        return refused(number);
-    }
+    check(corners, sizes)?;
     if newcorners.len() < corners.len() || newsizes.len() < sizes.len() {
-        return refused(9);
+        return Err(Refusal::Room);
     }
-    let made = grouping::push_all(corners, sizes, newcorners, newsizes);
-    Pushed {
-        number: 0,
-        corners: made.corners,
-        faces: made.faces,
-    }
-}
-
-// A refusal: each count beside it is 0.
-fn refused(number: u32) -> Pushed
-    ensures { result ≡ want.refused_by number }
-{
-    Pushed {
-        number,
-        corners: 0,
-        faces: 0,
-    }
+    Ok(grouping::push_all(corners, sizes, newcorners, newsizes))
 }
 
 // Rows 1 to 3 of the table, for faces that need not be grouped.
 #[tactic(auto, unfolding(crate::specs::Faces::faces_number))]
-fn faces_number(corners: &[u32], sizes: &[u32]) -> u32
-    ensures { result ≡ want.faces_number corners.now sizes.now }
+fn check(corners: &[u32], sizes: &[u32]) -> Result<(), Refusal>
+    ensures { refused_number result ≡ want.faces_number corners.now sizes.now }
 {
     if over_limits(corners, sizes) {
-        return 1;
+        return Err(Refusal::OverLimit);
     }
     if uneven(corners, sizes) {
-        return 2;
+        return Err(Refusal::Misfit);
     }
     if too_large(sizes) {
-        return 3;
+        return Err(Refusal::FaceSize);
     }
-    0
+    Ok(())
 }
 
 // Row 1: there are more corner numbers than limit times width, or more face sizes than the limit.

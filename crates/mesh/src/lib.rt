@@ -142,6 +142,14 @@ impl<'a> Mesh<'a> {
     }
 }
 
+// How many of each kind of entry: positions, texture points, normals.
+#[derive(Clone, Copy)]
+pub struct Entries {
+    pub positions: usize,
+    pub textures: usize,
+    pub normals: usize,
+}
+
 // The number that the five lists earn.
 pub fn number(
     positions: &[f64],
