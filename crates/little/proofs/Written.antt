@@ -94,11 +94,6 @@ word_low x y =
     let b : (x + 4294967296 * y) / 65536 ≡ x / 65536 + 65536 * y = omega arith in
     ap₂ (λ (u v : List ℕ). u ++ v) (ap half_bytes a ∙ half_low x (65536 * y)) (ap half_bytes b ∙ half_low (x / 65536) y)
 
-pub word_cut : (x : ℕ) → word_bytes (x % 4294967296) ≡ word_bytes x
-word_cut x =
-    let e : x % 4294967296 + 4294967296 * (x / 4294967296) ≡ x = omega arith in
-    sym (word_low (x % 4294967296) (x / 4294967296)) ∙ ap word_bytes e
-
 -- ---- writing undoes reading, where every byte is below 256
 
 pub half_again : ReadThenWritten half half_bytes 2

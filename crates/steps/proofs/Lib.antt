@@ -1,9 +1,7 @@
-pub mod Ready
 pub mod Stopping
 pub mod Positions
 pub mod Textures
 pub mod Normals
 pub mod Ends
 pub mod Rings
-pub mod Cases
 pub mod Known
