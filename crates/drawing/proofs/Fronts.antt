@@ -1,16 +1,15 @@
 -- The fronts of the reader's own lists once the reading has stopped: they are as long as the counts say, and they are what was drawn.
 -- Assumes nothing.
-use mathlib.Core.Path.{◌≡◌, sym, ap, ◌∙◌}
+use mathlib.Core.Path.{◌≡◌, ap, ◌∙◌}
 use mathlib.Core.List.{List, map}
 use Prim.Native.Nat.{ℕ, ◌*◌}
 use native.Mathlib.Omega.{arith}
 use lib.ListN.{length, take}
 use lib.Seq.{length-take-le}
-use Rattle.lists.specs.Lists.{some, joined, sum}
+use Rattle.lists.specs.Lists.{some, joined}
 use Rattle.mesh.specs.Limits.{width}
 use Rattle.mesh.specs.Mesh.{Mesh, mesh_of, rings}
 use Rattle.mesh.specs.Table.{astray, astray_at}
-use Rattle.mesh.specs.Face.{Sound}
 use Rattle.mesh.proofs.Faces.{rings_back}
 use Rattle.grouping.proofs.Accepting.{corners_in-flat}
 use Rattle.steps.specs.declared.Progress.{Progress}
@@ -31,21 +30,6 @@ module _ (file : List ℕ) (x : Progress) (l : Mesh) (d : Drawing file x l) wher
 
   pub front_normals : length (take (3 * x.normals) l.normals) ≡ 3 * x.normals
   front_normals = length-take-le (3 * x.normals) l.normals (omega (arith, d.within.normals, d.long.normals))
-
-  pub front_corners : length (take (width * x.corners) l.corners) ≡ width * x.corners
-  front_corners = length-take-le (width * x.corners) l.corners (omega (arith, d.within.corners, d.long.corners))
-
-  pub front_sizes : length (take x.faces l.sizes) ≡ x.faces
-  front_sizes = length-take-le x.faces l.sizes (omega (arith, d.within.faces, d.within.corners, d.long.sizes))
-
-  pub own_sound : Sound (take (width * x.corners) l.corners) (take x.faces l.sizes)
-  own_sound =
-      let e : sum (take x.faces l.sizes) ≡ x.corners = ap sum d.holds.sizes ∙ sym d.holds.counted in
-      record {
-        few = omega (arith, front_sizes, d.within.faces, d.within.corners);
-        fits = omega (arith, front_corners, d.within.corners);
-        adds = omega (arith, front_corners);
-      }
 
   pub own_rings : rings (take x.faces l.sizes) (take (width * x.corners) l.corners) ≡ drawn.faces
   own_rings =

@@ -2,7 +2,7 @@
 // the mesh handed over. The rules stand in crate reading.
 #![tactic(auto)]
 
-ghost use Rattle.std.specs.Prelude.{◌≡◌, not, ◌&&◌, eqb};
+ghost use Rattle.std.specs.Prelude.{◌≡◌};
 ghost use Rattle.mesh.specs.Mesh.{mesh_of};
 ghost use Rattle.mesh.specs.Table.{short};
 ghost use Rattle.reading.specs.Reading.{read_all, finish, full_room, panel_mesh};
@@ -38,41 +38,22 @@ pub fn read_records(
         corners: 0,
         faces: 0,
     };
-    let mut go = true;
-    while go {
+    'records: while !x.ended && x.number == 0 {
         x = steps::step(file, positions, textures, normals, corners, sizes, x);
-        go = goes_on(x);
     }
     x
 }
 
-// The reading goes on until a refusal or the end record.
-fn goes_on(x: Progress) -> bool
-    ensures { result ≡ (not x.ended && eqb x.number 0) }
-{
-    if x.ended {
-        return false;
-    }
-    x.number == 0
-}
-
 // Whether a lent list is shorter than the full limits.
+#[tactic(auto, unfolding(mesh::specs::Table::short, reading::specs::Reading::full_room))]
 pub fn is_short(p: usize, t: usize, n: usize, c: usize, s: usize) -> bool
     ensures { result ≡ short (full_room p t n c s) }
 {
-    if p < mesh::POINT_NUMBERS {
-        return true;
-    }
-    if t < mesh::TEXEL_NUMBERS {
-        return true;
-    }
-    if n < mesh::POINT_NUMBERS {
-        return true;
-    }
-    if c < mesh::CORNER_NUMBERS {
-        return true;
-    }
-    s < mesh::FACES
+    p < mesh::POINT_NUMBERS
+        || t < mesh::TEXEL_NUMBERS
+        || n < mesh::POINT_NUMBERS
+        || c < mesh::CORNER_NUMBERS
+        || s < mesh::FACES
 }
 
 // A refusal: its number, and counts of 0.
@@ -102,20 +83,19 @@ pub fn number_at_end(
     requires { Drawing file.now x (mesh_of p.now t.now n.now c.now s.now) }
     ensures { result ≡ finish file.now (read_all file.now) }
 {
-    let number = x.number;
-    let at = x.at;
-    let np = 3 * x.positions;
-    let nt = 2 * x.textures;
-    let nn = 3 * x.normals;
-    let nc = mesh::WIDTH * x.corners;
-    let ns = x.faces;
-    if number != 0 {
-        return number;
+    if x.number != 0 {
+        return x.number;
     }
-    if at < file.len() {
+    if x.at < file.len() {
         return 13;
     }
-    if mesh::astray(&p[..np], &t[..nt], &n[..nn], &c[..nc], &s[..ns]) {
+    if mesh::astray(
+        &p[..3 * x.positions],
+        &t[..2 * x.textures],
+        &n[..3 * x.normals],
+        &c[..mesh::WIDTH * x.corners],
+        &s[..x.faces],
+    ) {
         return 5;
     }
     0
@@ -143,23 +123,15 @@ pub fn hand_over(
         (mesh_of positions.new textures.new normals.new corners.new sizes.new)
         result }
 {
-    let np = x.positions;
-    let nt = x.textures;
-    let nn = x.normals;
-    let pn = 3 * np;
-    let tn = 2 * nt;
-    let nm = 3 * nn;
-    let nc = mesh::WIDTH * x.corners;
-    let ns = x.faces;
-    lists::put_coordinates(&p[..pn], positions, 0);
-    lists::put_coordinates(&t[..tn], textures, 0);
-    lists::put_coordinates(&n[..nm], normals, 0);
-    let filled = grouping::push_all(&c[..nc], &s[..ns], corners, sizes);
+    lists::put(&p[..3 * x.positions], positions, 0);
+    lists::put(&t[..2 * x.textures], textures, 0);
+    lists::put(&n[..3 * x.normals], normals, 0);
+    let filled = grouping::push_all(&c[..mesh::WIDTH * x.corners], &s[..x.faces], corners, sizes);
     MeshRead {
         number: 0,
-        positions: np,
-        textures: nt,
-        normals: nn,
+        positions: x.positions,
+        textures: x.textures,
+        normals: x.normals,
         corners: filled.corners,
         faces: filled.faces,
     }
@@ -211,9 +183,7 @@ fn gather(
         (mesh_of p.now t.now n.now corners.new sizes.new)
         result }
 {
-    let nc = mesh::WIDTH * x.corners;
-    let ns = x.faces;
-    let filled = grouping::push_all(&c[..nc], &s[..ns], corners, sizes);
+    let filled = grouping::push_all(&c[..mesh::WIDTH * x.corners], &s[..x.faces], corners, sizes);
     MeshRead {
         number: 0,
         positions: x.positions,
