@@ -72,6 +72,7 @@ fn uneven(corners: &[u32], sizes: &[u32]) -> bool
 }
 
 // Row 3: a face has more corners than the limit. One of fewer than three is no fault; it is dropped.
+#[tactic(auto, unfolding(crate::specs::Faces::too_large))]
 fn too_large(sizes: &[u32]) -> bool
     ensures { result ≡ want.too_large sizes.now }
 {
