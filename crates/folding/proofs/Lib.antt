@@ -1,4 +1,3 @@
-pub mod Rows
 pub mod Search
 pub mod Pieces
 pub mod Placing

@@ -1,5 +1,5 @@
 -- One face: the room that it has, and its pieces by its size and by what the tests on it say. Assumes nothing.
-use mathlib.Core.Path.{◌≡◌, sym, ap, ◌∙◌}
+use mathlib.Core.Path.{◌≡◌, refl, sym, ap, ◌∙◌}
 use mathlib.Core.Bool.{Bool, true, false}
 use mathlib.Core.List.{List, [], ◌∷◌, map}
 use Prim.Native.Nat.{ℕ, ◌*◌, ◌≤◌, ◌<◌}
@@ -11,37 +11,20 @@ use Rattle.lists.proofs.Bools.{by_cases}
 use Rattle.mesh.specs.Limits.{width}
 use Rattle.mesh.specs.Mesh.{Ring, position, corners_in}
 use Rattle.mesh.proofs.Corners.{length-corners_in}
-use Rattle.grouping.specs.Push.{Placed, Room}
+use Rattle.grouping.specs.Push.{Placed}
 use Rattle.grouping.proofs.Placing.{placed_none, placed_as}
 use Rattle.splitting.specs.Splitting.{first_mated, first_by}
 use Rattle.splitting.proofs.Search.{folded_found, folded_missing}
 use Rattle.splitting.proofs.Pieces.{pieces_stay}
 use Rattle.folding.specs.Folding.{folded, triangle_pieces, fold_of, left, quadrangle_pieces, ring_pieces, pieces}
-use Rattle.folding.specs.Working.{Splittable}
 use Rattle.folding.specs.declared.Fold.{Fold}
+use Rattle.folding.specs.declared.Fold.TheVariants.{Goes, WithoutQ1, WithoutQ3, Stays}
 use Rattle.folding.proofs.Pieces.{triangle_goes, triangle_stays, changes, quadrangle_left, quadrangle_tells, pieces_triangle, pieces_quadrangle, pieces_ring}
-use Rattle.oneface.specs.Working.{Corners, Face}
+use Rattle.oneface.specs.Working.{Face}
 
 module _ (face : List ℕ) (n : ℕ) (out lens : List ℕ) (c f : ℕ) (h : Face face n out lens c f) where
   pub corners : length (corners_in face) ≡ n
   corners = length-corners_in face ∙ (omega (arith, h.wide))
-
-  -- there is room for the face itself
-  pub face_room : Room face out lens c f
-  face_room = record {
-    whole = omega (arith, h.wide);
-    small = omega (arith, h.wide, h.room.small);
-    corners = omega (arith, h.wide, h.room.corners);
-    faces = omega (arith, h.least, h.room.sizes);
-  }
-
-  -- a row of as many places as the face has corners, and as many for what is taken
-  pub splittable : (row took : List ℕ) → length row ≡ n → n ≤ length took → Splittable face row took out lens c f
-  splittable row took e g = record {
-    wide = h.wide ∙ ap (λ (k : ℕ). width * k) (sym e);
-    places = omega arith;
-    room = rw e h.room;
-  }
 
   -- a larger face that is not folded stays
   pub ring_kept : (b : Bool) → b ≡ folded (corners_in face) → b ≡ false → ring_pieces (corners_in face) ≡ corners_in face ∷ []
@@ -69,19 +52,21 @@ module _ (face : List ℕ) (tri : Ring) (b : Bool) where
 
 -- a quadrangle by the answer on it
 pub quad_tells :
-    (face : List ℕ) (quad : Ring) (f g : Fold) → length face ≡ width * 4 → quad ≡ corners_in face → f ≡ fold_of quad → f ≡ g
-    → changes g ≡ folded (corners_in face)
-quad_tells face quad f g w e h k =
-    ap changes (sym k ∙ h ∙ ap fold_of e) ∙ quadrangle_tells (corners_in face) (length-corners_in face ∙ (omega arith))
+    (face : List ℕ) (quad : Ring) (f : Fold) → length face ≡ width * 4 → quad ≡ corners_in face → f ≡ fold_of quad → changes f ≡ folded (corners_in face)
+quad_tells face quad f w e h =
+    ap changes (h ∙ ap fold_of e) ∙ quadrangle_tells (corners_in face) (length-corners_in face ∙ (omega arith))
+
+-- any answer but that it stays
+pub changed : (f : Fold) → (f ≡ Stays → ⊥) → true ≡ changes f
+changed Goes h = refl
+changed WithoutQ1 h = refl
+changed WithoutQ3 h = refl
+changed Stays h = absurd (h refl)
 
 pub quad_left :
     (face : List ℕ) (quad : Ring) (f g : Fold) → quad ≡ corners_in face → f ≡ fold_of quad → f ≡ g
     → quadrangle_pieces (corners_in face) ≡ left g (corners_in face)
 quad_left face quad f g e h k = quadrangle_left (corners_in face) g (sym k ∙ h ∙ ap fold_of e)
-
--- a row of as many places as a face has corners
-pub corners_of : (face : List ℕ) (n m : ℕ) → Corners face n → m ≡ n → Corners face m
-corners_of face n m h e = rw e h
 
 -- the search through the positions of a larger face says whether it is folded
 pub ring_folded : (face ps : List ℕ) (i : ℕ) → ps ≡ map position (corners_in face) → i ≡ first_mated ps → ltb i (length ps) ≡ folded (corners_in face)

@@ -3,10 +3,6 @@ use Rattle.std.specs.Prelude.{ℕ, ◌*◌, ◌≤◌, ◌≡◌, List, length}
 use Rattle.mesh.specs.Limits.{width, least_ring, ring_limit}
 use Rattle.folding.specs.Working.{Room}
 
--- how long a row for most faces is
-abbrev pub short_row : ℕ
-short_row = 32
-
 -- the flat corners of a face of n corners
 pub record Corners (face : List ℕ) (n : ℕ) : Type 0 where
   pub small : n ≤ ring_limit
