@@ -17,8 +17,6 @@ pub record Hemming (ps es ls o o' : List ℕ) (at to k : ℕ) : Type 0 where
   pub listing : Listing (line_at ps es ls) (span 0 (length ps)) o o' at to k
 
 module _ (ps es ls o : List ℕ) (at : ℕ) where
-  pub hemming_begins : Hemming ps es ls o o at at 0
-  hemming_begins = record { listing = listing_begins 0 (line_at ps es ls) (span 0 (length ps)) o at }
 
   module _ (o' : List ℕ) (to k p e : ℕ) (h : k < length ps) (ep : p ≡ get_or ps k 0) (ee : e ≡ get_or es k 0) (n : Hemming ps es ls o o' at to k) where
     inside : k < length (span 0 (length ps))

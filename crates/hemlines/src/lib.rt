@@ -13,16 +13,8 @@ pub fn put_hems(panels: &[u32], edges: &[u32], lengths: &[u64], out: &mut [u8], 
         (hem_lines panels.now edges.now lengths.now) out.old out.new at result }
 {
     let mut to = at;
-    let mut k: usize = 0;
-    while k < panels.len() {
-        to = put_hem(
-            text::long(panels[k]),
-            text::long(edges[k]),
-            lengths[k],
-            out,
-            to,
-        );
-        k += 1;
+    for (k, panel) in panels.iter().enumerate() {
+        to = put_hem(u64::from(*panel), u64::from(edges[k]), lengths[k], out, to);
     }
     to
 }

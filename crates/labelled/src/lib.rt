@@ -33,12 +33,10 @@ fn label_panels(flat: &[u32], lengths: &[u32], out: &mut [u32])
     ensures { out.new ≡ labelled 0 (parts lengths.now flat.now) out.old }
 {
     let mut from: usize = 0;
-    let mut j: usize = 0;
-    while j < lengths.len() {
-        let end = from + lists::wide(lengths[j]);
+    for (j, n) in lengths.iter().enumerate() {
+        let end = from + *n as usize;
         label_panel(&flat[from..end], j as u32, out);
         from = end;
-        j += 1;
     }
 }
 
@@ -47,10 +45,7 @@ fn label_panel(part: &[u32], label: u32, out: &mut [u32])
     requires { PartRoom part.now out.old }
     ensures { out.new ≡ marked part.now label out.old }
 {
-    let mut i: usize = 0;
-    while i < part.len() {
-        let x = lists::wide(part[i]);
-        out[x] = label;
-        i += 1;
+    for x in part {
+        out[*x as usize] = label;
     }
 }

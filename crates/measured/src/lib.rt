@@ -16,12 +16,10 @@ pub fn put_lengths(flat: &[u32], edges: &[u32], triples: &[i32], out: &mut [u64]
         (map (hem_length (point_of triples.now)) (parts edges.now flat.now)) }
 {
     let mut from: usize = 0;
-    let mut k: usize = 0;
-    while k < edges.len() {
-        let end = from + lists::wide(edges[k]);
+    for (k, n) in edges.iter().enumerate() {
+        let end = from + *n as usize;
         out[k] = hem_length(&flat[from..end], triples);
         from = end;
-        k += 1;
     }
 }
 
@@ -31,13 +29,9 @@ fn hem_length(wire: &[u32], triples: &[i32]) -> u64
     ensures { result ≡ hem_length (point_of triples.now) wire.now }
 {
     let mut long: u64 = 0;
-    let mut i: usize = 0;
-    while i < wire.len() {
-        let next = lists::next_of(i, wire.len());
-        let p = lists::wide(wire[i]);
-        let q = lists::wide(wire[next]);
-        long += edge_length(triples, p, q);
-        i += 1;
+    for (i, p) in wire.iter().enumerate() {
+        let q = wire[lists::next_of(i, wire.len())];
+        long += edge_length(triples, *p as usize, q as usize);
     }
     long
 }

@@ -18,12 +18,5 @@ pub fn is_far(a: i32) -> bool
 pub fn beyond_reach(triples: &[i32]) -> bool
     ensures { result ≡ beyond_reach triples.now }
 {
-    let mut i = 0;
-    while i < triples.len() {
-        if is_far(triples[i]) {
-            return true;
-        }
-        i = i + 1;
-    }
-    false
+    triples.iter().any(|a| is_far(*a))
 }

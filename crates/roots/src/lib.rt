@@ -2,43 +2,16 @@
 // hems are made of (document 02, CR 13).
 #![tactic(auto)]
 
-ghost use Rattle.std.specs.Prelude.{◌≡◌, max, pos, ◌+ℤ◌};
-ghost use Rattle.roots.specs.Roots.{Root, Within};
-ghost use Rattle.roots.specs.Distances.{apart_by, squares, squared_distance, Reached, Spanned, bias};
+ghost use Rattle.std.specs.Prelude.{◌≡◌};
+ghost use Rattle.roots.specs.Roots.{Root};
+ghost use Rattle.roots.specs.Distances.{apart_by, squares, squared_distance, Reached, Spanned};
 
-// What makes a signed number of 32 bits count from 0: 2^31.
-const BIAS: i64 = 2147483648;
-
-// The length of an edge between two points: the greatest whole number whose square is at most the squared distance. It is not below the
-// greatest of the three differences, and not above twice that, so that short edges take few steps.
+// The length of an edge between two points: the greatest whole number whose square is at most the squared distance.
 pub fn length_between(ax: i32, ay: i32, az: i32, bx: i32, by: i32, bz: i32) -> u64
     requires { Reached (ax, ay, az) × Reached (bx, by, bz) }
     ensures { Root (squared_distance (ax, ay, az) (bx, by, bz)) result }
 {
-    let x = apart(ax, bx);
-    let y = apart(ay, by);
-    let z = apart(az, bz);
-    let least = larger(larger(x, y), z);
-    root_between(squared(x, y, z), least, least + least + 1)
-}
-
-// The greatest whole number whose square is at most x, not below `least` and below `beyond`. The room between the two bounds is halved until
-// they stand side by side.
-fn root_between(x: u64, least: u64, beyond: u64) -> u64
-    requires { Within x least beyond }
-    ensures { Root x result }
-{
-    let mut low = least;
-    let mut high = beyond;
-    while low + 1 < high {
-        let middle = (low + high) / 2;
-        if middle * middle <= x {
-            low = middle;
-        } else {
-            high = middle;
-        }
-    }
-    low
+    squared(apart(ax, bx), apart(ay, by), apart(az, bz)).isqrt()
 }
 
 // The squared distance by the three differences.
@@ -49,28 +22,9 @@ fn squared(x: u64, y: u64, z: u64) -> u64
     x * x + y * y + z * z
 }
 
-// The larger of two numbers.
-fn larger(a: u64, b: u64) -> u64
-    ensures { result ≡ max a b }
-{
-    if a < b { b } else { a }
-}
-
 // How far two signed numbers are apart.
 pub fn apart(a: i32, b: i32) -> u64
     ensures { result ≡ apart_by a b }
 {
-    let p = biased(a);
-    let q = biased(b);
-    if p < q {
-        return q - p;
-    }
-    p - q
-}
-
-// A signed number as a number from 0: 2^31 more.
-fn biased(a: i32) -> u64
-    ensures { pos result ≡ a +ℤ pos bias }
-{
-    ((a as i64) + BIAS) as u64
+    u64::from(a.abs_diff(b))
 }

@@ -26,8 +26,6 @@ abbrev pub Putting : List ℕ → List ℤ → List ℤ → ℕ → Type 0
 Putting bytes out out' k = Copying (coordinates_in bytes (length out)) out out' 0 k
 
 module _ (bytes : List ℕ) (out : List ℤ) where
-  pub putting_begins : Putting bytes out out 0
-  putting_begins = copy_begins (pos 0) (coordinates_in bytes (length out)) out 0
 
   pub putting_turns :
       (out' : List ℤ) (k w : ℕ) (z : ℤ) → k < length out' → w ≡ word bytes (coordinate_bytes * k) → z ≡ signed w → Putting bytes out out' k
