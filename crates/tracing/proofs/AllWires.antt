@@ -1,13 +1,10 @@
 -- All wires: those that are written, and before them those that are still to come, are the whole; below the position that the loop has
 -- come to no edge is left. Assumes nothing.
-use mathlib.Core.Path.{◌≡◌, refl, sym, ap, ap₂, ◌∙◌, subst}
+use mathlib.Core.Path.{◌≡◌, sym, ap, ap₂, ◌∙◌, subst}
 use mathlib.Core.Bool.{Bool, true, false}
-use mathlib.Core.Logic.{⊎_elim}
 use mathlib.Core.Option.{some}
 use mathlib.Core.List.{List, [], ◌∷◌, ◌++◌, append_assoc, append-nil, map, map-append}
 use Prim.Native.Nat.{ℕ, suc, ◌+◌, ◌≤◌, ◌<◌}
-use native.Mathlib.Nat.{le_of_suc-le-suc, eq-or-lt_of_le}
-use native.Mathlib.Numerals.{add-one}
 use native.Mathlib.Omega.{arith}
 use lib.Dec.{leb, ltb}
 use lib.ListN.{length, get_or, set, length-set, length-append, length-map}
@@ -22,7 +19,7 @@ use Rattle.edges.specs.Edges.{Edge}
 use Rattle.tracing.specs.Hems.{Written, outs, pairs}
 use Rattle.tracing.specs.Following.{least_start_lem, Walk, entry}
 use Rattle.tracing.specs.Tables.{left_from, left, Stands}
-use Rattle.tracing.specs.Tracing.{trace, traces, Unwritten, OneMore, Room, AllLeft}
+use Rattle.tracing.specs.Tracing.{trace, traces, Unwritten, OneMore, Room}
 use Rattle.tracing.proofs.Entries.{entry_none, entry_outs, trace_kept, trace_outs, start_traced, traces_step, traces_end}
 use Rattle.tracing.proofs.Tables.{length_pairs, none_left, entry_left, least_left, left_none}
 
@@ -85,47 +82,9 @@ pub record Gathering (starts ends nexts firsts₀ flat₀ lengths₀ firsts flat
   pub written : Written done flat₀ lengths₀ flat lengths m k
   pub room : Room (traces (left starts ends firsts₀)) flat₀ lengths₀
 
-pub gather_begins :
-    (starts ends nexts firsts flat lengths : List ℕ) → AllLeft starts ends nexts firsts flat lengths
-    → Gathering starts ends nexts firsts flat lengths firsts flat lengths 0 0 0
-gather_begins starts ends nexts firsts flat lengths a =
-    record {
-      stands = a.stands;
-      same = refl;
-      flat_same = refl;
-      lengths_same = refl;
-      upto = omega arith;
-      passed = λ s h. absurd (omega arith);
-      done = [];
-      whole = refl;
-      written = record { flat_is = refl; lengths_is = refl; numbers_is = refl; wires_is = refl };
-      room = a.room;
-    }
-
 module _
     {starts ends nexts firsts₀ flat₀ lengths₀ firsts flat lengths : List ℕ} {m k p : ℕ}
     (t : Gathering starts ends nexts firsts₀ flat₀ lengths₀ firsts flat lengths m k p) (inside : p < length firsts) where
-  -- no edge at p
-  pub gather_skips : length starts ≤ get_or firsts p 0 → Gathering starts ends nexts firsts₀ flat₀ lengths₀ firsts flat lengths m k (p + 1)
-  gather_skips h =
-      record {
-        stands = t.stands;
-        same = t.same;
-        flat_same = t.flat_same;
-        lengths_same = t.lengths_same;
-        upto = omega arith;
-        passed =
-            λ s l.
-            ⊎_elim
-            (λ e. subst (λ (i : ℕ). length starts ≤ get_or firsts i 0) (sym e) h)
-            (λ q. t.passed s q)
-            (eq-or-lt_of_le (le_of_suc-le-suc (rw add-one at l)));
-        done = t.done;
-        whole = t.whole;
-        written = t.written;
-        room = t.room;
-      }
-
   -- an edge at p: a wire begins there
   module _ (h : get_or firsts p 0 < length starts) where
     abbrev g : List Edge

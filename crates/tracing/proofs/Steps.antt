@@ -42,7 +42,7 @@ module _
     abbrev firsts' : List ℕ
     firsts' = set firsts c (get_or nexts k 0)
 
-    goes_on : StepTaken starts ends nexts f c firsts firsts' (get_or ends k 0)
+    pub goes_on : StepTaken starts ends nexts f c firsts firsts' (get_or ends k 0)
     goes_on =
         let e : entry c g ≡ some (c, get_or ends k 0) = entry_left starts ends nexts firsts s.edges s.linked c inside h in
         record {
@@ -51,11 +51,3 @@ module _
           left_is = gone_left starts ends nexts firsts s.edges s.linked c inside h ∙ sym (ap (λ (o : Option Edge). taken o g) e);
           stands = stands_on firsts' s (length-set firsts c (get_or nexts k 0)) (linked_on starts ends nexts firsts s.edges s.linked c inside h);
         }
-
-  -- the same by the code's names for the place and the edge
-  pub onward_by :
-      (p k : ℕ) → p ≡ c → k ≡ get_or firsts p 0 → k < length starts
-      → StepTaken starts ends nexts f c firsts (set firsts p (get_or nexts k 0)) (get_or ends k 0)
-  onward_by p k a b h =
-      let e : k ≡ get_or firsts c 0 = b ∙ ap (λ (i : ℕ). get_or firsts i 0) a in
-      rw (a, e) (goes_on (rw e at h))

@@ -33,7 +33,7 @@ pub fn refused(number: u32) -> Wires
     ensures { result ≡ refused_by number }
 {
     Wires {
-        number: number,
+        number,
         flat: 0,
         wires: 0,
     }
@@ -54,13 +54,9 @@ pub fn trace_all(
         result.flat result.wires }
 {
     let mut done = Traced { flat: 0, wires: 0 };
-    let mut p: usize = 0;
-    while p < firsts.len() {
-        let k = lists::wide(firsts[p]);
-        if k < starts.len() {
+    for p in 0..firsts.len() {
+        while (firsts[p] as usize) < starts.len() {
             done = trace_one(starts, ends, nexts, firsts, p, flat, lengths, done);
-        } else {
-            p += 1;
         }
     }
     done
@@ -132,8 +128,8 @@ fn onward_from(
     requires { Underway starts.now ends.now nexts.now firsts.old first c }
     ensures { StepTaken starts.now ends.now nexts.now first c firsts.old firsts.new result }
 {
-    let p = lists::wide(c);
-    let k = lists::wide(firsts[p]);
+    let p = c as usize;
+    let k = firsts[p] as usize;
     if k >= starts.len() {
         return first;
     }
