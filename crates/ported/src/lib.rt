@@ -40,10 +40,7 @@ pub fn extract_boundaries(
         return tracing::refused(number);
     }
     let room = corners.len() / mesh::WIDTH;
-    if flat.len() < 2 * room {
-        return tracing::refused(9);
-    }
-    if lengths.len() < room {
+    if flat.len() < 2 * room || lengths.len() < room {
         return tracing::refused(9);
     }
     let done = ported_of(
@@ -114,10 +111,7 @@ fn keep_last(starts: &[u32], firsts: &mut [u32])
     requires { Startable starts.now firsts.old }
     ensures { firsts.new ≡ numbered 0 firsts.old starts.now }
 {
-    let mut k: usize = 0;
-    while k < starts.len() {
-        let s = lists::wide(starts[k]);
-        firsts[s] = k as u32;
-        k += 1;
+    for (k, s) in starts.iter().enumerate() {
+        firsts[*s as usize] = k as u32;
     }
 }
