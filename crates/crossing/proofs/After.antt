@@ -1,7 +1,7 @@
 -- The two loops that write each place's next: over the places of a face, and over the faces. Assumes nothing.
 use mathlib.Core.Path.{◌≡◌, refl, sym, ap, ◌∙◌, subst}
 use mathlib.Core.List.{List, [], ◌∷◌, ◌++◌}
-use Prim.Native.Nat.{ℕ, suc, ◌+◌, ◌≤◌, ◌<◌}
+use Prim.Native.Nat.{ℕ, suc, ◌+◌, ◌-◌, ◌≤◌, ◌<◌}
 use native.Mathlib.Numerals.{add-one}
 use native.Mathlib.Omega.{arith}
 use lib.ListN.{length, get_or, drop, take, set, length-append, drop_of_length-le}
@@ -10,10 +10,12 @@ use Rattle.lists.specs.Lists.{sum}
 use Rattle.lists.specs.Numbers.{next_of}
 use Rattle.lists.proofs.Buckets.{length_table, table_at}
 use Rattle.lists.proofs.Parts.{sum_step, sum_at}
-use Rattle.lists.proofs.Writing.{Copying, copy_begins, copy_turns, copy_ends}
-use Rattle.lists.proofs.Growing.{Growing, grow_begins, grow_part}
-use Rattle.lists.proofs.Copies.{sets_whole}
-use Rattle.crossing.specs.Crossing.{ring_row, after_from, after_row, AfterRoom, RingRoom}
+use Rattle.lists.proofs.Writing.{Copying, copy_ends}
+use Rattle.lists.proofs.Growing.{Growing, grow_part}
+use Rattle.lists.proofs.Copies.{front_turns, sets_whole, length_part}
+use Rattle.lists.proofs.Stores.{put_mid-sets}
+use borrow.Rule.Slice.PartMut.{put_mid}
+use Rattle.crossing.specs.Crossing.{ring_row, after_from, after_row, AfterRoom}
 
 -- ---- over the places of a face
 
@@ -26,16 +28,25 @@ unfolding ring_row
 ring_row_at at n i h = table_at (λ i. at + next_of i n) n i 0 h
 
 module _ (at n : ℕ) (l₀ : List ℕ) where
-  pub ring_begins : Copying (ring_row at n) l₀ l₀ at 0
-  ring_begins = copy_begins 0 (ring_row at n) l₀ at
-
-  pub ring_turns : (l : List ℕ) (i v : ℕ) → i < n → v ≡ at + next_of i n → Copying (ring_row at n) l₀ l at i → Copying (ring_row at n) l₀ (set l (at + i) v) at (i + 1)
+  pub ring_turns : (l : List ℕ) (i v : ℕ) → i < n → v ≡ at + next_of i n → Copying (ring_row at n) l₀ l 0 i → Copying (ring_row at n) l₀ (set l i v) 0 (i + 1)
   ring_turns l i v h e c =
-      subst (λ (x : ℕ). Copying (ring_row at n) l₀ (set l (at + i) x) at (i + 1)) (ring_row_at at n i h ∙ sym e)
-      (copy_turns 0 (ring_row at n) l₀ l at i (let k : length (ring_row at n) ≡ n = length_ring_row at n in omega arith) c)
+      subst (λ (x : ℕ). Copying (ring_row at n) l₀ (set l i x) 0 (i + 1)) (ring_row_at at n i h ∙ sym e)
+      (front_turns 0 (ring_row at n) l₀ l i (let k : length (ring_row at n) ≡ n = length_ring_row at n in omega arith) c)
 
-  pub ring_ends : (l : List ℕ) (i : ℕ) → n ≤ i → Copying (ring_row at n) l₀ l at i → l ≡ sets l₀ at (ring_row at n)
-  ring_ends l i h c = copy_ends 0 (ring_row at n) l₀ l at i (let k : length (ring_row at n) ≡ n = length_ring_row at n in omega arith) c
+  pub ring_ends : (l : List ℕ) (i : ℕ) → length l₀ ≡ n → n ≤ i → Copying (ring_row at n) l₀ l 0 i → l ≡ ring_row at n
+  ring_ends l i e h c =
+      copy_ends 0 (ring_row at n) l₀ l 0 i (let k : length (ring_row at n) ≡ n = length_ring_row at n in omega arith) c
+      ∙ sets_whole l₀ (ring_row at n) (length_ring_row at n ∙ sym e)
+
+-- what is written to a part of a row of places is written to the row
+pub ring_put :
+    (l ring : List ℕ) (at n : ℕ) → at + n ≤ length l → ring ≡ ring_row at (length (take (at + n - at) (drop at l)))
+    → put_mid at (at + n - at) l ring ≡ sets l at (ring_row at n)
+ring_put l ring at n h e =
+    let k : at + n - at ≡ n = omega arith in
+    let m : length (take (at + n - at) (drop at l)) ≡ n = ap (λ (j : ℕ). length (take j (drop at l))) k ∙ length_part l at n h in
+    let f : length (ring_row at n) ≡ n = length_ring_row at n in
+    put_mid-sets at (at + n - at) l ring (ring_row at n) (e ∙ ap (ring_row at) m) (f ∙ sym k) (omega arith)
 
 -- ---- over the faces
 
@@ -54,17 +65,11 @@ pub record Ringing (s l₀ l : List ℕ) (at k : ℕ) : Type 0 where
   pub growing : Growing l₀ l 0 at (after_row s) (after_from at (drop k s))
 
 module _ (s l₀ : List ℕ) where
-  pub after_begins : Ringing s l₀ l₀ 0 0
-  after_begins = record { within = omega arith; offset = refl; growing = grow_begins l₀ 0 (after_row s) }
-
   module _ (l : List ℕ) (at k n : ℕ) (h : k < length s) (e : n ≡ get_or s k 0) (r : Ringing s l₀ l at k) where
-    pub after_room : AfterRoom s l₀ → RingRoom n l at
-    after_room a =
+    pub face_room : AfterRoom s l₀ → at + n ≤ length l
+    face_room a =
         let t : sum (take k s) + get_or s k 0 ≤ sum s = sum_at s k h in
-        let o : at ≡ sum (take k s) = r.offset in
-        let w : sum s ≡ length l₀ = a.whole in
-        let g : length l ≡ length l₀ = r.growing.long in
-        record { few = omega (arith, a.few); inside = omega arith }
+        omega (arith, r.offset, a.whole, r.growing.long)
 
     left : after_from at (drop k s) ≡ ring_row at n ++ after_from (at + n) (drop (k + 1) s)
     unfolding after_from

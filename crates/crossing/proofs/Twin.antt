@@ -99,6 +99,3 @@ module _ (lowers highers order : List ℕ) where
         written = cc (add-one i, p.written);
         long = length-set t u v ∙ p.long;
       }
-
-  pub pair_ends : (t₀ t : List ℕ) (b : Bool) (i : ℕ) → length order ≤ i → Pairing t₀ t b i → t ≡ twinned lowers highers order (length order) t₀
-  pair_ends t₀ t b i h p = p.written ∙ ap (λ (n : ℕ). twinned lowers highers order n t₀) (let w : i ≤ length order = p.within in let z : i ≡ length order = omega arith in z)

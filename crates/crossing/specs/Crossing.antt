@@ -1,6 +1,6 @@
 -- The steps of the code, and no rules of document 02: rows over places. A place is the number of a use: the uses of all edges are numbered
 -- in the order of the faces, corner by corner. turning/specs/Rows.antt has the turning over such rows. Assumes nothing.
-use Rattle.std.specs.Prelude.{◌≡◌, Bool, true, false, cond, not, List, [], ◌∷◌, ◌++◌, map, ℕ, zero, suc, ◌+◌, ◌-◌, ◌≤◌, ◌<◌, eqb, length, get_or, set, drop}
+use Rattle.std.specs.Prelude.{◌≡◌, Bool, true, false, cond, List, [], ◌∷◌, ◌++◌, map, ℕ, zero, suc, ◌+◌, ◌-◌, ◌≤◌, ◌<◌, eqb, length, get_or, set, drop}
 use Rattle.lists.specs.Lists.{span, sum}
 use Rattle.lists.specs.Numbers.{next_of}
 use Rattle.mesh.specs.Limits.{corner_limit}
@@ -60,22 +60,12 @@ module _ (after twins : List ℕ) where
   abbrev pub follow_row : List ℕ
   follow_row = map follow_of (span 0 (length twins))
 
--- whether there are steps left, and the place is not that of a hem edge
-unfoldable pub inner_at : List ℕ → ℕ → ℕ → Bool
-inner_at twins u zero = false
-inner_at twins u (suc n) = not (alone twins u)
-
 -- ---- what the functions rest on
 
 -- a row of one number for each corner of faces of these sizes
 pub record AfterRoom (s after : List ℕ) : Type 0 where
   pub few : length after ≤ corner_limit
   pub whole : sum s ≡ length after
-
--- and of it n places from `at` on
-pub record RingRoom (n : ℕ) (after : List ℕ) (at : ℕ) : Type 0 where
-  pub few : length after ≤ corner_limit
-  pub inside : at + n ≤ length after
 
 -- the sorted uses, and a row of one number for each
 pub record TwinRoom (lowers highers downs order twins : List ℕ) : Type 0 where

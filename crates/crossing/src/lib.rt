@@ -11,11 +11,11 @@
 // Crate turning has the rule, and the law by which rows come to it; proofs/Turned.antt has it for these rows.
 #![tactic(auto)]
 
-ghost use Rattle.std.specs.Prelude.{◌≡◌, ◌<◌, length, get_or};
-ghost use Rattle.std.proofs.lemmas.List.Edits.{sets};
+ghost use Rattle.std.specs.Prelude.{◌≡◌, ◌+◌, ◌≤◌, length, get_or};
+ghost use Rattle.mesh.specs.Limits.{corner_limit};
 ghost use Rattle.turning.specs.Rows.{place_from};
-ghost use Rattle.crossing.specs.Crossing.{ring_row, after_row, twin_by, twinned, follow_of, follow_row, inner_at};
-ghost use Rattle.crossing.specs.Crossing.{AfterRoom, RingRoom, TwinRoom, Between, CrossableAt, FollowRoom, Found};
+ghost use Rattle.crossing.specs.Crossing.{ring_row, after_row, twin_by, twinned, follow_of, follow_row};
+ghost use Rattle.crossing.specs.Crossing.{AfterRoom, TwinRoom, Between, CrossableAt, FollowRoom, Found};
 
 // For each place the place of the next use in its face: of the last one the first.
 pub fn put_after(sizes: &[u32], after: &mut [u32])
@@ -23,25 +23,21 @@ pub fn put_after(sizes: &[u32], after: &mut [u32])
     ensures { after.new ≡ after_row sizes.now }
 {
     let mut at: usize = 0;
-    let mut k: usize = 0;
-    while k < sizes.len() {
-        let n = lists::wide(sizes[k]);
-        put_ring(n, after, at);
+    for size in sizes {
+        let n = *size as usize;
+        put_ring(&mut after[at..at + n], at);
         at += n;
-        k += 1;
     }
 }
 
-// The same for the n places of one face, from `at` on.
-fn put_ring(n: usize, after: &mut [u32], at: usize)
-    requires { RingRoom n after.old at }
-    ensures { after.new ≡ sets after.old at (ring_row at n) }
+// The same for the places of one face, of which the first is `at`.
+fn put_ring(ring: &mut [u32], at: usize)
+    requires { at + length ring.old ≤ corner_limit }
+    ensures { ring.new ≡ ring_row at (length ring.old) }
 {
-    let mut i: usize = 0;
-    while i < n {
-        let next = at + lists::next_of(i, n);
-        after[at + i] = next as u32;
-        i += 1;
+    let n = ring.len();
+    for (i, next) in ring.iter_mut().enumerate() {
+        *next = (at + lists::next_of(i, n)) as u32;
     }
 }
 
@@ -53,13 +49,10 @@ pub fn put_twins(lowers: &[u32], highers: &[u32], downs: &[u32], order: &[u32], 
         lowers.now highers.now order.now (length order.now) twins.old }
 {
     let mut back = false;
-    let mut i: usize = 0;
-    while i < order.len() {
-        let u = lists::wide(order[i]);
+    for (i, u) in order.iter().enumerate() {
         let on = uses::goes_on(lowers, highers, downs, order, i);
-        twins[u] = twin_at(order, i, back, on);
+        twins[*u as usize] = twin_at(order, i, back, on);
         back = on;
-        i += 1;
     }
 }
 
@@ -69,12 +62,12 @@ fn twin_at(order: &[u32], i: usize, back: bool, on: bool) -> u32
     ensures { result ≡ twin_by order.now i back on }
 {
     if back {
-        return order[i - 1];
+        order[i - 1]
+    } else if on {
+        order[i + 1]
+    } else {
+        order[i]
     }
-    if on {
-        return order[i + 1];
-    }
-    order[i]
 }
 
 // For each place of a hem edge the place of the hem edge that follows it through the cloth; any other place is its own.
@@ -82,11 +75,8 @@ pub fn put_follows(after: &[u32], twins: &[u32], follows: &mut [u32])
     requires { FollowRoom after.now twins.now follows.old }
     ensures { follows.new ≡ follow_row after.now twins.now }
 {
-    let mut u: usize = 0;
-    while u < follows.len() {
-        let next = follow_of(after, twins, u);
-        follows[u] = next as u32;
-        u += 1;
+    for (u, follow) in follows.iter_mut().enumerate() {
+        *follow = follow_of(after, twins, u) as u32;
     }
 }
 
@@ -95,10 +85,11 @@ fn follow_of(after: &[u32], twins: &[u32], u: usize) -> usize
     requires { CrossableAt after.now twins.now u }
     ensures { Found (length twins.now) result (follow_of after.now twins.now u) }
 {
-    if lists::wide(twins[u]) == u {
-        return turn_from(after, twins, lists::wide(after[u]));
+    if twins[u] as usize == u {
+        turn_from(after, twins, after[u] as usize)
+    } else {
+        u
     }
-    u
 }
 
 // From a place on: while it is not the place of a hem edge, cross to the place that has its edge the other way and take the next use
@@ -108,24 +99,14 @@ fn turn_from(after: &[u32], twins: &[u32], u: usize) -> usize
     ensures { Found
         (length twins.now) result (place_from after.now twins.now (length twins.now) u) }
 {
-    let mut left = twins.len();
     let mut place = u;
-    while is_inner(twins, place, left) {
+    for _ in 0..twins.len() {
+        if twins[place] as usize == place {
+            return place;
+        }
         place = across(after, twins, place);
-        left -= 1;
     }
     place
-}
-
-// Whether there are steps left, and the place is not that of a hem edge.
-fn is_inner(twins: &[u32], place: usize, left: usize) -> bool
-    requires { place < length twins.now }
-    ensures { result ≡ inner_at twins.now place left }
-{
-    if left == 0 {
-        return false;
-    }
-    lists::wide(twins[place]) != place
 }
 
 // The next use behind a place's twin.
@@ -134,6 +115,6 @@ fn across(after: &[u32], twins: &[u32], place: usize) -> usize
     ensures { Found
         (length twins.now) result (get_or after.now (get_or twins.now place 0) 0) }
 {
-    let twin = lists::wide(twins[place]);
-    lists::wide(after[twin])
+    let twin = twins[place] as usize;
+    after[twin] as usize
 }
