@@ -1,5 +1,5 @@
 -- All wires in a loop: those that are written, and behind them those that are still to come, are the whole. Assumes nothing.
-use mathlib.Core.Path.{◌≡◌, refl, sym, ap, ◌∙◌, subst}
+use mathlib.Core.Path.{◌≡◌, sym, ap, ◌∙◌, subst}
 use mathlib.Core.List.{List, [], ◌++◌, map, map-append}
 use Prim.Native.Nat.{ℕ, suc, ◌+◌, ◌≤◌, ◌<◌}
 use native.Mathlib.Numerals.{add-one}
@@ -8,7 +8,7 @@ use lib.ListN.{length, get_or, drop, length-map, length-append}
 use lib.Seq.{drop-cons, drop-length}
 use Rattle.lists.specs.Lists.{joined}
 use Rattle.lists.proofs.Parts.{joined_append}
-use Rattle.lists.proofs.Growing.{Growing, grow_begins, grow_part, grow_ends, grow_room}
+use Rattle.lists.proofs.Growing.{Growing, grow_part, grow_ends, grow_room}
 use Rattle.tracing.specs.Hems.{Written}
 use Rattle.trailing.specs.Trailing.{Wire, wire_from, new_wire, wires_by, Addable, Added, AllLeft}
 use Rattle.trailing.proofs.Walks.{wire_row, wires_none, wires_on}
@@ -22,16 +22,6 @@ pub record Scanning (starts follows order left₀ flat₀ lengths₀ left flat l
   pub within : i ≤ length order
   pub long : length left ≡ length left₀
   pub growth : Growth flat₀ lengths₀ flat lengths m k (wires_by starts follows order left₀) (wires_by starts follows (drop i order) left)
-
-pub scan_begins : (starts follows order left flat lengths : List ℕ) → Scanning starts follows order left flat lengths left flat lengths 0 0 0
-scan_begins starts follows order left flat lengths = record {
-  within = omega arith;
-  long = refl;
-  growth = record {
-    flat_on = grow_begins flat 0 (joined (wires_by starts follows order left));
-    lengths_on = grow_begins lengths 0 (map length (wires_by starts follows order left));
-  };
-}
 
 module _
     {starts follows order left₀ flat₀ lengths₀ left flat lengths : List ℕ} {m k i : ℕ}

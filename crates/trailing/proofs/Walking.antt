@@ -8,7 +8,7 @@ use native.Mathlib.Omega.{arith}
 use lib.ListN.{length, get_or, set, length-set}
 use lib.Seq.{sets}
 use Rattle.lists.specs.Lists.{joined}
-use Rattle.lists.proofs.Growing.{Growing, grow_begins, grow_turns, grow_ends, grow_room}
+use Rattle.lists.proofs.Growing.{Growing, grow_turns, grow_ends, grow_room}
 use Rattle.mesh.specs.Limits.{corner_limit}
 use Rattle.tracing.specs.Tables.{nobody}
 use Rattle.trailing.specs.Trailing.{is_left, used, left_count, Wire, longer, wire_from, new_wire, Walkable, Walked, Addable, Added}
@@ -19,16 +19,6 @@ pub record Walking (starts follows left₀ flat₀ : List ℕ) (first at : ℕ) 
   pub long : length left ≡ length left₀
   pub row : (wire_from starts follows u left).1 ≡ (wire_from starts follows first left₀).1
   pub growing : Growing flat₀ flat at m (wire_from starts follows first left₀).0 (wire_from starts follows u left).0
-
-pub walk_begins :
-    (starts follows left flat : List ℕ) (first at : ℕ) → Walkable starts follows left first flat at
-    → Walking starts follows left flat first at left flat at first
-walk_begins starts follows left flat first at w = record {
-  inside = w.inside;
-  long = refl;
-  row = refl;
-  growing = grow_begins flat at (wire_from starts follows first left).0;
-}
 
 module _
     {starts follows left₀ flat₀ : List ℕ} {first at : ℕ} {left flat : List ℕ} {m u : ℕ}

@@ -26,11 +26,8 @@ pub fn trace_all(
         result.flat result.wires }
 {
     let mut done = Traced { flat: 0, wires: 0 };
-    let mut i: usize = 0;
-    while i < order.len() {
-        let u = lists::wide(order[i]);
-        done = trace_one(starts, follows, left, u, flat, lengths, done);
-        i += 1;
+    for u in order {
+        done = trace_one(starts, follows, left, *u as usize, flat, lengths, done);
     }
     done
 }
@@ -83,7 +80,7 @@ fn trace_wire(
         flat[m] = starts[u];
         left[u] = tracing::NOBODY;
         m += 1;
-        u = lists::wide(follows[u]);
+        u = follows[u] as usize;
     }
     m
 }
@@ -93,5 +90,5 @@ fn is_left(left: &[u32], u: usize) -> bool
     requires { u < length left.now }
     ensures { result ≡ is_left left.now u }
 {
-    lists::wide(left[u]) == u
+    left[u] as usize == u
 }
