@@ -138,21 +138,6 @@ left_triangles cs s o o' l l' u u' k c f y t e p =
     ∙ append-nil a in
     record { placed = placed_triangles cs s o o' l l' k c f y t e p.placed; origins = p.origins ∙ ap (sets u 0) (sym all) }
 
--- room behind is room in what stands there
-pub ready_tail : (a : ℕ) (cs s o l u : List ℕ) (c f : ℕ) → Behind a cs s o l u c f
-    → Numbered a cs s (take (length o - width * c) (drop (width * c) o)) (take (length l - f) (drop f l)) (take (length u - f) (drop f u))
-ready_tail a cs s o l u c f y =
-    let tail : (x : List ℕ) (j : ℕ) → length (take (length x - j) (drop j x)) ≡ length x - j = λ x j. ap length (part_to_end x j) ∙ length-drop j x in
-    record {
-      ready = record {
-        fit = y.fit;
-        corners = omega (arith, tail o (width * c), y.corners);
-        sizes = omega (arith, tail l f, y.sizes);
-        origins = omega (arith, tail u f, y.origins);
-      };
-      few = y.few;
-    }
-
 -- what is written to all that stands behind is written behind
 pub left_tail : (fs : List Ring) (ts o o' l l' u u' : List ℕ) (c f c' f' : ℕ)
     → Left fs ts (take (length o - width * c) (drop (width * c) o)) o' (take (length l - f) (drop f l)) l' (take (length u - f) (drop f u)) u' 0 0 c' f'

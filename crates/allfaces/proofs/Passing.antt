@@ -11,7 +11,7 @@ use Rattle.lists.specs.Lists.{every, each, sum}
 use Rattle.lists.proofs.Parts.{each_append, every_take, sum_at}
 use Rattle.mesh.specs.Limits.{width, least_ring}
 use Rattle.mesh.specs.Mesh.{Ring, corners_in, rings}
-use Rattle.mesh.specs.Face.{face_of, offset_of}
+use Rattle.mesh.specs.Face.{face_of, offset_of, Sound}
 use Rattle.mesh.proofs.Corners.{is_corner}
 use Rattle.mesh.proofs.Faces.{is_ring, rings_are, length_rings, get_or-rings, face_length, length_face}
 use Rattle.mesh.proofs.Walking.{Walking, walk_begins, walk_turns}
@@ -93,3 +93,9 @@ pub removing_ends : (cs s o o' l l' : List ℕ) (c f from k : ℕ) → length s 
     → Placed (each pieces (rings s cs)) o o' l l' 0 0 c f
 removing_ends cs s o o' l l' c f from k h r =
     placed_as (ap (each pieces) (sym (take_all k (rings s cs) (rw (length_rings s cs) h)))) r.placed
+
+-- then all corners are passed
+pub removing_all : (cs s o o' l l' : List ℕ) (c f from k : ℕ) → Sound cs s → length s ≤ k → Removing cs s o o' l l' c f from k → width * from ≡ length cs
+removing_all cs s o o' l l' c f from k a h r =
+    let e : from ≡ sum s = r.walk.offset ∙ ap sum (take_all k s h) in
+    omega (arith, a.adds)

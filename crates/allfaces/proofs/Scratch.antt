@@ -22,26 +22,12 @@ use Rattle.folding.proofs.Pieces.{is_face, pieces_sane}
 use Rattle.splitting.proofs.Pieces.{third}
 use Rattle.removal.specs.Folded.{removed}
 use Rattle.removal.specs.Working.{Ready}
-use Rattle.allfaces.specs.Working.{Numbered, Standing}
+use Rattle.allfaces.specs.Working.{Standing}
 use Rattle.removal.proofs.Result.{every_pieces, corners_pieces, count_pieces}
 
 -- the lists before anything is written: long enough for every mesh
 pub blank : FacesAtLimits (replicate corner_numbers 0) (replicate face_limit 0)
 blank = record { corners = length-replicate {A = ℕ} corner_numbers 0; sizes = length-replicate {A = ℕ} face_limit 0 }
-
--- so they have the room that the pieces ask for
-pub scratch_ready : (a : ℕ) (cs s o l u p q v : List ℕ) → FacesAtLimits p q → FacesAtLimits p v → Numbered a cs s o l u → Numbered a cs s p q v
-scratch_ready a cs s o l u p q v x w y =
-    let fits = y.ready.fit.sound.fits in
-    record {
-      ready = record {
-        fit = y.ready.fit;
-        corners = omega (arith, x.corners, fits);
-        sizes = omega (arith, x.sizes, fits);
-        origins = omega (arith, w.sizes, fits);
-      };
-      few = y.few;
-    }
 
 -- c corners and f faces are written to p and q, which hold p' and q' then
 module _ (cs s o l u p p' q q' : List ℕ) (c f : ℕ) (y : Ready cs s o l u) (x : FacesAtLimits p q)
@@ -103,9 +89,3 @@ module _ {cs s ps ls ts : List ℕ} {c f : ℕ} (y : Standing cs s c f ps ls ts)
         sizes = omega (arith, y.full.sizes, fits);
         origins = omega (arith, y.tag_room.sizes, fits);
       }
-
-  -- and the three others for the pieces
-  pub away_ready : Numbered 0 (take c cs) (take f s) ps ls ts
-  away_ready =
-      scratch_ready 0 (take c cs) (take f s) cs s ts ps ls ts y.room y.tag_room
-      (record { ready = back_ready; few = omega (arith, y.fit.sound.few) })

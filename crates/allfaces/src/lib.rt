@@ -5,8 +5,9 @@
 // removal's specs/Folded.antt and specs/Origins.antt, those of one face in folding's specs/Folding.antt.
 #![tactic(auto)]
 
-ghost use Rattle.std.specs.Prelude.{take};
+ghost use Rattle.std.specs.Prelude.{take, ◌*◌, ◌≤◌, length};
 ghost use Rattle.lists.specs.Lists.{each};
+ghost use Rattle.mesh.specs.Limits.{width, least_ring};
 ghost use Rattle.mesh.specs.Mesh.{rings};
 ghost use Rattle.grouping.specs.Push.{Placed};
 ghost use Rattle.folding.specs.Folding.{pieces};
@@ -89,14 +90,12 @@ fn remove_behind(
 fn triangles(sizes: &[u32]) -> usize
     ensures { Triangles sizes.now result }
 {
-    let mut k: usize = 0;
-    while k < sizes.len() {
-        if sizes[k] != 3 {
+    for (k, n) in sizes.iter().enumerate() {
+        if *n != 3 {
             return k;
         }
-        k += 1;
     }
-    k
+    sizes.len()
 }
 
 // The pieces of all faces and their numbers go to lists of their own, and from there to the result, grouped.
@@ -118,10 +117,9 @@ fn remove_larger(
     let mut lens = [0u32; mesh::FACES];
     let mut tags = [0u32; mesh::FACES];
     let at = all_pieces(corners, sizes, first, &mut pieces, &mut lens, &mut tags);
-    let c = WIDTH * at.corners;
-    let f = at.faces;
-    grouping::push_tags(&lens[..f], &tags[..f], origins);
-    grouping::push_all(&pieces[..c], &lens[..f], newcorners, newsizes)
+    let lens = &lens[..at.faces];
+    grouping::push_tags(lens, &tags[..at.faces], origins);
+    grouping::push_all(&pieces[..WIDTH * at.corners], lens, newcorners, newsizes)
 }
 
 // What is left of the faces goes back to the lists that they stand in, the first c numbers of `corners` and the first f of `sizes`, by way of
@@ -140,9 +138,12 @@ pub fn remove_within(
         corners.old corners.new sizes.old sizes.new 0 0 result.corners result.faces }
 {
     let at = all_pieces(&corners[..c], &sizes[..f], 0, pieces, lens, tags);
-    let k = WIDTH * at.corners;
-    let g = at.faces;
-    grouping::push_all(&pieces[..k], &lens[..g], corners, sizes)
+    grouping::push_all(
+        &pieces[..WIDTH * at.corners],
+        &lens[..at.faces],
+        corners,
+        sizes,
+    )
 }
 
 // One pass over the faces: the pieces of each go to the lists, in the order they come, and beside each the number of its face.
@@ -155,7 +156,9 @@ fn all_pieces(
     tags: &mut [u32],
 ) -> Filled
     requires { Numbered first corners.now sizes.now out.old lens.old tags.old }
-    ensures { Left (each pieces (rings sizes.now corners.now))
+    ensures few_corners { width * result.corners ≤ length corners.now }
+    ensures few_faces { width * least_ring * result.faces ≤ length corners.now }
+    ensures left { Left (each pieces (rings sizes.now corners.now))
         (numbered first (rings sizes.now corners.now))
         out.old out.new lens.old lens.new tags.old tags.new
         0 0 result.corners result.faces }
@@ -164,16 +167,13 @@ fn all_pieces(
         corners: 0,
         faces: 0,
     };
-    let mut from: usize = 0;
-    let mut k: usize = 0;
-    while k < sizes.len() {
+    let mut from = 0;
+    for (k, n) in sizes.iter().enumerate() {
         let face = mesh::face_at(corners, sizes, k, from);
-        let n = sizes[k] as usize;
         let f = to.faces;
-        to = oneface::face_pieces(face, n, out, lens, to);
+        to = oneface::face_pieces(face, *n as usize, out, lens, to);
         grouping::fill_tags(tags, f, to.faces, (first + k) as u32);
-        from += n;
-        k += 1;
+        from += *n as usize;
     }
     to
 }

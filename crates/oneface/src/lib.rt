@@ -63,8 +63,8 @@ fn folded_within<const N: usize>(face: &[u32], n: usize) -> bool
     requires { Corners face.now n × (n ≤ N) × (N ≤ ring_limit) }
     ensures { result ≡ folded (corners_in face.now) }
 {
-    let mut places = [0u32; N];
-    let row = &mut places[..n];
+    let mut positions = [0u32; N];
+    let row = &mut positions[..n];
     put_positions(face, row);
     folding::first(row) < row.len()
 }

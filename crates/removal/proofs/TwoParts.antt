@@ -5,10 +5,9 @@ use mathlib.Core.Bool.{true}
 use mathlib.Core.List.{List, [], ◌∷◌, ◌++◌}
 use Prim.Native.Nat.{ℕ, ◌+◌, ◌-◌, ◌*◌, ◌≤◌, ◌<◌}
 use native.Mathlib.Nat.{le_of_eq, zero-add}
-use native.Mathlib.Numerals.{add-one}
 use native.Mathlib.Omega.{arith}
-use lib.ListN.{length, get_or, take, drop, length-drop, take-append-drop}
-use lib.Seq.{take-suc, take-take, drop-drop, length-take-le, get_or-take, get_or-drop}
+use lib.ListN.{length, take, drop, length-drop, take-append-drop}
+use lib.Seq.{take-take, drop-drop, length-take-le, get_or-take, get_or-drop}
 use lib.Dec.{eqb}
 use borrow.Author.Tests.{eqb-true}
 use Rattle.lists.specs.Lists.{every, each, sum}
@@ -31,18 +30,6 @@ use Rattle.removal.specs.Working.{Fit, Triangles, origins_from}
 use Rattle.removal.proofs.Origins.{numbered_append, numbered_count}
 
 -- ---- the sizes of the first k faces are looked at
-
-pub triangles_begin : (s : List ℕ) → Triangles s 0
-triangles_begin s = record { within = omega arith; first = refl }
-
-pub triangles_turn : (s : List ℕ) (k : ℕ) → k < length s → get_or s k 0 ≡ 3 → Triangles s k → Triangles s (k + 1)
-triangles_turn s k h e t = record {
-  within = omega arith;
-  first =
-      ap (every (eqb 3)) (ap (λ (n : ℕ). take n s) (add-one k) ∙ take-suc s k 0 h)
-      ∙ every_append (eqb 3) (take k s) (get_or s k 0 ∷ [])
-      ∙ rw (t.first, e);
-}
 
 -- their sum
 all_three : (l : List ℕ) → every (eqb 3) l ≡ true → sum l ≡ 3 * length l
