@@ -1,108 +1,59 @@
 -- The corners of a face: the search for a mark, their numbers one by one, and the lengths of all faces together. Assumes nothing.
 use mathlib.Core.Path.{◌≡◌, refl, sym, ap, ap₂, ◌∙◌}
-use mathlib.Core.Bool.{Bool, true, false, not}
+use mathlib.Core.Bool.{Bool, true, false}
 use mathlib.Core.List.{List, [], map}
 use Prim.Native.Nat.{ℕ, zero, suc, ◌+◌, ◌*◌, ◌-◌, ◌/◌, ◌≤◌, ◌<◌}
-use native.Mathlib.Nat.{le_of_suc-le-suc, not-suc-le-zero, add-sub_cancel_left}
 use native.Mathlib.Numerals.{add-one}
 use native.Mathlib.Omega.{arith}
 use lib.ListN.{length, get_or, take, drop}
-use lib.Seq.{drop-cons, drop-length, drop-drop, take-take}
+use lib.Seq.{drop-cons, drop-length, take_all}
 use lib.Dec.{eqb}
 use borrow.Author.Tests.{eq-eqb, ne_eqb}
 use Rattle.lists.specs.Lists.{each, sum}
-use Rattle.lists.proofs.Parts.{Searching, search_turns, search_finds, search_ends}
+
 use Rattle.little.specs.Little.{word_bytes}
 use Rattle.mesh.specs.Limits.{width, corner_numbers}
 use Rattle.mesh.specs.Mesh.{Ring, first_corners, corners_in, rings}
 use Rattle.mesh.specs.Face.{Sound, offset_of, face_of}
 use Rattle.mesh.proofs.Corners.{length-corners_in, get_or-corners_in}
 use Rattle.mesh.proofs.Faces.{length_rings, get_or-rings, face_length, face_fits, offset_step, sizes_back}
-use Rattle.records.specs.Records.{has_mark, any_mark}
+use Rattle.records.specs.Records.{any_mark}
 use Rattle.records.specs.Lengths.{header_length}
 use Rattle.records.proofs.Ringing.{size_most}
 use Rattle.written.specs.Pieces.{wide, index_width, corner_bytes, body_length, face_bytes, file_limit}
 use Rattle.written.proofs.Lengths.{count_few}
-use Rattle.written.proofs.Parting.{faces_most}
-use Rattle.saving.specs.Working.{Stored, Fits, said_width, Corners}
+use Rattle.saving.specs.Working.{Stored, Fits, said_width}
 use Rattle.saving.proofs.Storing.{stored_as}
-use Rattle.saving.proofs.Listing.{Putting, putting_turns, putting_room, putting_ends}
+use Rattle.saving.proofs.Listing.{Putting, putting_turns, putting_room}
+use Rattle.written.proofs.Parting.{faces_most}
 
--- ---- the search for a mark
 
-module _ (part : List ℕ) (k x : ℕ) (h : k < length part / width) (e : x ≡ get_or part (width * k + index_width) 0) where
-  marks_at : has_mark (get_or (corners_in part) k []) ≡ not (eqb x 0)
-  marks_at = ap has_mark (get_or-corners_in part k h) ∙ ap (λ (i : ℕ). not (eqb i 0)) (sym e)
 
-  here : k < length (corners_in part)
-  here = omega (arith, length-corners_in part)
+-- ---- what is said of a corner
 
-  pub mark_found : (x ≡ 0 → ⊥) → true ≡ any_mark (corners_in part)
-  unfolding any_mark
-  mark_found u = search_finds has_mark [] (corners_in part) k here (marks_at ∙ ap not (ne_eqb x 0 u))
-
-  pub mark_passed : x ≡ 0 → Searching has_mark (corners_in part) k → Searching has_mark (corners_in part) (k + 1)
-  mark_passed u = search_turns has_mark [] (corners_in part) k here (marks_at ∙ ap not (eq-eqb x 0 u))
-
-pub no_mark : (part : List ℕ) (k : ℕ) → length part / width ≤ k → Searching has_mark (corners_in part) k → false ≡ any_mark (corners_in part)
-unfolding any_mark
-no_mark part k h = search_ends has_mark [] (corners_in part) k (omega (arith, length-corners_in part))
-
--- ---- numbers one by one
-
-pub said_most : (m : Bool) → said_width m ≤ width
-said_most true = omega arith
-said_most false = omega arith
-
-first_at : (n : ℕ) (cs : List ℕ) (k : ℕ) → k < n → get_or (first_corners n cs) k [] ≡ take width (drop (width * k) cs)
-first_at zero cs k h = absurd (not-suc-le-zero h)
-first_at (suc n) cs zero h = refl
-first_at (suc n) cs (suc k) h =
-    let e : width + width * k ≡ width * suc k = omega arith in
-    first_at n (drop width cs) k (le_of_suc-le-suc h) ∙ ap (take width) (drop-drop (width * k) width cs ∙ ap (λ (i : ℕ). drop i cs) e)
-
--- what is said of a corner is the front of its numbers
-said : (m : Bool) (l : List ℕ) → corner_bytes m (take width l) ≡ each word_bytes (take (said_width m) l)
+pub corner_said : (m : Bool) (l : List ℕ) → length l ≡ width → corner_bytes m l ≡ each word_bytes (take (said_width m) l)
 unfolding corner_bytes
-said true l = refl
-said false l = ap (each word_bytes) (take-take index_width width l (omega arith))
+corner_said true l e = ap (each word_bytes) (sym (take_all width l (omega (arith, e))))
+corner_said false l e = refl
 
-module _ (m : Bool) (part o o' : List ℕ) (at to k i : ℕ) (l : k < length part / width) (ei : i ≡ said_width m)
-    (h : Putting (corner_bytes m) (corners_in part) o o' at to k) where
-  abbrev from : ℕ
-  from = width * k
+-- the numbers that are said of a corner, where it has as many as a corner has
+module _ (m : Bool) (cs : List (List ℕ)) (o o' : List ℕ) (at to k : ℕ) (l : k < length cs) (n : ℕ) (en : n ≡ said_width m) (w : length (get_or cs k []) ≡ width)
+    (h : Putting (corner_bytes m) cs o o' at to k) where
+  abbrev part : List ℕ
+  part = take n (get_or cs k [])
 
-  abbrev slice : List ℕ
-  slice = take (from + i - from) (drop from part)
+  is_part : corner_bytes m (get_or cs k []) ≡ each word_bytes part
+  is_part = corner_said m (get_or cs k []) w ∙ ap (λ (j : ℕ). each word_bytes (take j (get_or cs k []))) (sym en)
 
-  abbrev corner : List ℕ
-  corner = get_or (corners_in part) k []
-
-  in_part : k < length (corners_in part)
-  in_part = omega (arith, length-corners_in part)
-
-  is_said : corner_bytes m corner ≡ each word_bytes slice
-  is_said =
-      ap (corner_bytes m) (first_at (length part / width) part k l)
-      ∙ said m (drop from part)
-      ∙ ap (λ (j : ℕ). each word_bytes (take j (drop from part))) (sym ei ∙ sym (add-sub_cancel_left from i))
-
-  pub said_within : from + i ≤ length part
-  said_within = omega (arith, ei, said_most m)
-
-  pub words_fit : Corners m part o at → Fits (each word_bytes slice) o' to
+  pub words_fit : Fits (each (corner_bytes m) cs) o at → Fits (each word_bytes part) o' to
   words_fit r =
-      let z : to + length (corner_bytes m corner) ≤ length o' = putting_room (corner_bytes m) [] (corners_in part) o o' at to k corner in_part refl h r in
-      rw is_said at z
+      let z : to + length (corner_bytes m (get_or cs k [])) ≤ length o' =
+      putting_room (corner_bytes m) [] cs o o' at to k (get_or cs k []) l refl h r in
+      rw is_part at z
 
-  pub corners_turn : (o'' : List ℕ) (to' : ℕ) → Stored (each word_bytes slice) o' o'' to to' → Putting (corner_bytes m) (corners_in part) o o'' at to' (k + 1)
+  pub corners_turn : (o'' : List ℕ) (to' : ℕ) → Stored (each word_bytes part) o' o'' to to' → Putting (corner_bytes m) cs o o'' at to' (k + 1)
   corners_turn o'' to' g =
-      putting_turns (corner_bytes m) [] (corners_in part) o o' at to k corner in_part refl h o'' to' (stored_as _ (corner_bytes m corner) o' o'' to to' (sym is_said) g)
-
-pub corners_end :
-    (m : Bool) (part o o' : List ℕ) (at to k : ℕ) → length part / width ≤ k → Putting (corner_bytes m) (corners_in part) o o' at to k
-    → Stored (each (corner_bytes m) (corners_in part)) o o' at to
-corners_end m part o o' at to k l h = putting_ends (corner_bytes m) (corners_in part) o o' at to k (omega (arith, length-corners_in part)) h
+      putting_turns (corner_bytes m) [] cs o o' at to k (get_or cs k []) l refl h o'' to' (stored_as _ (corner_bytes m (get_or cs k [])) o' o'' to to' (sym is_part) g)
 
 -- ---- the length of a face, with m whether it has a mark and k the length of its body
 
@@ -111,18 +62,12 @@ module _ (part : List ℕ) (m : Bool) (k : ℕ) (em : m ≡ any_mark (corners_in
   unfolding face_bytes
   face_is = ap (λ (i : ℕ). header_length + i) (ek ∙ ap₂ body_length em (sym (length-corners_in part)))
 
-  pub face_small : length part ≤ corner_numbers → k ≤ file_limit
-  face_small h = omega (arith, h, ek, count_few (wide m (length part / width)), size_most m (length part / width))
-
 -- ---- the lengths of all faces
 
 pub record Totalling (cs s : List ℕ) (total from k : ℕ) : Type 0 where
   pub offset : from ≡ offset_of s k
   pub within : k ≤ length s
   pub adds : total + sum (map face_bytes (drop k (rings s cs))) ≡ sum (map face_bytes (rings s cs))
-
-pub total_begins : (cs s : List ℕ) → Totalling cs s 0 0 0
-total_begins cs s = record { offset = refl; within = omega arith; adds = omega arith }
 
 module _ (cs s : List ℕ) (r : Sound cs s) where
   -- none is longer than the largest file

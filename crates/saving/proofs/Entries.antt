@@ -1,23 +1,23 @@
 -- Positions, texture points and normals: the record of one, and the loop over all, at any width. Assumes nothing.
 use mathlib.Core.Path.{◌≡◌, refl, sym, ap, ap₂, ◌∙◌}
-use mathlib.Core.List.{List, []}
-use Prim.Native.Nat.{ℕ, zero, suc, ◌+◌, ◌*◌, ◌-◌, ◌≤◌, ◌<◌}
-use native.Mathlib.Nat.{mul-suc, add_comm, add-sub_cancel_left, not-suc-le-zero, le_of_suc-le-suc}
-use native.Mathlib.Numerals.{add-one}
+use mathlib.Core.List.{List, [], ◌∷◌}
+use Prim.Native.Nat.{ℕ, zero, suc, ◌+◌, ◌*◌, ◌/◌, ◌≤◌, ◌<◌}
+use native.Mathlib.Nat.{mul-suc, add_comm, not-suc-le-zero, le_of_suc-le-suc}
 use native.Mathlib.Omega.{arith}
 use lib.ListN.{length, get_or, take, drop, length-take}
 use lib.Seq.{drop-drop}
+use Rattle.std.proofs.lemmas.List.{get_or_default}
 use lib.Ieee.{Float}
+use Rattle.std.specs.Simd.{first_chunks}
 use Rattle.lists.specs.Lists.{each}
 use Rattle.lists.proofs.Parts.{every_take, every_drop}
 use Rattle.floating.specs.Limits.{finite}
-use Rattle.floating.proofs.Rows.{row_fits}
 use Rattle.written.specs.Pieces.{coordinate_bytes, header_of}
 use Rattle.written.specs.Parts.{entry_record, first_rows}
 use Rattle.written.proofs.Lengths.{length_header, length_coordinates, length_entry}
 use Rattle.saving.specs.Working.{Stored, Coordinates, AnEntry, Entries}
 use Rattle.saving.proofs.Storing.{stored_both}
-use Rattle.saving.proofs.Listing.{Putting, putting_begins, putting_turns, putting_room, putting_ends}
+use Rattle.saving.proofs.Listing.{Putting, putting_turns, putting_room, putting_ends}
 
 -- ---- one
 
@@ -45,50 +45,40 @@ row_at w (suc n) s (suc k) h =
     let e : w + w * k ≡ w * suc k = add_comm w (w * k) ∙ sym (mul-suc w k) in
     row_at w n (drop w s) k (le_of_suc-le-suc h) ∙ ap (take w) (drop-drop (w * k) w s ∙ ap (λ (i : ℕ). drop i s) e)
 
-pub record PuttingEntries (w n kind : ℕ) (s : List Float) (o o' : List ℕ) (at to from k : ℕ) : Type 0 where
-  pub offset : from ≡ w * k
-  pub inside : from ≤ length s
-  pub puts : Putting (entry_record kind) (first_rows w n s) o o' at to k
+-- the library's chunks of a list of coordinates are its entries
+pub first_chunks-first_rows : (w n : ℕ) (s : List Float) → first_chunks w n s ≡ first_rows w n s
+first_chunks-first_rows w zero s = refl
+first_chunks-first_rows w (suc n) s = ap (λ (r : List (List Float)). take w s ∷ r) (first_chunks-first_rows w n (drop w s))
 
-pub entries_begin : (w n kind : ℕ) (s : List Float) (o : List ℕ) (at : ℕ) → PuttingEntries w n kind s o o at at 0 0
-entries_begin w n kind s o at = record {
-  offset = sym (native.Mathlib.Nat.mul-zero w);
-  inside = omega arith;
-  puts = putting_begins (entry_record kind) (first_rows w n s) o at;
-}
+module _ (w kind : ℕ) (s : List Float) (o o' : List ℕ) (at to k : ℕ) (rows : List (List Float)) (er : rows ≡ first_chunks w (length s / w) s)
+    (l : k < length rows) (row : List Float) (ei : row ≡ get_or rows k row) (e : Entries w kind s o at) (h : Putting (entry_record kind) (first_rows w (length s / w) s) o o' at to k) where
+  is_rows : rows ≡ first_rows w (length s / w) s
+  is_rows = er ∙ first_chunks-first_rows w (length s / w) s
 
-module _ (w n kind : ℕ) (s : List Float) (o o' : List ℕ) (at to from k : ℕ) (l : k < n) (e : Entries w n kind s o at)
-    (h : PuttingEntries w n kind s o o' at to from k) where
-  -- the next entry ends within the list
-  pub entry_within : from + w ≤ length s
-  entry_within = omega (arith, row_fits w k n l, h.offset, e.whole)
+  is_row : get_or (first_rows w (length s / w) s) k [] ≡ row
+  is_row = ap (λ (r : List (List Float)). get_or r k []) (sym is_rows) ∙ get_or_default rows k [] row l ∙ sym ei
 
-  abbrev part : List Float
-  part = take (from + w - from) (drop from s)
+  in_rows : k < length (first_rows w (length s / w) s)
+  in_rows = rw is_rows at l
 
-  is_row : get_or (first_rows w n s) k [] ≡ part
-  is_row =
-      row_at w n s k l
-      ∙ ap₂ (λ (i j : ℕ). take i (drop j s)) (sym (add-sub_cancel_left from w)) (sym h.offset)
+  is_part : row ≡ take w (drop (w * k) s)
+  is_part = sym is_row ∙ row_at w (length s / w) s k (rw (length_rows w (length s / w) s) at in_rows)
 
-  in_rows : k < length (first_rows w n s)
-  in_rows = rw (length_rows w n s) l
-
-  pub an_entry : AnEntry kind part o' to
+  pub an_entry : AnEntry kind row o' to
   an_entry = record {
-    are_finite = every_take finite (from + w - from) (drop from s) (every_drop finite from s e.are_finite);
-    small = omega (arith, length-take (from + w - from) (drop from s), e.small);
-    fits = putting_room (entry_record kind) [] (first_rows w n s) o o' at to k part in_rows is_row h.puts e.fits;
+    are_finite = rw is_part (every_take finite w (drop (w * k) s) (every_drop finite (w * k) s e.are_finite));
+    small = omega (arith, ap length is_part, length-take w (drop (w * k) s), e.small);
+    fits = putting_room (entry_record kind) [] (first_rows w (length s / w) s) o o' at to k row in_rows is_row h e.fits;
   }
 
-  pub entries_turn : (o'' : List ℕ) (to' : ℕ) → Stored (entry_record kind part) o' o'' to to' → PuttingEntries w n kind s o o'' at to' (from + w) (k + 1)
-  entries_turn o'' to' g = record {
-    offset = ap (λ (i : ℕ). i + w) h.offset ∙ sym (mul-suc w k) ∙ ap (λ (i : ℕ). w * i) (sym (add-one k));
-    inside = entry_within;
-    puts = putting_turns (entry_record kind) [] (first_rows w n s) o o' at to k part in_rows is_row h.puts o'' to' g;
-  }
+  pub entries_turn :
+      (o'' : List ℕ) (to' : ℕ) → Stored (entry_record kind row) o' o'' to to'
+      → Putting (entry_record kind) (first_rows w (length s / w) s) o o'' at to' (k + 1)
+  entries_turn = putting_turns (entry_record kind) [] (first_rows w (length s / w) s) o o' at to k row in_rows is_row h
 
 pub entries_end :
-    (w n kind : ℕ) (s : List Float) (o o' : List ℕ) (at to from k : ℕ) → n ≤ k → PuttingEntries w n kind s o o' at to from k
-    → Stored (each (entry_record kind) (first_rows w n s)) o o' at to
-entries_end w n kind s o o' at to from k l h = putting_ends (entry_record kind) (first_rows w n s) o o' at to k (rw (length_rows w n s) l) h.puts
+    (w kind : ℕ) (s : List Float) (o o' : List ℕ) (at to k : ℕ) (rows : List (List Float)) → rows ≡ first_chunks w (length s / w) s → length rows ≤ k
+    → Putting (entry_record kind) (first_rows w (length s / w) s) o o' at to k
+    → Stored (each (entry_record kind) (first_rows w (length s / w) s)) o o' at to
+entries_end w kind s o o' at to k rows er l =
+    putting_ends (entry_record kind) (first_rows w (length s / w) s) o o' at to k (rw (er ∙ first_chunks-first_rows w (length s / w) s) at l)

@@ -1,7 +1,6 @@
 pub mod Storing
 pub mod Listing
 pub mod Entries
-pub mod Wide
+pub mod Cornering
 pub mod Faces
 pub mod Saving
-pub mod Cornering

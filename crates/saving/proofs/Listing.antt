@@ -21,9 +21,6 @@ module _ {A : Type 0} (f : A → List ℕ) where
     pub within : k ≤ length xs
     pub grows : Growing o o' at to (each f xs) (each f (drop k xs))
 
-  pub putting_begins : (xs : List A) (o : List ℕ) (at : ℕ) → Putting xs o o at at 0
-  putting_begins xs o at = record { within = omega arith; grows = grow_begins o at (each f xs) }
-
   module _ (d : A) (xs : List A) (o o' : List ℕ) (at to k : ℕ) (x : A) (l : k < length xs) (e : get_or xs k d ≡ x) (p : Putting xs o o' at to k) where
     next : each f (drop k xs) ≡ f x ++ each f (drop (k + 1) xs)
     next = ap (each f) (drop-cons xs k d l) ∙ ap₂ (λ (y : A) (i : ℕ). f y ++ each f (drop i xs)) e (sym (add-one k))

@@ -31,11 +31,11 @@ module _ (m : Mesh) (o : List ℕ) (r : Ready m o) where
   roomy : length (P m) + (length (T m) + (length (N m) + (length (F m) + 4))) ≤ length o
   roomy = omega (arith, r.room, file_length_lem m is_accepted, parts_length m is_accepted)
 
-  pub ready_positions : Entries 3 (length m.positions / 3) 1 m.positions o 0
+  pub ready_positions : Entries 3 1 m.positions o 0
   ready_positions = record {
     are_finite = is_finite.positions;
+    some = omega arith;
     small = omega arith;
-    whole = omega (arith, is_accepted.whole.positions);
     fits = omega (arith, roomy);
   }
 
@@ -43,11 +43,11 @@ module _ (m : Mesh) (o : List ℕ) (r : Ready m o) where
     behind_1 : (a ≡ length (P m)) × (length o1 ≡ length o)
     behind_1 = (omega (arith, s1.place), still_long (P m) o o1 0 a s1)
 
-    pub ready_textures : Entries 2 (length m.textures / 2) 2 m.textures o1 a
+    pub ready_textures : Entries 2 2 m.textures o1 a
     ready_textures = record {
       are_finite = is_finite.textures;
+      some = omega arith;
       small = omega arith;
-      whole = omega (arith, is_accepted.whole.textures);
       fits = omega (arith, roomy, behind_1.0, behind_1.1);
     }
 
@@ -55,11 +55,11 @@ module _ (m : Mesh) (o : List ℕ) (r : Ready m o) where
       behind_2 : (b ≡ length (P m) + length (T m)) × (length o2 ≡ length o)
       behind_2 = (omega (arith, s2.place, behind_1.0), still_long (T m) o1 o2 a b s2 ∙ behind_1.1)
 
-      pub ready_normals : Entries 3 (length m.normals / 3) 3 m.normals o2 b
+      pub ready_normals : Entries 3 3 m.normals o2 b
       ready_normals = record {
         are_finite = is_finite.normals;
+        some = omega arith;
         small = omega arith;
-        whole = omega (arith, is_accepted.whole.normals);
         fits = omega (arith, roomy, behind_2.0, behind_2.1);
       }
 
@@ -85,20 +85,3 @@ module _ (m : Mesh) (o : List ℕ) (r : Ready m o) where
               (stored_both (T m) (N m ++ (F m ++ E m)) o1 o2 o5 a b e s2
               (stored_both (N m) (F m ++ E m) o2 o3 o5 b c e s3
               (stored_both (F m) (E m) o3 o4 o5 c d e s4 s5))))
-
--- ---- finite
-
--- one list after the other, with b and c whether the first and the second are finite
-module _ (p t n : List Float) (b : Bool) (eb : b ≡ every finite p) where
-  pub first_broken : b ≡ false → false ≡ all_finite p t n
-  unfolding all_finite
-  first_broken h = rw (sym eb ∙ h)
-
-  module _ (hb : b ≡ true) (c : Bool) (ec : c ≡ every finite t) where
-    pub second_broken : c ≡ false → false ≡ all_finite p t n
-    unfolding all_finite
-    second_broken h = rw (sym eb ∙ hb, sym ec ∙ h)
-
-    pub third_decides : c ≡ true → (d : Bool) → d ≡ every finite n → d ≡ all_finite p t n
-    unfolding all_finite
-    third_decides h d e = rw (sym eb ∙ hb, sym ec ∙ h) e

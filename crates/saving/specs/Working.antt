@@ -1,5 +1,5 @@
 -- What the writer's inner functions store, for their contracts. Assumes nothing.
-use Rattle.std.specs.Prelude.{ℕ, ◌+◌, ◌*◌, ◌%◌, ◌≤◌, ◌<◌, ◌≡◌, Bool, true, false, List, length, get_or, Float}
+use Rattle.std.specs.Prelude.{ℕ, ◌+◌, ◌*◌, ◌/◌, ◌%◌, ◌≤◌, ◌<◌, ◌≡◌, Bool, true, false, List, length, get_or, Float}
 use Rattle.std.proofs.lemmas.List.Edits.{sets}
 use Rattle.lists.specs.Lists.{each, every}
 use Rattle.mesh.specs.Limits.{width, ring_limit}
@@ -30,11 +30,11 @@ pub record AnEntry (kind : ℕ) (l : List Float) (o : List ℕ) (at : ℕ) : Typ
   pub small : length l ≤ 3
   pub fits : Fits (entry_record kind l) o at
 
-pub record Entries (w n kind : ℕ) (s : List Float) (o : List ℕ) (at : ℕ) : Type 0 where
+pub record Entries (w kind : ℕ) (s : List Float) (o : List ℕ) (at : ℕ) : Type 0 where
   pub are_finite : every finite s ≡ true
+  pub some : 0 < w
   pub small : w ≤ 3
-  pub whole : length s ≡ w * n
-  pub fits : Fits (each (entry_record kind) (first_rows w n s)) o at
+  pub fits : Fits (each (entry_record kind) (first_rows w (length s / w) s)) o at
 
 -- ---- faces
 
@@ -47,9 +47,6 @@ said_width false = index_width
 pub record ACount (marked : Bool) (n : ℕ) (o : List ℕ) (at : ℕ) : Type 0 where
   pub small : n ≤ ring_limit
   pub fits : Fits (count_bytes (wide marked n) n) o at
-
-abbrev pub Corners : Bool → List ℕ → List ℕ → ℕ → Type 0
-Corners marked part o at = Fits (each (corner_bytes marked) (corners_in part)) o at
 
 pub record AFace (part o : List ℕ) (at : ℕ) : Type 0 where
   pub whole : length part % width ≡ 0

@@ -1,9 +1,6 @@
 // One record after the other. Each function stores bytes from a place on and answers the place behind them.
-ghost use Rattle.std.specs.Prelude.{◌≡◌, true, [], ◌∷◌, map, ◌+◌, ◌*◌, ◌≤◌, length};
-ghost use Rattle.std.specs.Float.{binary64};
-ghost use Rattle.std.specs.Float.Ieee.{to_bits};
+ghost use Rattle.std.specs.Prelude.{◌≡◌, map, ◌+◌, ◌/◌, ◌≤◌, length};
 ghost use Rattle.lists.specs.Lists.{each, sum};
-ghost use Rattle.floating.specs.Limits.{finite};
 ghost use Rattle.little.specs.Little.{word_bytes};
 ghost use Rattle.mesh.specs.Limits.{corner_numbers, corner_limit};
 ghost use Rattle.mesh.specs.Mesh.{corners_in, rings};
@@ -11,17 +8,9 @@ ghost use Rattle.mesh.specs.Face.{Sound};
 ghost use Rattle.records.specs.Records.{any_mark};
 ghost use Rattle.written.specs.Pieces.{wide, face_kind, count_bytes, count_length, coordinate_bytes, corner_bytes, header_of, body_length, face_bytes};
 ghost use Rattle.written.specs.Parts.{entry_record, first_rows, face_record};
-ghost use Rattle.saving.specs.Working.{Stored, Fits, Coordinates, AnEntry, Entries, said_width, ACount, Corners, AFace, Faces};
+ghost use Rattle.saving.specs.Working.{Stored, Fits, Coordinates, AnEntry, Entries, said_width, ACount, AFace, Faces};
 
 // ---- parts of a record
-
-// The bits of a finite number.
-fn bits_of(x: f64) -> u64
-    requires { finite x ≡ true }
-    ensures { result ≡ to_bits binary64 x }
-{
-    f64::to_bits(x)
-}
 
 // A header: the length of a body, and its kind.
 pub fn put_header(n: u32, kind: u32, out: &mut [u8], at: usize) -> usize
@@ -39,11 +28,9 @@ fn put_coordinates(s: &[f64], out: &mut [u8], at: usize) -> usize
     ensures { Stored (each coordinate_bytes s.now) out.old out.new at result }
 {
     let mut to = at;
-    let mut k: usize = 0;
-    while k < s.len() {
-        little::put_long(out, to, bits_of(s[k]));
+    for x in s {
+        little::put_long(out, to, x.to_bits());
         to += 8;
-        k += 1;
     }
     to
 }
@@ -54,21 +41,11 @@ fn put_words(s: &[u32], out: &mut [u8], at: usize) -> usize
     ensures { Stored (each word_bytes s.now) out.old out.new at result }
 {
     let mut to = at;
-    let mut k: usize = 0;
-    while k < s.len() {
-        little::put_word(out, to, s[k]);
+    for x in s {
+        little::put_word(out, to, *x);
         to += 4;
-        k += 1;
     }
     to
-}
-
-fn put_byte(x: u8, out: &mut [u8], at: usize) -> usize
-    requires { at + 1 ≤ length out.old }
-    ensures { Stored (x ∷ []) out.old out.new at result }
-{
-    out[at] = x;
-    at + 1
 }
 
 // ---- positions, texture points and normals
@@ -82,19 +59,15 @@ fn put_entry(part: &[f64], kind: u32, out: &mut [u8], at: usize) -> usize
     put_coordinates(part, out, a)
 }
 
-// A record for each of the n entries of a list, w coordinates wide.
-pub fn put_entries(s: &[f64], w: usize, n: usize, kind: u32, out: &mut [u8], at: usize) -> usize
-    requires { Entries w n kind s.now out.old at }
-    ensures { Stored (each (entry_record kind) (first_rows w n s.now)) out.old out.new at result }
+// A record for each entry of a list, W coordinates wide.
+pub fn put_entries<const W: usize>(s: &[f64], kind: u32, out: &mut [u8], at: usize) -> usize
+    requires { Entries W kind s.now out.old at }
+    ensures { Stored (each (entry_record kind) (first_rows W (length s.now / W) s.now)) out.old out.new at result }
 {
+    let (entries, _) = s.as_chunks::<W>();
     let mut to = at;
-    let mut from: usize = 0;
-    let mut k: usize = 0;
-    while k < n {
-        let end = from + w;
-        to = put_entry(&s[from..end], kind, out, to);
-        from = end;
-        k += 1;
+    for entry in entries {
+        to = put_entry(entry, kind, out, to);
     }
     to
 }
@@ -105,28 +78,18 @@ pub fn put_entries(s: &[f64], w: usize, n: usize, kind: u32, out: &mut [u8], at:
 const INDEX_WIDTH: usize = 3;
 
 // Whether any corner of a face has a mark.
-fn any_mark(part: &[u32]) -> bool
-    ensures { result ≡ any_mark (corners_in part.now) }
+#[tactic(auto, unfolding(records::specs::Records::any_mark))]
+fn any_mark(corners: &[[u32; mesh::WIDTH]]) -> bool
+    ensures { result ≡ any_mark corners.now }
 {
-    let n = part.len() / mesh::WIDTH;
-    let mut k: usize = 0;
-    while k < n {
-        if part[mesh::WIDTH * k + INDEX_WIDTH] != 0 {
-            return true;
-        }
-        k += 1;
-    }
-    false
+    corners.iter().any(|corner| corner[INDEX_WIDTH] != 0)
 }
 
 // Whether a face of n corners is wide: kind 4 does not hold it.
 fn is_wide(marked: bool, n: usize) -> bool
     ensures { result ≡ wide marked n }
 {
-    if marked {
-        return true;
-    }
-    records::BYTE_FACE < n
+    marked || records::BYTE_FACE < n
 }
 
 // The kind of a face of n corners.
@@ -134,12 +97,12 @@ fn face_kind(marked: bool, n: usize) -> u32
     ensures { result ≡ face_kind marked (wide marked n) }
 {
     if marked {
-        return records::MARKED_KIND;
+        records::MARKED_KIND
+    } else if is_wide(marked, n) {
+        records::WIDE_KIND
+    } else {
+        records::BYTE_KIND
     }
-    if is_wide(marked, n) {
-        return records::WIDE_KIND;
-    }
-    records::BYTE_KIND
 }
 
 // How many bytes its count has.
@@ -147,9 +110,10 @@ fn count_length(marked: bool, n: usize) -> usize
     ensures { result ≡ count_length (wide marked n) }
 {
     if is_wide(marked, n) {
-        return records::WIDE_COUNT;
+        records::WIDE_COUNT
+    } else {
+        records::BYTE_COUNT
     }
-    records::BYTE_COUNT
 }
 
 // How many bytes its body has.
@@ -165,8 +129,8 @@ fn face_length(part: &[u32]) -> usize
     requires { length part.now ≤ corner_numbers }
     ensures { result ≡ face_bytes (corners_in part.now) }
 {
-    let n = part.len() / mesh::WIDTH;
-    records::HEADER_LENGTH + body_length(any_mark(part), n)
+    let (corners, _) = part.as_chunks::<{ mesh::WIDTH }>();
+    records::HEADER_LENGTH + body_length(any_mark(corners), corners.len())
 }
 
 // How many the records of all faces have.
@@ -176,52 +140,45 @@ pub fn face_lengths(corners: &[u32], sizes: &[u32]) -> usize
 {
     let mut total: usize = 0;
     let mut from: usize = 0;
-    let mut k: usize = 0;
-    while k < sizes.len() {
+    for (k, n) in sizes.iter().enumerate() {
         let face = mesh::face_at(corners, sizes, k, from);
         total += face_length(face);
-        from += sizes[k] as usize;
-        k += 1;
+        from += *n as usize;
     }
     total
 }
 
 // Its count.
+#[tactic(auto, unfolding(written::specs::Pieces::count_bytes))]
 fn put_count(marked: bool, n: usize, out: &mut [u8], at: usize) -> usize
     requires { ACount marked n out.old at }
     ensures { Stored (count_bytes (wide marked n) n) out.old out.new at result }
 {
     if is_wide(marked, n) {
         little::put_half(out, at, n as u32);
-        return at + records::WIDE_COUNT;
+        at + records::WIDE_COUNT
+    } else {
+        out[at] = n as u8;
+        at + records::BYTE_COUNT
     }
-    put_byte(n as u8, out, at)
 }
 
 // How many numbers of each corner are said.
 fn said_width(marked: bool) -> usize
     ensures { result ≡ said_width marked }
 {
-    if marked {
-        return mesh::WIDTH;
-    }
-    INDEX_WIDTH
+    if marked { mesh::WIDTH } else { INDEX_WIDTH }
 }
 
 // Its corners.
-fn put_corners(marked: bool, part: &[u32], out: &mut [u8], at: usize) -> usize
-    requires { Corners marked part.now out.old at }
-    ensures { Stored (each (corner_bytes marked) (corners_in part.now)) out.old out.new at result }
+fn put_corners(marked: bool, corners: &[[u32; mesh::WIDTH]], out: &mut [u8], at: usize) -> usize
+    requires { Fits (each (corner_bytes marked) corners.now) out.old at }
+    ensures { Stored (each (corner_bytes marked) corners.now) out.old out.new at result }
 {
-    let n = part.len() / mesh::WIDTH;
     let numbers = said_width(marked);
     let mut to = at;
-    let mut k: usize = 0;
-    while k < n {
-        let from = mesh::WIDTH * k;
-        let end = from + numbers;
-        to = put_words(&part[from..end], out, to);
-        k += 1;
+    for corner in corners {
+        to = put_words(&corner[..numbers], out, to);
     }
     to
 }
@@ -231,12 +188,13 @@ fn put_face(part: &[u32], out: &mut [u8], at: usize) -> usize
     requires { AFace part.now out.old at }
     ensures { Stored (face_record (corners_in part.now)) out.old out.new at result }
 {
-    let n = part.len() / mesh::WIDTH;
-    let marked = any_mark(part);
+    let (corners, _) = part.as_chunks::<{ mesh::WIDTH }>();
+    let n = corners.len();
+    let marked = any_mark(corners);
     let length = body_length(marked, n);
     let a = put_header(length as u32, face_kind(marked, n), out, at);
     let b = put_count(marked, n, out, a);
-    put_corners(marked, part, out, b)
+    put_corners(marked, corners, out, b)
 }
 
 // A record for each face, in their order.
@@ -246,12 +204,10 @@ pub fn put_faces(corners: &[u32], sizes: &[u32], out: &mut [u8], at: usize) -> u
 {
     let mut to = at;
     let mut from: usize = 0;
-    let mut k: usize = 0;
-    while k < sizes.len() {
+    for (k, n) in sizes.iter().enumerate() {
         let face = mesh::face_at(corners, sizes, k, from);
         to = put_face(face, out, to);
-        from += sizes[k] as usize;
-        k += 1;
+        from += *n as usize;
     }
     to
 }

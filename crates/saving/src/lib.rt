@@ -71,15 +71,13 @@ fn number(
 }
 
 // Every coordinate is finite.
+#[tactic(auto, unfolding(floating::specs::Limits::all_finite))]
 fn are_finite(positions: &[f64], textures: &[f64], normals: &[f64]) -> bool
     ensures { result ≡ all_finite positions.now textures.now normals.now }
 {
-    if floating::are_finite(positions) {
-        if floating::are_finite(textures) {
-            return floating::are_finite(normals);
-        }
-    }
-    false
+    floating::are_finite(positions)
+        && floating::are_finite(textures)
+        && floating::are_finite(normals)
 }
 
 // How long the whole file of an accepted mesh is.
@@ -115,12 +113,9 @@ pub fn put_mesh(
         (file_of (mesh_of positions.now textures.now normals.now corners.now sizes.now))
         out.old out.new 0 result }
 {
-    let np = positions.len() / 3;
-    let nt = textures.len() / 2;
-    let nn = normals.len() / 3;
-    let a = bytes::put_entries(positions, 3, np, 1, out, 0);
-    let b = bytes::put_entries(textures, 2, nt, 2, out, a);
-    let c = bytes::put_entries(normals, 3, nn, 3, out, b);
+    let a = bytes::put_entries::<{ mesh::POINT_WIDTH }>(positions, 1, out, 0);
+    let b = bytes::put_entries::<{ mesh::TEXEL_WIDTH }>(textures, 2, out, a);
+    let c = bytes::put_entries::<{ mesh::POINT_WIDTH }>(normals, 3, out, b);
     let d = bytes::put_faces(corners, sizes, out, c);
     bytes::put_header(0, 0, out, d)
 }
