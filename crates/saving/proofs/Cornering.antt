@@ -2,32 +2,25 @@
 use mathlib.Core.Path.{◌≡◌, refl, sym, ap, ap₂, ◌∙◌}
 use mathlib.Core.Bool.{Bool, true, false}
 use mathlib.Core.List.{List, [], map}
-use Prim.Native.Nat.{ℕ, zero, suc, ◌+◌, ◌*◌, ◌-◌, ◌/◌, ◌≤◌, ◌<◌}
+use Prim.Native.Nat.{ℕ, ◌+◌, ◌/◌, ◌≤◌, ◌<◌}
 use native.Mathlib.Numerals.{add-one}
 use native.Mathlib.Omega.{arith}
 use lib.ListN.{length, get_or, take, drop}
 use lib.Seq.{drop-cons, drop-length, take_all}
-use lib.Dec.{eqb}
-use borrow.Author.Tests.{eq-eqb, ne_eqb}
 use Rattle.lists.specs.Lists.{each, sum}
-
 use Rattle.little.specs.Little.{word_bytes}
 use Rattle.mesh.specs.Limits.{width, corner_numbers}
-use Rattle.mesh.specs.Mesh.{Ring, first_corners, corners_in, rings}
+use Rattle.mesh.specs.Mesh.{Ring, corners_in, rings}
 use Rattle.mesh.specs.Face.{Sound, offset_of, face_of}
-use Rattle.mesh.proofs.Corners.{length-corners_in, get_or-corners_in}
+use Rattle.mesh.proofs.Corners.{length-corners_in}
 use Rattle.mesh.proofs.Faces.{length_rings, get_or-rings, face_length, face_fits, offset_step, sizes_back}
 use Rattle.records.specs.Records.{any_mark}
 use Rattle.records.specs.Lengths.{header_length}
-use Rattle.records.proofs.Ringing.{size_most}
-use Rattle.written.specs.Pieces.{wide, index_width, corner_bytes, body_length, face_bytes, file_limit}
-use Rattle.written.proofs.Lengths.{count_few}
+use Rattle.written.specs.Pieces.{corner_bytes, body_length, face_bytes, file_limit}
 use Rattle.saving.specs.Working.{Stored, Fits, said_width}
 use Rattle.saving.proofs.Storing.{stored_as}
 use Rattle.saving.proofs.Listing.{Putting, putting_turns, putting_room}
 use Rattle.written.proofs.Parting.{faces_most}
-
-
 
 -- ---- what is said of a corner
 

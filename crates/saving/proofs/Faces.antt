@@ -1,5 +1,5 @@
 -- Faces: the record of one, and the loop over all. Assumes nothing.
-use mathlib.Core.Path.{◌≡◌, refl, sym, ap, ap₂, ◌∙◌}
+use mathlib.Core.Path.{◌≡◌, sym, ap, ap₂, ◌∙◌}
 use mathlib.Core.Bool.{Bool}
 use mathlib.Core.List.{List, [], ◌++◌}
 use Prim.Native.Nat.{ℕ, ◌+◌, ◌*◌, ◌/◌, ◌≤◌, ◌<◌}
@@ -14,12 +14,11 @@ use Rattle.mesh.specs.Mesh.{corners_in, rings}
 use Rattle.mesh.specs.Face.{offset_of, face_of}
 use Rattle.mesh.proofs.Faces.{length_rings, get_or-rings, face_length, offset_step}
 use Rattle.written.specs.Parts.{face_record}
-use Rattle.records.proofs.Ringing.{size_most}
 use Rattle.written.specs.Pieces.{wide, face_kind, count_bytes, corner_bytes, header_of, body_length}
-use Rattle.written.proofs.Lengths.{length_header, count_few, length_count, corners, marked, header, counted, numbers, face_bytes_lem, length_part, length_numbers}
+use Rattle.written.proofs.Lengths.{length_header, length_count, corners, marked, header, counted, numbers, face_bytes_lem, length_part, length_numbers}
 use Rattle.saving.specs.Working.{Stored, Fits, ACount, AFace, Faces}
 use Rattle.saving.proofs.Storing.{stored_both, stored_as, still_long}
-use Rattle.saving.proofs.Listing.{Putting, putting_begins, putting_turns, putting_room, putting_ends}
+use Rattle.saving.proofs.Listing.{Putting, putting_turns, putting_room, putting_ends}
 
 -- ---- one
 

@@ -8,7 +8,7 @@ use lib.ListN.{length, get_or, drop, length-append}
 use lib.Seq.{drop-cons, drop-length}
 use lib.Ieee.{Float, nan}
 use Rattle.lists.specs.Lists.{each}
-use Rattle.lists.proofs.Growing.{Growing, grow_begins, grow_part, grow_ends, grow_room}
+use Rattle.lists.proofs.Growing.{Growing, grow_part, grow_ends, grow_room}
 use Rattle.little.specs.Little.{word_bytes}
 use Rattle.little.proofs.Written.{length_word}
 use Rattle.written.specs.Pieces.{coordinate_bytes}

@@ -1,16 +1,12 @@
 -- A mesh that can be written: there is room for each part behind the others; and whether its lists are finite, one after the other. Assumes
 -- nothing.
 use mathlib.Core.Path.{◌≡◌, sym, ◌∙◌}
-use mathlib.Core.Bool.{Bool, true, false}
 use mathlib.Core.List.{List, ◌++◌}
-use Prim.Native.Nat.{ℕ, ◌+◌, ◌/◌, ◌≤◌}
+use Prim.Native.Nat.{ℕ, ◌+◌, ◌≤◌}
 use native.Mathlib.Omega.{arith}
 use lib.ListN.{length}
-use lib.Ieee.{Float}
-use Rattle.lists.specs.Lists.{every}
 use Rattle.mesh.specs.Mesh.{Mesh}
 use Rattle.mesh.proofs.Accepted.{Accepted, accepted}
-use Rattle.floating.specs.Limits.{finite, all_finite}
 use Rattle.floating.proofs.Finite.{Finite, finite_lists}
 use Rattle.written.specs.Pieces.{file_of}
 use Rattle.written.specs.Answer.{Ready}

@@ -6,7 +6,7 @@ use Rattle.mesh.specs.Limits.{width, ring_limit}
 use Rattle.mesh.specs.Mesh.{corners_in, rings}
 use Rattle.mesh.specs.Face.{Sound}
 use Rattle.floating.specs.Limits.{finite}
-use Rattle.written.specs.Pieces.{wide, count_bytes, coordinate_bytes, index_width, corner_bytes}
+use Rattle.written.specs.Pieces.{wide, count_bytes, coordinate_bytes, index_width}
 use Rattle.written.specs.Parts.{entry_record, first_rows, face_record}
 
 -- the bytes are stored from a place on, and r is the place behind them

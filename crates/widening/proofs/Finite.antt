@@ -11,17 +11,6 @@ use Rattle.scanned.specs.Scan.{coordinate_bytes, plain, point, point_from, widen
 use Rattle.scanned.proofs.Points.{coordinates_point}
 
 module _ (x y z : Float) where
-  abbrev test : Bool
-  test = not (finite x && (finite y && (finite z && true)))
-
-  pub first_out : (a : Bool) → a ≡ finite x → not a ≡ true → true ≡ test
-  first_out a e f = rw (sym e ∙ not-true a f)
-
-  pub second_out : (a b : Bool) → a ≡ finite x → not a ≡ false → b ≡ finite y → not b ≡ true → true ≡ test
-  second_out a b e f g h = rw (sym e ∙ not-false a f, sym g ∙ not-true b h)
-
-  pub third_tells : (a b c : Bool) → a ≡ finite x → not a ≡ false → b ≡ finite y → not b ≡ false → c ≡ finite z → not c ≡ test
-  third_tells a b c e f g h i = rw (sym e ∙ not-false a f, sym g ∙ not-false b h, and-true (finite z), i)
 
 -- ---- a point of the file, from the bits of its coordinates
 

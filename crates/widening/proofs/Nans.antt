@@ -25,11 +25,6 @@ module _ (n : ℕ) (h : n % 2147483648 ≤ 2139095040) where
   pub made : T (not (nan_bits binary32 n))
   made = rw no_nan tt
 
-  pub kept : T (fits binary64 (of_bits binary32 n) && not (is_nan (of_bits binary32 n)))
-  kept =
-      let e : is_nan (of_bits binary32 n) ≡ false = sym (nan_bits_is binary32 n) ∙ no_nan in
-      and_i (fits binary64 (of_bits binary32 n)) (not (is_nan (of_bits binary32 n))) (fits_widens (of_bits binary32 n) (of_bits-fits binary32 n)) (rw e tt)
-
 -- bits that are
 pub special : (n : ℕ) → 2139095040 < n % 2147483648 → of_bits binary32 n ≡ nan
 special n h = nan_of (of_bits binary32 n) (sym (nan_bits_is binary32 n) ∙ above n ∙ is_true _ (lt→ltb _ _ h))

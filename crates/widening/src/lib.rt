@@ -39,6 +39,7 @@ const WORD_VALUES: u64 = 4294967296;
 const HALF_VALUES: u64 = 65536;
 
 // Where point `k` begins, counted over all triangles.
+#[tactic(auto, unfolding(scanned::specs::Scan::point_place))]
 pub fn place_of(k: usize) -> usize
     requires { k < corner_limit }
     ensures { result ≡ scan.point_place k }
@@ -53,10 +54,7 @@ pub fn place_of(k: usize) -> usize
 fn plain(n: u32) -> u32
     ensures { (result ≡ scan.plain n) × (result < word_values) }
 {
-    if n == MINUS_ZERO {
-        return 0;
-    }
-    n
+    if n == MINUS_ZERO { 0 } else { n }
 }
 
 // The bits of one coordinate.
@@ -93,6 +91,7 @@ pub fn point_from(file: &[u8], i: usize) -> Point
 }
 
 // Whether it is not finite.
+#[tactic(auto, unfolding(scanned::specs::Scan::not_finite))]
 pub fn not_finite_from(file: &[u8], i: usize) -> bool
     requires { i + scan.point_bytes ≤ length file.now }
     ensures { result ≡ scan.not_finite (scan.point_from file.now i) }
@@ -103,13 +102,7 @@ pub fn not_finite_from(file: &[u8], i: usize) -> bool
 fn not_finite(p: Point) -> bool
     ensures { result ≡ not (every finite (coordinates p)) }
 {
-    if !floating::is_finite(p.x) {
-        return true;
-    }
-    if !floating::is_finite(p.y) {
-        return true;
-    }
-    !floating::is_finite(p.z)
+    !(floating::is_finite(p.x) && floating::is_finite(p.y) && floating::is_finite(p.z))
 }
 
 // Half of its bits: the lower 48, or the upper.

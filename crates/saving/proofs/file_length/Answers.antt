@@ -5,7 +5,6 @@ use Rattle.mesh.proofs.Accepted.{accepted}
 use Rattle.written.specs.Pieces.{file_length}
 use Rattle.written.proofs.Parting.{file_fits}
 use native.Mathlib.Omega.{arith}
-use borrow.Author.Rules.{rules}
 use Rattle.saving.proofs.file_length.Goals as goal
 
 pub face_lengths-f-requires : goal.face_lengths-f-requires

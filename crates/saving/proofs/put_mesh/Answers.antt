@@ -1,6 +1,5 @@
 -- `saving::put_mesh` meets its contract: five parts, one behind the other. Assumes nothing.
 use Rattle.saving.proofs.Saving.{ready_positions, ready_textures, ready_normals, ready_faces, ready_end, all_stored}
-use borrow.Author.Rules.{rules}
 use Rattle.saving.proofs.put_mesh.Goals as goal
 
 pub put_entries-a-requires : goal.put_entries-a-requires

@@ -2,7 +2,6 @@
 use mathlib.Core.Path.{sym, ◌∙◌}
 use native.Mathlib.Nat.{zero-add}
 use Rattle.written.proofs.Numbers.{ready, call_refused, call_done}
-use borrow.Author.Rules.{rules}
 use Rattle.saving.proofs.write_panel.Goals as goal
 
 pub returns-then-number-ne0 : goal.returns-then-number-ne0

@@ -2,7 +2,6 @@
 use Rattle.std.proofs.Common.{arith}
 use Rattle.little.proofs.Written.{length_half}
 use Rattle.written.specs.Pieces.{count_bytes}
-use Rattle.saving.specs.Working.{ACount}
 use Rattle.saving.proofs.bytes.put_count.Goals as goal
 
 pub put_half-requires : goal.put_half-requires

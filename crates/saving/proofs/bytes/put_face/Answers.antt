@@ -1,5 +1,4 @@
 -- `saving::bytes::put_face` meets its contract: a header, the count and the corners. Assumes nothing.
-use native.Mathlib.Omega.{arith}
 use Rattle.saving.proofs.Faces.{header_fits, count_fits, corners_fit, face_stored}
 use Rattle.saving.proofs.bytes.put_face.Goals as goal
 
