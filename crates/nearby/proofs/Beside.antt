@@ -1,12 +1,12 @@
 -- The cells of two points, axis by axis, at the width of a texture point or of a position. Assumes nothing.
-use mathlib.Core.Path.{◌≡◌, sym, ◌∙◌, subst}
+use mathlib.Core.Path.{◌≡◌, refl, sym, ap, ◌∙◌, subst}
 use mathlib.Core.Bool.{Bool, true, false, ◌&&◌, and-true}
 use mathlib.Core.List.{List}
 use Prim.Native.Nat.{ℕ, ◌+◌, ◌*◌, ◌≤◌, ◌<◌}
 use native.Mathlib.Omega.{arith}
 use lib.Dec.{eqb, leb}
 use lib.ListN.{length, get_or}
-use borrow.Author.Tests.{eqb-true, eqb-false, le-leb, lt-leb}
+use borrow.Author.Tests.{eqb-true, eqb-false, eq-eqb}
 use Rattle.lists.proofs.Bools.{by_cases}
 use Rattle.mesh.specs.Limits.{point_width, texel_width}
 use Rattle.floating.specs.Cells.{beside, besides}
@@ -14,12 +14,16 @@ use Rattle.floating.specs.Points.{row}
 use Rattle.floating.proofs.Rows.{row_fits, row_two, row_three, three}
 use Rattle.nearby.specs.Engine.{beside_at, Points}
 
--- a comparison in two steps
-pub not_below : (a b : ℕ) → b + 2 < a → false ≡ beside a b
-not_below a b h = rw (lt-leb a (b + 2) h)
+-- tests one after the other: where the first holds, the second says what both say
+pub and_then : {a b v : Bool} → a ≡ true → v ≡ b → v ≡ (a && b)
+and_then p e = rw p e
 
-pub is_below : (a b : ℕ) → a ≤ b + 2 → leb b (a + 2) ≡ beside a b
-is_below a b h = rw (le-leb a (b + 2) h)
+pub and_else : {a v : Bool} (b : Bool) → a ≡ false → v ≡ a → v ≡ (a && b)
+and_else b p e = rw p (e ∙ p)
+
+regroup : (a b c : Bool) → (a && (b && c)) ≡ ((a && b) && c)
+regroup true b c = refl
+regroup false b c = refl
 
 -- point i of n lies in the list
 pub spot : (w n : ℕ) (cells : List ℕ) → Points w n cells → (i : ℕ) → i < n → w * i + w ≤ length cells
@@ -65,6 +69,20 @@ module _ (w n : ℕ) (cells : List ℕ) (g : Points w n cells) (i j : ℕ) (p : 
       by_cases (eqb w texel_width)
       (λ e. sym (f (eqb-true w texel_width e)))
       (λ e. sym (h (three w (eqb-false w texel_width e) g.least g.most)))
+
+  -- where the code knows the first two tests together
+  module _ (v : Bool) (e : v ≡ (first && second)) where
+    grouped : (x : Bool) → (first && (second && x)) ≡ (v && x)
+    grouped x = regroup first second x ∙ ap (λ (b : Bool). b && x) (sym e)
+
+    pub apart : v ≡ false → v ≡ beside_at w cells i j
+    apart h = h ∙ either false (λ k. at_two k ∙ grouped true ∙ rw h) (λ k. at_three k ∙ grouped (third && true) ∙ rw h)
+
+    pub on_two : v ≡ true → w ≡ texel_width → eqb w texel_width ≡ beside_at w cells i j
+    on_two h k = eq-eqb w texel_width k ∙ sym (at_two k ∙ grouped true ∙ rw h)
+
+    pub on_three : v ≡ true → (w ≡ texel_width → ⊥) → third ≡ beside_at w cells i j
+    on_three h k = sym (at_three (three w k g.least g.most) ∙ grouped (third && true) ∙ rw h (and-true third))
 
   pub apart_first : first ≡ false → false ≡ beside_at w cells i j
   apart_first e = either false (λ k. at_two k ∙ rw e) (λ k. at_three k ∙ rw e)

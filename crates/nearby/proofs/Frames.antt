@@ -4,7 +4,7 @@
 use mathlib.Core.Path.{◌≡◌, refl, sym, ap, ◌∙◌}
 use mathlib.Core.Logic.{◌≢◌}
 use mathlib.Core.Bool.{Bool, true, false}
-use mathlib.Core.List.{List, [], ◌∷◌, ◌++◌}
+use mathlib.Core.List.{List, [], ◌∷◌, ◌++◌, map}
 use Prim.Native.Nat.{ℕ, zero, suc, ◌+◌, ◌*◌, ◌-◌, ◌≤◌, ◌<◌}
 use native.Mathlib.Omega.{arith}
 use lib.ListN.{length, get_or, set, take}
@@ -12,8 +12,15 @@ use lib.Seq.{get_or-set_other}
 use Rattle.lists.specs.Lists.{has}
 use Rattle.nearby.specs.Walk.{descending, Walk, at, walk, often, group_from}
 use Rattle.nearby.specs.Engine.{Taken}
+use Rattle.nearby.specs.declared.Frame.{Frame}
 use Rattle.nearby.proofs.Counting.{count_le}
 use Rattle.nearby.proofs.Turns.{walk_ends}
+
+abbrev pub nodes_of : List Frame → List ℕ
+nodes_of fs = map (λ (f : Frame). f.node) fs
+
+abbrev pub lefts_of : List Frame → List ℕ
+lefts_of fs = map (λ (f : Frame). f.left) fs
 
 -- the stack that the frames stand for, and how many points they still hold, each frame counting for one more
 unfoldable pub stack_of : (ℕ → ℕ → Bool) → List ℕ → List ℕ → ℕ → List ℕ

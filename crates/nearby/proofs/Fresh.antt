@@ -42,6 +42,23 @@ module _ (t : Float) (w : ℕ) (s : List Float) (cells : List ℕ) (seen : List 
   unfolding fresh near_by
   by_distance e f p q d a b c = rw (e, f) (ap (λ (x : Float). lt x (mul binary64 t t)) (c ∙ ap (λ (l : List Float). squared l (leading w q)) a ∙ ap (squared (row w s i)) b) ∙ sym (and-true close))
 
+  -- where the code knows the first two tests together
+  module _ (v : Bool) (e : v ≡ (beside_at w cells i j && not (get_or seen j false))) where
+    pub not_fresh : v ≡ false → v ≡ fresh (near_by t w s cells) seen i j
+    not_fresh h =
+        h
+        ∙ by_cases (beside_at w cells i j)
+        (λ b. not_new (not-false (get_or seen j false) (rw b at (sym e ∙ h))))
+        not_beside
+
+    pub fresh_by :
+        v ≡ true → (p q : Point) (d : Float) → leading w p ≡ row w s i → leading w q ≡ row w s j → d ≡ squared (leading w p) (leading w q)
+        → lt d (mul binary64 t t) ≡ fresh (near_by t w s cells) seen i j
+    fresh_by h =
+        by_distance
+        (and_left (beside_at w cells i j) (not (get_or seen j false)) (sym e ∙ h))
+        (not-true (get_or seen j false) (and_right (beside_at w cells i j) (not (get_or seen j false)) (sym e ∙ h)))
+
 -- what being fresh, or not, says of its two parts
 module _ (r : ℕ → ℕ → Bool) (seen : List Bool) (i j : ℕ) where
   pub fresh_near : fresh r seen i j ≡ true → r i j ≡ true

@@ -18,7 +18,7 @@ use Rattle.nearby.proofs.Flags.{room, taken_none}
 use Rattle.nearby.proofs.Laying.{old_group, count_full, laid_none}
 
 pub record Gathering
-    (r : ℕ → ℕ → Bool) (n : ℕ) (order₀ ends₀ order ends : List ℕ) (seen : List Bool) (node left : List ℕ) (taken found i : ℕ) : Type 0 where
+    (r : ℕ → ℕ → Bool) (n : ℕ) (order ends : List ℕ) (seen : List Bool) (taken found i : ℕ) : Type 0 where
   pub upto : i ≤ n
   pub held : Taken n order seen taken
   pub lowest : (k : ℕ) → k < i → get_or seen k false ≡ true
@@ -29,11 +29,6 @@ pub record Gathering
   pub rising : (k : ℕ) → k < found → start_of ends k < get_or ends k 0
   pub within : (k : ℕ) → k < found → get_or ends k 0 ≤ taken
   pub apart : (k j : ℕ) → k < found → has j (joined (laid_out order ends k)) ≡ true → has j (group_at order ends k) ≡ false
-  pub order_long : length order ≡ length order₀
-  pub ends_long : length ends ≡ length ends₀
-  pub seen_long : length seen ≡ entry_limit
-  pub node_long : length node ≡ entry_limit
-  pub left_long : length left ≡ entry_limit
 
 nothing_below : {A : Type 0} (k : ℕ) → k < 0 → A
 nothing_below k l = absurd (let z : suc k ≤ 0 = l in omega arith)
@@ -42,7 +37,7 @@ pub gather_begins :
     (r : ℕ → ℕ → Bool) (n : ℕ) (order ends : List ℕ)
     → n ≤ entry_limit
     → n ≤ length order
-    → Gathering r n order ends order ends (replicate entry_limit false) (replicate entry_limit 0) (replicate entry_limit 0) 0 0 0
+    → Gathering r n order ends (replicate entry_limit false) 0 0 0
 unfolding groups_below
 gather_begins r n order ends h l = record {
   upto = omega arith;
@@ -55,16 +50,11 @@ gather_begins r n order ends h l = record {
   rising = λ k z. nothing_below k z;
   within = λ k z. nothing_below k z;
   apart = λ k j z. nothing_below k z;
-  order_long = refl;
-  ends_long = refl;
-  seen_long = length-replicate {A = Bool} entry_limit false;
-  node_long = length-replicate {A = ℕ} entry_limit 0;
-  left_long = length-replicate {A = ℕ} entry_limit 0;
 }
 
 module _
-    {r : ℕ → ℕ → Bool} {n : ℕ} {order₀ ends₀ order ends : List ℕ} {seen : List Bool} {node left : List ℕ} {taken found i : ℕ}
-    (g : Gathering r n order₀ ends₀ order ends seen node left taken found i) where
+    {r : ℕ → ℕ → Bool} {n : ℕ} {order ends : List ℕ} {seen : List Bool} {taken found i : ℕ}
+    (g : Gathering r n order ends seen taken found i) where
   abbrev gs : List (List ℕ)
   gs = groups_below r n i
 
@@ -72,7 +62,7 @@ module _
   has_flag k l = g.held.flags k l ∙ ap (has k) g.list
 
   -- point i has its group already
-  pub gather_old : i < n → get_or seen i false ≡ true → Gathering r n order₀ ends₀ order ends seen node left taken found (i + 1)
+  pub gather_old : i < n → get_or seen i false ≡ true → Gathering r n order ends seen taken found (i + 1)
   gather_old l e =
       let same : groups_below r n (i + 1) ≡ gs = old_group r n i (sym (has_flag i l) ∙ e) in
       record {
@@ -89,11 +79,6 @@ module _
         rising = g.rising;
         within = g.within;
         apart = g.apart;
-        order_long = g.order_long;
-        ends_long = g.ends_long;
-        seen_long = g.seen_long;
-        node_long = g.node_long;
-        left_long = g.left_long;
       }
 
   -- there is room for one group more

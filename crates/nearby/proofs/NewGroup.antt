@@ -20,8 +20,8 @@ use Rattle.nearby.proofs.Laying.{new_group, laid_more, laid_same}
 use Rattle.nearby.proofs.Gathering.{Gathering, has_flag}
 
 module _
-    {r : ℕ → ℕ → Bool} {n : ℕ} {order₀ ends₀ order ends : List ℕ} {seen : List Bool} {node left : List ℕ} {taken found i : ℕ}
-    (g : Gathering r n order₀ ends₀ order ends seen node left taken found i)
+    {r : ℕ → ℕ → Bool} {n : ℕ} {order ends : List ℕ} {seen : List Bool} {taken found i : ℕ}
+    (g : Gathering r n order ends seen taken found i)
     (l : i < n) (new : get_or seen i false ≡ false) (space : found < length ends)
     {order' : List ℕ} {seen' : List Bool} {end : ℕ} (v : Walked r n order i taken order' seen' end) where
   abbrev gs : List (List ℕ)
@@ -139,14 +139,8 @@ module _
       let m : k < found = (let z : k < found + 1 = h in omega arith) in
       omega (arith, further, end_other k m, g.within k m))
 
-  pub gather_new :
-      {node' left' : List ℕ}
-      → length order' ≡ length order
-      → length seen' ≡ length seen
-      → length node' ≡ length node
-      → length left' ≡ length left
-      → Gathering r n order₀ ends₀ order' (set ends found end) seen' node' left' end (found + 1) (i + 1)
-  gather_new a b c d = record {
+  pub gather_new : Gathering r n order' (set ends found end) seen' end (found + 1) (i + 1)
+  gather_new = record {
     upto = omega arith;
     held = v.taken;
     lowest = λ k h. v.lowest k (let z : k < i + 1 = h in omega arith);
@@ -161,9 +155,4 @@ module _
     rising = rising_more;
     within = within_more;
     apart = apart_more;
-    order_long = a ∙ g.order_long;
-    ends_long = length-set ends found end ∙ g.ends_long;
-    seen_long = b ∙ g.seen_long;
-    node_long = c ∙ g.node_long;
-    left_long = d ∙ g.left_long;
   }

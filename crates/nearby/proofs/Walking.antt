@@ -1,92 +1,115 @@
--- The turns of the walk where 'near and not taken' is what the code tests. Assumes nothing.
-use mathlib.Core.Path.{◌≡◌, refl, ◌∙◌}
+-- The turns of the walk as the code has them: its frames are one list, and 'near and not taken' is what is asked. Assumes nothing.
+use mathlib.Core.Path.{◌≡◌, refl, ap, ◌∙◌}
 use mathlib.Core.Bool.{Bool, true, false}
-use mathlib.Core.List.{List}
+use mathlib.Core.List.{List, map}
 use Prim.Native.Nat.{ℕ, ◌+◌, ◌-◌, ◌≤◌, ◌<◌}
 use native.Mathlib.Omega.{arith}
-use lib.ListN.{length, get_or, set, length-set}
+use lib.ListN.{length, get_or, set, take, length-map, get_or-map}
+use lib.Seq.{map-set_same}
+use Rattle.std.proofs.lemmas.List.{map-set}
 use Rattle.mesh.specs.Limits.{entry_limit}
 use Rattle.nearby.specs.Engine.{fresh, Next}
+use Rattle.nearby.specs.Frames.{Starts}
+use Rattle.nearby.specs.declared.Frame.{Frame}
+use Rattle.nearby.proofs.Flags.{room}
 use Rattle.nearby.proofs.Fresh.{fresh_near, fresh_new, fresh_not}
-use Rattle.nearby.proofs.Frames.{Good, work}
-use Rattle.nearby.proofs.Depth.{frame_goes, frame_goes_less, next_small, room_left, depth_under, frame_comes, frame_comes_less}
+use Rattle.nearby.proofs.Frames.{Good, work, nodes_of, lefts_of}
+use Rattle.nearby.proofs.FirstFrame.{started}
+use Rattle.nearby.proofs.Depth.{depth_in, node_in, left_in, frame_goes, frame_goes_less, next_small, room_left, depth_under, frame_comes, frame_comes_less}
 
--- what is in range where a frame comes: the new point, its place in the order and its frame; and the room of the lists
-pub record Inside (n taken depth next : ℕ) (order : List ℕ) (seen : List Bool) (node left : List ℕ) : Type 0 where
-  pub point : next - 1 < n
-  pub place : taken < n
-  pub frame : depth < n
-  pub few : n ≤ entry_limit
-  pub order_room : n ≤ length order
-  pub seen_room : n ≤ length seen
-  pub node_room : n ≤ length node
-  pub left_room : n ≤ length left
+abbrev frame : ℕ → ℕ → Frame
+frame i l = record { node = i; left = l }
+
+-- ---- the first frame
 
 module _
-    {r : ℕ → ℕ → Bool} {n : ℕ} {before : List ℕ} {start : ℕ} {order : List ℕ} {seen : List Bool} {node left : List ℕ} {taken depth next : ℕ}
-    (g : Good r n before start order seen node left taken depth) (some : 0 < depth)
-    (q : Next (fresh r seen (get_or node (depth - 1) 0)) start (get_or left (depth - 1) 0) next) where
-  abbrev i : ℕ
-  i = get_or node (depth - 1) 0
+    {n : ℕ} {order : List ℕ} {seen : List Bool} {frames : List Frame} {start done : ℕ} (s : Starts n order seen frames start done) where
+  pub first_in : done < n
+  first_in = room n order seen done start s.taken s.inside s.new
 
-  old : (k : ℕ) → fresh r seen i k ≡ false → r i k ≡ true → get_or seen k false ≡ true
-  old k = fresh_not r seen i k
+  pub begins : (r : ℕ → ℕ → Bool) → Good r n (take done order) start (set order done start) (set seen start true) (nodes_of (set frames 0 (frame start n))) (lefts_of (set frames 0 (frame start n))) (done + 1) 1
+  begins r =
+      rw (map-set (λ (f : Frame). f.node) frames 0 (frame start n), map-set (λ (f : Frame). f.left) frames 0 (frame start n))
+      (started r n order seen (nodes_of frames) (lefts_of frames) done start s.taken
+      (omega (arith, s.frame_room, length-map frames (λ (f : Frame). f.node)))
+      (omega (arith, s.frame_room, length-map frames (λ (f : Frame). f.left))) s.inside s.new s.lowest)
 
-  pub goes : next ≡ 0 → Good r n before start order seen node left taken (depth - 1)
-  goes = frame_goes g some (fresh r seen i) next q old
+-- ---- a turn at the top frame
 
-  pub goes_less : work n left taken (depth - 1) < work n left taken depth
-  goes_less = frame_goes_less g some (fresh r seen i) next q old
+abbrev top : List Frame → ℕ → Frame
+top frames depth = get_or frames (depth - 1) (frame 0 0)
 
-  module _ (found : next ≡ 0 → ⊥) where
-    here : fresh r seen i (next - 1) ≡ true
-    here = (q.here (omega (arith, found))).2
+-- the frames with that of j on top
+abbrev more : List Frame → ℕ → ℕ → ℕ → List Frame
+more frames depth j n = set (set frames (depth - 1) (frame (top frames depth).node j)) depth (frame j n)
 
-    close : r i (next - 1) ≡ true
-    close = fresh_near r seen i (next - 1) here
+module _
+    (frames : List Frame) {r : ℕ → ℕ → Bool} {n : ℕ} {before : List ℕ} {start : ℕ} {order : List ℕ} {seen : List Bool} {taken depth : ℕ}
+    (g : Good r n before start order seen (nodes_of frames) (lefts_of frames) taken depth) (some : 0 < depth) where
+  top_node : get_or (nodes_of frames) (depth - 1) 0 ≡ (top frames depth).node
+  top_node = get_or-map (λ (f : Frame). f.node) frames (depth - 1) (frame 0 0)
 
-    new : get_or seen (next - 1) false ≡ false
-    new = fresh_new r seen i (next - 1) here
+  top_left : get_or (lefts_of frames) (depth - 1) 0 ≡ (top frames depth).left
+  top_left = get_or-map (λ (f : Frame). f.left) frames (depth - 1) (frame 0 0)
 
-    pub comes_inside : n ≤ entry_limit → Inside n taken depth next order seen node left
-    comes_inside few = record {
-      point = next_small g some (fresh r seen i) next q old found close new;
-      place = room_left g some (fresh r seen i) next q old found close new;
-      frame = depth_under g some (fresh r seen i) next q old found close new;
-      few = few;
-      order_room = g.held.order_room;
-      seen_room = g.held.seen_room;
-      node_room = g.node_room;
-      left_room = g.left_room;
-    }
+  -- it stands in the list
+  pub top_in : (depth ≤ n) × (depth - 1 < length frames)
+  top_in = let a = depth_in g some in (a, omega (arith, g.node_room, length-map frames (λ (f : Frame). f.node)))
 
-    pub comes :
-        Good r n before start (set order taken (next - 1)) (set seen (next - 1) true) (set node depth (next - 1))
-        (set (set left (depth - 1) (next - 1)) depth n) (taken + 1) (depth + 1)
-    comes = frame_comes g some (fresh r seen i) next q old found close new
+  -- what may be asked for it
+  pub asks : ((top frames depth).node < n) × ((top frames depth).left ≤ n) × (n ≤ length seen)
+  asks = (rw top_node at (node_in g some), rw top_left at (left_in g some), g.held.seen_room)
 
-    pub comes_less : work n (set (set left (depth - 1) (next - 1)) depth n) (taken + 1) (depth + 1) < work n left taken depth
-    comes_less = frame_comes_less g some (fresh r seen i) next q old found close new
+  module _ {next : ℕ} (q : Next (fresh r seen (top frames depth).node) start (top frames depth).left next) where
+    q' : Next (fresh r seen (get_or (nodes_of frames) (depth - 1) 0)) start (get_or (lefts_of frames) (depth - 1) 0) next
+    q' = rw (top_node, top_left) q
 
--- ---- lengths do not change
+    old : (k : ℕ) → fresh r seen (get_or (nodes_of frames) (depth - 1) 0) k ≡ false → r (get_or (nodes_of frames) (depth - 1) 0) k ≡ true → get_or seen k false ≡ true
+    old k = fresh_not r seen (get_or (nodes_of frames) (depth - 1) 0) k
 
-pub record Long (order₀ : List ℕ) (seen₀ : List Bool) (node₀ left₀ order : List ℕ) (seen : List Bool) (node left : List ℕ) : Type 0 where
-  pub order_long : length order ≡ length order₀
-  pub seen_long : length seen ≡ length seen₀
-  pub node_long : length node ≡ length node₀
-  pub left_long : length left ≡ length left₀
+    pub goes : next ≡ 0 → Good r n before start order seen (nodes_of frames) (lefts_of frames) taken (depth - 1)
+    goes = frame_goes g some (fresh r seen (get_or (nodes_of frames) (depth - 1) 0)) next q' old
 
-module _ (order₀ : List ℕ) (seen₀ : List Bool) (node₀ left₀ : List ℕ) where
-  pub long_begins : Long order₀ seen₀ node₀ left₀ order₀ seen₀ node₀ left₀
-  long_begins = record { order_long = refl; seen_long = refl; node_long = refl; left_long = refl }
+    pub goes_less : work n (lefts_of frames) taken (depth - 1) < work n (lefts_of frames) taken depth
+    goes_less = frame_goes_less g some (fresh r seen (get_or (nodes_of frames) (depth - 1) 0)) next q' old
 
-  pub long_turns :
-      (order : List ℕ) (seen : List Bool) (node left : List ℕ) (taken j top depth n : ℕ)
-      → Long order₀ seen₀ node₀ left₀ order seen node left
-      → Long order₀ seen₀ node₀ left₀ (set order taken j) (set seen j true) (set node depth j) (set (set left top j) depth n)
-  long_turns order seen node left taken j top depth n g = record {
-    order_long = length-set order taken j ∙ g.order_long;
-    seen_long = length-set seen j true ∙ g.seen_long;
-    node_long = length-set node depth j ∙ g.node_long;
-    left_long = length-set (set left top j) depth n ∙ length-set left top j ∙ g.left_long;
-  }
+  module _ (j : ℕ) (q : Next (fresh r seen (top frames depth).node) start (top frames depth).left (j + 1)) where
+    some_next : j + 1 ≡ 0 → ⊥
+    some_next e = omega arith
+
+    here : fresh r seen (get_or (nodes_of frames) (depth - 1) 0) (j + 1 - 1) ≡ true
+    here = ((q' q).here (omega arith)).2
+
+    close : r (get_or (nodes_of frames) (depth - 1) 0) (j + 1 - 1) ≡ true
+    close = fresh_near r seen (get_or (nodes_of frames) (depth - 1) 0) (j + 1 - 1) here
+
+    new : get_or seen (j + 1 - 1) false ≡ false
+    new = fresh_new r seen (get_or (nodes_of frames) (depth - 1) 0) (j + 1 - 1) here
+
+    back : j + 1 - 1 ≡ j
+    back = omega arith
+
+    pub point_in : j < n
+    point_in = rw back at (next_small g some (fresh r seen (get_or (nodes_of frames) (depth - 1) 0)) (j + 1) (q' q) (old q) some_next close new)
+
+    pub place_in : taken < n
+    place_in = room_left g some (fresh r seen (get_or (nodes_of frames) (depth - 1) 0)) (j + 1) (q' q) (old q) some_next close new
+
+    pub frame_in : depth < length frames
+    frame_in = omega (arith, depth_under g some (fresh r seen (get_or (nodes_of frames) (depth - 1) 0)) (j + 1) (q' q) (old q) some_next close new, g.node_room, length-map frames (λ (f : Frame). f.node))
+
+    nodes_more : nodes_of (more frames depth j n) ≡ set (nodes_of frames) depth j
+    nodes_more =
+        map-set (λ (f : Frame). f.node) (set frames (depth - 1) (frame (top frames depth).node j)) depth (frame j n)
+        ∙ ap (λ (l : List ℕ). set l depth j) (map-set_same (λ (f : Frame). f.node) frames (depth - 1) (frame (top frames depth).node j) (frame 0 0) refl)
+
+    lefts_more : lefts_of (more frames depth j n) ≡ set (set (lefts_of frames) (depth - 1) j) depth n
+    lefts_more =
+        map-set (λ (f : Frame). f.left) (set frames (depth - 1) (frame (top frames depth).node j)) depth (frame j n)
+        ∙ ap (λ (l : List ℕ). set l depth n) (map-set (λ (f : Frame). f.left) frames (depth - 1) (frame (top frames depth).node j))
+
+    pub comes : Good r n before start (set order taken j) (set seen j true) (nodes_of (more frames depth j n)) (lefts_of (more frames depth j n)) (taken + 1) (depth + 1)
+    comes = rw (nodes_more, lefts_more) (rw back at (frame_comes g some (fresh r seen (get_or (nodes_of frames) (depth - 1) 0)) (j + 1) (q' q) (old q) some_next close new))
+
+    pub comes_less : work n (lefts_of (more frames depth j n)) (taken + 1) (depth + 1) < work n (lefts_of frames) taken depth
+    comes_less = rw lefts_more (rw back at (frame_comes_less g some (fresh r seen (get_or (nodes_of frames) (depth - 1) 0)) (j + 1) (q' q) (old q) some_next close new))

@@ -1,6 +1,6 @@
 -- What the code works on: the cells of a flat list, each as its place among the numbers from 0, and the tests on them. That these
 -- are the rules' own tests is in proofs/Agree.antt. Assumes nothing.
-use Rattle.std.specs.Prelude.{Bool, true, false, not, ◌&&◌, List, [], ◌∷◌, map, ◌++◌, ◌≡◌, ℕ, zero, suc, ◌*◌, ◌-◌, ◌≤◌, ◌<◌, length, get_or, take, Float}
+use Rattle.std.specs.Prelude.{Bool, true, false, not, ◌&&◌, List, [], ◌∷◌, map, ◌++◌, ◌≡◌, ℕ, zero, suc, ◌+◌, ◌*◌, ◌-◌, ◌≤◌, ◌<◌, length, get_or, take, Float, Option, Some, None}
 use Rattle.std.proofs.Math.Seq.{slice}
 use Rattle.lists.specs.Lists.{has, joined}
 use Rattle.lists.specs.Numbers.{count_below}
@@ -52,19 +52,14 @@ pub record Next (p : ℕ → Bool) (low from r : ℕ) : Type 0 where
   pub after : (k : ℕ) → low ≤ k → r ≤ k → k < from → p k ≡ false
   pub here : 0 < r → (low < r) × (r ≤ from) × (p (r - 1) ≡ true)
 
+-- a point as one more than its number; 0 of none
+abbrev pub behind : Option ℕ → ℕ
+behind None = 0
+behind (Some k) = k + 1
+
 -- whether j is near i, by r, and not taken
 unfoldable pub fresh : (ℕ → ℕ → Bool) → List Bool → ℕ → ℕ → Bool
 fresh r seen i j = r i j && not (get_or seen j false)
-
--- what walking a group from `start` asks: it is the lowest point left
-pub record Starts (w n : ℕ) (s : List Float) (cells order : List ℕ) (seen : List Bool) (node left : List ℕ) (start done : ℕ) : Type 0 where
-  pub listed : Listed w n s cells
-  pub taken : Taken n order seen done
-  pub node_room : n ≤ length node
-  pub left_room : n ≤ length left
-  pub inside : start < n
-  pub new : get_or seen start false ≡ false
-  pub lowest : (k : ℕ) → k < start → get_or seen k false ≡ true
 
 -- what it leaves: `end` points are taken, those of the group behind those that were, and all up to `start`
 pub record Walked (r : ℕ → ℕ → Bool) (n : ℕ) (order : List ℕ) (start done : ℕ) (order' : List ℕ) (seen' : List Bool) (end : ℕ) : Type 0 where

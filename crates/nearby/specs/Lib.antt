@@ -4,3 +4,4 @@ pub mod Walk
 pub mod Promises
 -- steps of the code: what it works on, which only merging needs
 pub mod Engine
+pub mod Frames

@@ -11,8 +11,10 @@ ghost use Rattle.lists.specs.Lists.{some};
 ghost use Rattle.lists.specs.Numbers.{count_below};
 ghost use Rattle.floating.specs.Limits.{distant};
 ghost use Rattle.floating.specs.Cells.{beside};
+ghost use Rattle.mesh.specs.Limits.{entry_limit};
 ghost use Rattle.nearby.specs.Pairs.{pairs};
-ghost use Rattle.nearby.specs.Engine.{cells_of, beside_at, near_by, fresh, Small, Points, Listed, Next, Starts, Walked, Roomy, Components};
+ghost use Rattle.nearby.specs.Engine.{cells_of, beside_at, near_by, fresh, Small, behind, Points, Listed, Next, Walked, Roomy, Components};
+ghost use Rattle.nearby.specs.Frames.{Starts};
 
 // Points are compared whose cells differ by at most this, on every axis.
 const REACH: u64 = 2;
@@ -24,24 +26,16 @@ pub fn fill_cells(s: &[f64], t: f64, cells: &mut [u64])
     requires { (some (distant t) s.now ≡ false) × (length s.now ≤ length cells.old) }
     ensures { cells.new ≡ sets cells.old 0 (cells_of t s.now) }
 {
-    let mut k: usize = 0;
-    while k < s.len() {
-        cells[k] = floating::cell_of(s[k] / t);
-        k += 1;
+    for (k, x) in s.iter().enumerate() {
+        cells[k] = floating::cell_of(*x / t);
     }
 }
 
-// The cells at places a and b differ by at most 2.
-fn is_beside(cells: &[u64], a: usize, b: usize) -> bool
-    requires { (Small cells.now) × (a < length cells.now) × (b < length cells.now) }
-    ensures { result ≡ beside (get_or cells.now a 0) (get_or cells.now b 0) }
+// Two cells differ by at most 2.
+fn is_beside(x: u64, y: u64) -> bool
+    ensures { result ≡ beside x y }
 {
-    let x = cells[a];
-    let y = cells[b];
-    if x <= y + REACH {
-        return y <= x + REACH;
-    }
-    false
+    x.abs_diff(y) <= REACH
 }
 
 // The cells of points i and j differ by at most 2 on every axis.
@@ -51,16 +45,9 @@ fn is_beside_at(cells: &[u64], w: usize, n: usize, i: usize, j: usize) -> bool
 {
     let a = w * i;
     let b = w * j;
-    if !is_beside(cells, a, b) {
-        return false;
-    }
-    if !is_beside(cells, a + 1, b + 1) {
-        return false;
-    }
-    if w == mesh::TEXEL_WIDTH {
-        return true;
-    }
-    is_beside(cells, a + 2, b + 2)
+    is_beside(cells[a], cells[b])
+        && is_beside(cells[a + 1], cells[b + 1])
+        && (w == mesh::TEXEL_WIDTH || is_beside(cells[a + 2], cells[b + 2]))
 }
 
 // ---- pairs
@@ -70,13 +57,11 @@ fn count_with(cells: &[u64], w: usize, n: usize, j: usize) -> usize
     requires { (Points w n cells.now) × (j < n) }
     ensures { (result ≡ count_below (λ i. beside_at w cells.now i j) j) × (result ≤ j) }
 {
-    let mut found: usize = 0;
-    let mut i: usize = 0;
-    while i < j {
+    let mut found = 0;
+    for i in 0..j {
         if is_beside_at(cells, w, n, i, j) {
             found += 1;
         }
-        i += 1;
     }
     found
 }
@@ -86,63 +71,84 @@ pub fn count_pairs(cells: &[u64], w: usize, n: usize) -> usize
     requires { Points w n cells.now }
     ensures { result ≡ pairs (beside_at w cells.now) n }
 {
-    let mut found: usize = 0;
-    let mut j: usize = 0;
-    while j < n {
+    let mut found = 0;
+    for j in 0..n {
         found += count_with(cells, w, n, j);
-        j += 1;
     }
     found
 }
 
-// ---- the walk of a group
+// ---- which points are near
 
-// Point j is near point i, and not taken.
-fn is_fresh(
-    s: &[f64],
-    w: usize,
-    t: f64,
-    cells: &[u64],
-    n: usize,
-    seen: &[bool],
-    i: usize,
-    j: usize,
-) -> bool
-    requires { (Listed w n s.now cells.now) × (i < n) × (j < n) × (n ≤ length seen.now) }
-    ensures { result ≡ fresh (near_by t w s.now cells.now) seen.now i j }
-{
-    if !is_beside_at(cells, w, n, i, j) {
-        return false;
-    }
-    if seen[j] {
-        return false;
-    }
-    floating::distance2(w, floating::attr_at(s, w, i), floating::attr_at(s, w, j)) < t * t
+// Points, of which each is asked which are near it.
+pub trait Neighbours {
+    ghost count: { Self → ℕ };
+
+    ghost near: { Self → ℕ → ℕ → Bool };
+
+    // How many points there are.
+    fn count(&self) -> usize
+        ensures { result ≡ count self.now };
+
+    // The highest point below `from` that is near i and not taken; None where none from `low` on is.
+    fn next(&self, seen: &[bool], i: usize, low: usize, from: usize) -> Option<usize>
+        requires { (i < count self.now) × (from ≤ count self.now) × (count self.now ≤ length seen.now) }
+        ensures { Next (fresh (near self.now) seen.now i) low from (behind result) };
 }
 
-// The highest point below `from` that is near i and not taken, as one more than its number; 0 where none from `low` on is.
-fn next_near(
-    s: &[f64],
+// The points of one list, with their cells: those near one are found by looking at all.
+#[derive(Clone, Copy)]
+struct Each<'a> {
+    s: &'a [f64],
     w: usize,
     t: f64,
-    cells: &[u64],
+    cells: &'a [u64],
     n: usize,
-    seen: &[bool],
-    i: usize,
-    low: usize,
-    from: usize,
-) -> usize
-    requires { (Listed w n s.now cells.now) × (i < n) × (from ≤ n) × (n ≤ length seen.now) }
-    ensures { Next (fresh (near_by t w s.now cells.now) seen.now i) low from result }
-{
-    let mut k = from;
-    while low < k {
-        if is_fresh(s, w, t, cells, n, seen, i, k - 1) {
-            return k;
-        }
-        k -= 1;
+    ghost listed: { Listed w n s.now cells.now },
+}
+
+impl Each<'_> {
+    // Point j is near point i, and not taken.
+    fn is_fresh(&self, seen: &[bool], i: usize, j: usize) -> bool
+        requires { (i < self.now.n) × (j < self.now.n) × (self.now.n ≤ length seen.now) }
+        ensures { result ≡ fresh (near_by self.now.t self.now.w self.now.s.now self.now.cells.now) seen.now i j }
+    {
+        is_beside_at(self.cells, self.w, self.n, i, j)
+            && !seen[j]
+            && floating::distance2(
+                self.w,
+                floating::attr_at(self.s, self.w, i),
+                floating::attr_at(self.s, self.w, j),
+            ) < self.t * self.t
     }
-    0
+}
+
+impl Neighbours for Each<'_> {
+    ghost count = { λ p. p.n };
+
+    ghost near = { λ p. near_by p.t p.w p.s.now p.cells.now };
+
+    fn count(&self) -> usize {
+        self.n
+    }
+
+    fn next(&self, seen: &[bool], i: usize, low: usize, from: usize) -> Option<usize> {
+        for j in (low..from).rev() {
+            if self.is_fresh(seen, i, j) {
+                return Some(j);
+            }
+        }
+        None
+    }
+}
+
+// ---- the walk of a group
+
+// A point that is walked from, and how many of the points, from the highest down, are still to be looked at for it.
+#[derive(Clone, Copy)]
+struct Frame {
+    node: usize,
+    left: usize,
 }
 
 // The group of `start`, the lowest point left, is walked: its points go to `order` behind the `done` that are there, in walk order,
@@ -150,49 +156,70 @@ fn next_near(
 //
 // The document's stack can hold far more entries than there are points. Here it is kept as frames: a point, and how many of its
 // near points, from the highest down, are still to be popped. Each frame's point is taken once, so there is room for all.
-fn create_component(
-    s: &[f64],
-    w: usize,
-    t: f64,
-    cells: &[u64],
-    n: usize,
+fn create_component<N: Neighbours>(
+    points: &N,
     start: usize,
     done: usize,
     order: &mut [usize],
     seen: &mut [bool],
-    node: &mut [usize],
-    left: &mut [usize],
+    frames: &mut [Frame],
 ) -> usize
-    requires { Starts w n s.now cells.now order.old seen.old node.old left.old start done }
-    ensures { Walked (near_by t w s.now cells.now) n order.old start done order.new seen.new result }
+    requires { Starts (N.count points.now) order.old seen.old frames.old start done }
+    ensures { Walked (N.near points.now) (N.count points.now) order.old start done order.new seen.new result }
 {
+    let n = points.count();
     order[done] = start;
     seen[start] = true;
-    node[0] = start;
-    left[0] = n;
+    frames[0] = Frame {
+        node: start,
+        left: n,
+    };
     let mut taken = done + 1;
-    let mut depth: usize = 1;
+    let mut depth = 1;
     while 0 < depth {
-        let top = depth - 1;
-        let next = next_near(s, w, t, cells, n, seen, node[top], start, left[top]);
-        if next == 0 {
-            depth = top;
-        } else {
-            let j = next - 1;
-            left[top] = j;
-            order[taken] = j;
-            seen[j] = true;
-            node[depth] = j;
-            left[depth] = n;
-            taken += 1;
-            depth += 1;
+        let top = &frames[depth - 1];
+        match points.next(seen, top.node, start, top.left) {
+            None => depth -= 1,
+            Some(j) => {
+                frames[depth - 1].left = j;
+                order[taken] = j;
+                seen[j] = true;
+                frames[depth] = Frame {
+                    node: j,
+                    left: n,
+                };
+                taken += 1;
+                depth += 1;
+            }
         }
     }
     taken
 }
 
-// All groups of n points, each walked from its lowest index: their points go to `order`, one group after the other, and the place
+// All groups of some points, each walked from its lowest index: their points go to `order`, one group after the other, and the place
 // behind each group's last point to `ends`. Answers how many groups there are.
+pub fn walk<N: Neighbours>(points: &N, order: &mut [usize], ends: &mut [usize]) -> usize
+    requires { (N.count points.now ≤ entry_limit) × (Roomy (N.count points.now) order.old ends.old) }
+    ensures { Components (N.near points.now) (N.count points.now) order.new ends.new result }
+{
+    let mut seen = [false; mesh::ENTRIES];
+    let mut frames = [Frame {
+        node: 0,
+        left: 0,
+    }; mesh::ENTRIES];
+    let mut taken = 0;
+    let mut count = 0;
+    for k in 0..points.count() {
+        if !seen[k] {
+            taken = create_component(points, k, taken, order, &mut seen, &mut frames);
+            ends[count] = taken;
+            count += 1;
+        }
+    }
+    count
+}
+
+// The same of the n points of a list.
 pub fn create_components(
     s: &[f64],
     w: usize,
@@ -205,23 +232,12 @@ pub fn create_components(
     requires { (Listed w n s.now cells.now) × (Roomy n order.old ends.old) }
     ensures { Components (near_by t w s.now cells.now) n order.new ends.new result }
 {
-    let mut seen = [false; mesh::ENTRIES];
-    let mut node = [0usize; mesh::ENTRIES];
-    let mut left = [0usize; mesh::ENTRIES];
-    let mut taken: usize = 0;
-    let mut count: usize = 0;
-    let mut k: usize = 0;
-    while k < n {
-        if seen[k] {
-            k += 1;
-        } else {
-            taken = create_component(
-                s, w, t, cells, n, k, taken, order, &mut seen, &mut node, &mut left,
-            );
-            ends[count] = taken;
-            count += 1;
-            k += 1;
-        }
-    }
-    count
+    let points = Each {
+        s,
+        w,
+        t,
+        cells,
+        n,
+    };
+    walk(&points, order, ends)
 }
