@@ -2,7 +2,7 @@
 // out of reach is passed over many at a time: a slab, a row or a run, and what is left of them where the axis only rises from there on.
 #![tactic(auto)]
 
-ghost use Rattle.std.specs.Prelude.{◌≡◌, ℕ, ◌+◌, ◌≤◌, ◌<◌, get_or, drop};
+ghost use Rattle.std.specs.Prelude.{◌≡◌, ◌+◌, ◌≤◌, ◌<◌, get_or, drop};
 ghost use Rattle.lists.specs.Lists.{count};
 ghost use Rattle.nearby.specs.Pairs.{pairs};
 ghost use Rattle.nearby.specs.Engine.{beside_at};
@@ -79,7 +79,7 @@ fn count_behind(
     ensures { (result ≡ count (beside_at w cells.now (get_or order.now p 0)) (drop (p + 1) order.now)) × (result ≤ n) }
 {
     let i = entry(order, p);
-    let mut found: usize = 0;
+    let mut found = 0;
     let mut q = p + 1;
     while q < n {
         let r = skip(cells, w, n, order, slabs, rows, runs, i, q);
@@ -107,11 +107,9 @@ pub fn count_pairs(
     requires { Tables w n cells.now order.now slabs.now rows.now runs.now }
     ensures { result ≡ pairs (beside_at w cells.now) n }
 {
-    let mut found: usize = 0;
-    let mut p: usize = 0;
-    while p < n {
+    let mut found = 0;
+    for p in 0..n {
         found += count_behind(cells, w, n, order, slabs, rows, runs, p);
-        p += 1;
     }
     found
 }

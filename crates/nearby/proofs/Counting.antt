@@ -1,5 +1,5 @@
 -- Counting the points before j that are compared with it, and the pairs. Assumes nothing.
-use mathlib.Core.Path.{◌≡◌, refl, sym, ap, ◌∙◌}
+use mathlib.Core.Path.{◌≡◌, refl, sym}
 use mathlib.Core.Bool.{Bool, true, false}
 use Prim.Native.Nat.{ℕ, zero, suc, ◌+◌, ◌*◌, ◌≤◌, ◌<◌}
 use native.Mathlib.Omega.{arith}
@@ -47,9 +47,6 @@ module _ (p : ℕ → Bool) (j : ℕ) where
     few = omega (arith, c.few);
   }
 
-  pub counted_all : (found i : ℕ) → j ≤ i → Counted p j found i → found ≡ count_below p j
-  counted_all found i h c = let e : i ≡ j = omega (arith, c.within) in c.is ∙ ap (count_below p) e
-
 -- ---- pairs of numbers below n
 
 pub record Paired (r : ℕ → ℕ → Bool) (n found j : ℕ) : Type 0 where
@@ -71,6 +68,3 @@ module _ (r : ℕ → ℕ → Bool) (n : ℕ) where
         is = rw add-one (let k : found ≡ pairs r j = g.is in omega arith);
         few = omega (arith, g.few);
       }
-
-  pub paired_all : (found j : ℕ) → n ≤ j → Paired r n found j → found ≡ pairs r n
-  paired_all found j h g = let e : j ≡ n = omega (arith, g.within) in g.is ∙ ap (pairs r) e

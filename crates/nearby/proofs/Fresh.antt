@@ -2,17 +2,16 @@
 use mathlib.Core.Path.{◌≡◌, refl, sym, ap, ◌∙◌}
 use mathlib.Core.Bool.{Bool, true, false, not, ◌&&◌, and-true}
 use mathlib.Core.List.{List}
-use Prim.Native.Nat.{ℕ, ◌+◌, ◌-◌, ◌*◌, ◌≤◌, ◌<◌}
+use Prim.Native.Nat.{ℕ, ◌+◌, ◌*◌, ◌≤◌, ◌<◌}
 use native.Mathlib.Omega.{arith}
-use lib.Dec.{eqb}
 use lib.ListN.{length, get_or}
 use lib.Ieee.{Float, binary64, mul, lt}
-use borrow.Author.Tests.{eqb-true, eqb-false, not-true, not-false}
+use borrow.Author.Tests.{not-true, not-false}
 use Rattle.lists.proofs.Bools.{by_cases, and_left, and_right, and_false_right}
 use Rattle.floating.specs.Points.{leading, row}
 use Rattle.floating.specs.Near.{squared, below}
 use Rattle.floating.specs.declared.Point.{Point}
-use Rattle.nearby.specs.Engine.{beside_at, near_by, fresh, Next, Listed}
+use Rattle.nearby.specs.Engine.{beside_at, near_by, fresh, Listed}
 use Rattle.nearby.proofs.Beside.{spot}
 
 -- point i of n lies in the list of coordinates
@@ -78,31 +77,3 @@ module _ (r : ℕ → ℕ → Bool) (seen : List Bool) (i j : ℕ) where
 pub record Seeking (p : ℕ → Bool) (low from k : ℕ) : Type 0 where
   pub upto : k ≤ from
   pub failed : (j : ℕ) → low ≤ j → k ≤ j → j < from → p j ≡ false
-
-module _ (p : ℕ → Bool) (low from : ℕ) where
-  pub seek_begins : Seeking p low from from
-  seek_begins = record { upto = omega arith; failed = λ j a b c. absurd (let x : from ≤ j = b in let y : j < from = c in omega arith) }
-
-  pub seek_turns : (k : ℕ) → low < k → p (k - 1) ≡ false → Seeking p low from k → Seeking p low from (k - 1)
-  seek_turns k h e g = record {
-    upto = omega (arith, g.upto);
-    failed = λ j a b c.
-        by_cases (eqb j (k - 1))
-        (λ t. ap p (eqb-true j (k - 1) t) ∙ e)
-        (λ t.
-        let n : j ≡ k - 1 → ⊥ = eqb-false j (k - 1) t in
-        let x : k - 1 ≤ j = b in
-        g.failed j a (omega arith) c);
-  }
-
-  pub seek_finds : (k : ℕ) → low < k → p (k - 1) ≡ true → Seeking p low from k → Next p low from k
-  seek_finds k h e g = record {
-    after = g.failed;
-    here = λ z. (h, g.upto, e);
-  }
-
-  pub seek_fails : (k : ℕ) → k ≤ low → Seeking p low from k → Next p low from 0
-  seek_fails k h g = record {
-    after = λ j a b c. g.failed j a (let x : low ≤ j = a in omega arith) c;
-    here = λ z. absurd (let x : 0 < 0 = z in omega arith);
-  }

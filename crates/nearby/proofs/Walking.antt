@@ -1,13 +1,12 @@
 -- The turns of the walk as the code has them: its frames are one list, and 'near and not taken' is what is asked. Assumes nothing.
 use mathlib.Core.Path.{◌≡◌, refl, ap, ◌∙◌}
 use mathlib.Core.Bool.{Bool, true, false}
-use mathlib.Core.List.{List, map}
+use mathlib.Core.List.{List}
 use Prim.Native.Nat.{ℕ, ◌+◌, ◌-◌, ◌≤◌, ◌<◌}
 use native.Mathlib.Omega.{arith}
 use lib.ListN.{length, get_or, set, take, length-map, get_or-map}
 use lib.Seq.{map-set_same}
 use Rattle.std.proofs.lemmas.List.{map-set}
-use Rattle.mesh.specs.Limits.{entry_limit}
 use Rattle.nearby.specs.Engine.{fresh, Next}
 use Rattle.nearby.specs.Frames.{Starts}
 use Rattle.nearby.specs.declared.Frame.{Frame}

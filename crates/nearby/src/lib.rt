@@ -5,7 +5,7 @@
 // is worked out only where the cells of two points are beside each other on every axis, and the second is not taken.
 #![tactic(auto)]
 
-ghost use Rattle.std.specs.Prelude.{◌≡◌, Bool, true, false, ◌&&◌, List, [], ◌∷◌, ◌++◌, ℕ, ◌+◌, ◌*◌, ◌^◌, ◌≤◌, ◌<◌, length, get_or, take, Float};
+ghost use Rattle.std.specs.Prelude.{◌≡◌, Bool, false, ℕ, ◌≤◌, ◌<◌, length};
 ghost use Rattle.std.proofs.lemmas.List.Edits.{sets};
 ghost use Rattle.lists.specs.Lists.{some};
 ghost use Rattle.lists.specs.Numbers.{count_below};
@@ -13,7 +13,7 @@ ghost use Rattle.floating.specs.Limits.{distant};
 ghost use Rattle.floating.specs.Cells.{beside};
 ghost use Rattle.mesh.specs.Limits.{entry_limit};
 ghost use Rattle.nearby.specs.Pairs.{pairs};
-ghost use Rattle.nearby.specs.Engine.{cells_of, beside_at, near_by, fresh, Small, behind, Points, Listed, Next, Walked, Roomy, Components};
+ghost use Rattle.nearby.specs.Engine.{cells_of, beside_at, near_by, fresh, behind, Points, Listed, Next, Walked, Roomy, Components};
 ghost use Rattle.nearby.specs.Frames.{Starts};
 
 // Points are compared whose cells differ by at most this, on every axis.
@@ -184,10 +184,7 @@ fn create_component<N: Neighbours>(
                 frames[depth - 1].left = j;
                 order[taken] = j;
                 seen[j] = true;
-                frames[depth] = Frame {
-                    node: j,
-                    left: n,
-                };
+                frames[depth] = Frame { node: j, left: n };
                 taken += 1;
                 depth += 1;
             }
@@ -203,10 +200,7 @@ pub fn walk<N: Neighbours>(points: &N, order: &mut [usize], ends: &mut [usize]) 
     ensures { Components (N.near points.now) (N.count points.now) order.new ends.new result }
 {
     let mut seen = [false; mesh::ENTRIES];
-    let mut frames = [Frame {
-        node: 0,
-        left: 0,
-    }; mesh::ENTRIES];
+    let mut frames = [Frame { node: 0, left: 0 }; mesh::ENTRIES];
     let mut taken = 0;
     let mut count = 0;
     for k in 0..points.count() {
@@ -232,12 +226,6 @@ pub fn create_components(
     requires { (Listed w n s.now cells.now) × (Roomy n order.old ends.old) }
     ensures { Components (near_by t w s.now cells.now) n order.new ends.new result }
 {
-    let points = Each {
-        s,
-        w,
-        t,
-        cells,
-        n,
-    };
+    let points = Each { s, w, t, cells, n };
     walk(&points, order, ends)
 }

@@ -13,6 +13,7 @@ use Rattle.lists.proofs.Bools.{by_cases, and_left, and_right, and_false_right, t
 use Rattle.lists.proofs.Buckets.{lt_or_ge}
 use Rattle.nearby.specs.Engine.{beside_at, near_by, fresh, Next}
 use Rattle.nearby.proofs.Fresh.{not_beside}
+use Rattle.cellwise.proofs.Starts.{place_of}
 use Rattle.cellwise.specs.Blocks.{Low}
 use Rattle.inreach.specs.Reach.{Skipped}
 use Rattle.nextnear.specs.Looking.{wanted, Better, Best, Placed}
@@ -145,7 +146,7 @@ module _ {w n : ℕ} {s : List Float} {cells order slabs rows runs starts : List
     after = λ j x y z.
         let k : best ≤ j = y in
         let l : j < from = z in
-        let r : (p : ℕ) × (p < n) × (get_or order p 0 ≡ j) = g.tables.by_cell.placed j (omega arith) in
+        let r : (p : ℕ) × (p < n) × (get_or order p 0 ≡ j) = place_of g.tables.by_cell j (omega arith) in
         let e : get_or order r.0 0 ≡ j = r.2 in
         let m : r.0 < n = r.1 in
         by_cases (fresh (near_by t w s cells) seen i j)

@@ -1,7 +1,7 @@
 // The next near point of a point, by the runs of the order that are in reach of it.
 #![tactic(auto)]
 
-ghost use Rattle.std.specs.Prelude.{◌≡◌, true, ℕ, ◌≤◌, ◌<◌, length};
+ghost use Rattle.std.specs.Prelude.{◌≡◌, true, ◌≤◌, ◌<◌, length};
 ghost use Rattle.nearby.specs.Engine.{beside_at, near_by, fresh, Listed, Next};
 ghost use Rattle.inreach.specs.Reach.{Run};
 ghost use Rattle.nextnear.specs.Looking.{wanted, Better, Best, Placed};
@@ -29,19 +29,14 @@ fn better(
     if j < best {
         return best;
     }
-    if seen[j] {
-        return best;
-    }
-    if j < low {
-        return best;
-    }
-    if from <= j {
+    if seen[j] || j < low || from <= j {
         return best;
     }
     if floating::distance2(w, floating::attr_at(s, w, i), floating::attr_at(s, w, j)) < t * t {
-        return j + 1;
+        j + 1
+    } else {
+        best
     }
-    best
 }
 
 // The same over a run, the places from `fore` to below `rear`: from its end on, since of one cell the highest point stands last.
@@ -64,8 +59,7 @@ fn best_in_run(
     ensures { Best (wanted t w s.now cells.now seen.now i low from) order.now fore rear best result }
 {
     let mut found = best;
-    let mut k = rear;
-    while fore < k {
+    for k in (fore..rear).rev() {
         found = better(
             s,
             w,
@@ -76,10 +70,9 @@ fn best_in_run(
             i,
             low,
             from,
-            entry(order, k - 1),
+            entry(order, k),
             found,
         );
-        k -= 1;
     }
     found
 }
@@ -104,7 +97,7 @@ pub fn next_near(
     requires { (Placed w n s.now cells.now order.now slabs.now rows.now runs.now starts.now) × (i < n) × (from ≤ n) × (n ≤ length seen.now) }
     ensures { Next (fresh (near_by t w s.now cells.now) seen.now i) low from result }
 {
-    let mut best: usize = 0;
+    let mut best = 0;
     let mut q = entry(starts, i);
     while q < n {
         let r = skip(cells, w, n, order, slabs, rows, runs, i, q);

@@ -10,6 +10,6 @@ loop-i-init c = counted_none _ _
 pub loop-i-preserved : goal.loop-i-preserved
 loop-i-preserved c =
     elim c.if-is_beside_at.branch [
-      then-is_beside_at w ↦ rw w.found-is (counted_one _ _ _ _ c.loop-i-test.true (sym c.is_beside_at.ensures ∙ w.if-is_beside_at.true) c.loop-i.invariant)
+      | then-is_beside_at w ↦ rw w.found-is (counted_one _ _ _ _ c.loop-i-test.true (sym c.is_beside_at.ensures ∙ w.if-is_beside_at.true) c.loop-i.invariant)
       | else-is_beside_at w ↦ rw w.found-is (counted_not _ _ _ _ c.loop-i-test.true (sym c.is_beside_at.ensures ∙ w.if-is_beside_at.false) c.loop-i.invariant)
     ]

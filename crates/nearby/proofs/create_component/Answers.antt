@@ -1,6 +1,5 @@
 -- A frame goes, or one comes; in the end there is none. Assumes nothing.
 use Rattle.std.proofs.Common.{◌≡◌, refl, arith, length-set}
-use Rattle.nearby.specs.Frames.{Starts}
 use Rattle.nearby.proofs.Frames.{ended}
 use Rattle.nearby.proofs.Walking.{first_in, begins, top_in, asks, goes, goes_less, point_in, place_in, frame_in, comes, comes_less}
 use Rattle.nearby.proofs.create_component.Goals as goal

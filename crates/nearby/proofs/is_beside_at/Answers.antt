@@ -9,7 +9,7 @@ returns-then-w-eq-TEXEL_WIDTH c =
     let pre = c.requires in
     on_two _ _ _ pre.0 _ _ pre.1 pre.2 _
     (elim c.if-is_beside.branch [
-      then-is_beside w ↦ and_then (sym c.is_beside.ensures ∙ w.if-is_beside.true) (w.value-is ∙ w.is_beside-then-is_beside.ensures)
+      | then-is_beside w ↦ and_then (sym c.is_beside.ensures ∙ w.if-is_beside.true) (w.value-is ∙ w.is_beside-then-is_beside.ensures)
       | else-is_beside w ↦ and_else _ (sym c.is_beside.ensures ∙ w.if-is_beside.false) (w.value-is ∙ c.is_beside.ensures)
     ])
     c.if-is_beside-2.true c.if-w-eq-TEXEL_WIDTH.true
@@ -19,7 +19,7 @@ returns-else-w-eq-TEXEL_WIDTH c =
     let pre = c.requires in
     c.is_beside-else-w-eq-TEXEL_WIDTH.ensures ∙ on_three _ _ _ pre.0 _ _ pre.1 pre.2 _
     (elim c.if-is_beside.branch [
-      then-is_beside w ↦ and_then (sym c.is_beside.ensures ∙ w.if-is_beside.true) (w.value-is ∙ w.is_beside-then-is_beside.ensures)
+      | then-is_beside w ↦ and_then (sym c.is_beside.ensures ∙ w.if-is_beside.true) (w.value-is ∙ w.is_beside-then-is_beside.ensures)
       | else-is_beside w ↦ and_else _ (sym c.is_beside.ensures ∙ w.if-is_beside.false) (w.value-is ∙ c.is_beside.ensures)
     ])
     c.if-is_beside-2.true c.if-w-eq-TEXEL_WIDTH.false
@@ -29,7 +29,7 @@ returns-else-is_beside-2 c =
     let pre = c.requires in
     apart _ _ _ pre.0 _ _ pre.1 pre.2 _
     (elim c.if-is_beside.branch [
-      then-is_beside w ↦ and_then (sym c.is_beside.ensures ∙ w.if-is_beside.true) (w.value-is ∙ w.is_beside-then-is_beside.ensures)
+      | then-is_beside w ↦ and_then (sym c.is_beside.ensures ∙ w.if-is_beside.true) (w.value-is ∙ w.is_beside-then-is_beside.ensures)
       | else-is_beside w ↦ and_else _ (sym c.is_beside.ensures ∙ w.if-is_beside.false) (w.value-is ∙ c.is_beside.ensures)
     ])
     c.if-is_beside-2.false

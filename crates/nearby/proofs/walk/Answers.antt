@@ -16,7 +16,7 @@ pub loop-k-preserved : goal.loop-k-preserved
 loop-k-preserved g c =
     let i : c.loop-k.k < g.N.Neighbours.count c.args.points.now = rw c.count-k-end.ensures at c.loop-k-test.true in
     elim c.if-not-seen-k.branch [
-      then-not-seen-k w ↦ rw (w.order-is, w.ends-is, w.seen-is, w.taken-is, w.count-is)
+      | then-not-seen-k w ↦ rw (w.order-is, w.ends-is, w.seen-is, w.taken-is, w.count-is)
           (gather_new c.loop-k.invariant i w.if-not-seen-k.true
           (omega (arith, found_in c.loop-k.invariant i w.if-not-seen-k.true, c.requires.1.ends_room, c.loop-k.auto.ends)) w.create_component-taken.ensures)
       | else-not-seen-k w ↦ rw (w.order-is, w.ends-is, w.seen-is, w.taken-is, w.count-is) (gather_old c.loop-k.invariant i w.if-not-seen-k.false)

@@ -2,37 +2,36 @@
 use mathlib.Core.Path.{refl}
 use Rattle.inreach.proofs.Skipping.{low_to, high_to, high_all, reached, here_two, here_three}
 use native.Mathlib.Omega.{arith}
-use Rattle.inreach.proofs.skip.Statement.{statement}
-use Rattle.inreach.proofs.skip.Tie as tie
+use Rattle.inreach.proofs.skip.Goals as goal
 
-entry-requires : tie.Need-entry-j-requires
-entry-requires c κs =
+pub entry-j-requires : goal.entry-j-requires
+entry-j-requires c =
     let pre = c.requires in
     omega (arith, pre.2, pre.0.by_cell.long)
 
-cell-at-requires : tie.Need-cell_at-x-requires
-cell-at-requires c κs =
+pub cell_at-x-requires : goal.cell_at-x-requires
+cell_at-x-requires c =
     let pre = c.requires in
     (pre.0.by_cell.points, omega (arith, pre.0.by_cell.points.least), pre.1)
 
-cell-at-requires-2 : tie.Need-cell_at-u-requires
-cell-at-requires-2 c κs =
+pub cell_at-u-requires : goal.cell_at-u-requires
+cell_at-u-requires c =
     let pre = c.requires in
     let entry = c.entry-j in
     (pre.0.by_cell.points, omega (arith, pre.0.by_cell.points.least), omega (arith, entry.ensures, pre.0.by_cell.below _ pre.2))
 
-add-if1 : tie.Need-overflow_add-u
-add-if1 c =
+pub overflow_add-u : goal.overflow_add-u
+overflow_add-u c =
     let cell-at2 = c.cell_at-u in
     omega (arith, cell-at2.ensures.1)
 
-entry-requires-2 : tie.Need-entry-requires
-entry-requires-2 c κs =
+pub entry-requires : goal.entry-requires
+entry-requires c =
     let pre = c.requires in
     omega (arith, pre.2, pre.0.slab_ends.room)
 
-returns : tie.Need-returns-then-u-x
-returns c =
+pub returns-then-u-x : goal.returns-then-u-x
+returns-then-u-x c =
     let pre = c.requires in
     let entry = c.entry-j in
     let Cell-at = c.cell_at-x in
@@ -42,13 +41,13 @@ returns c =
     low_to pre.0 pre.1 pre.2 0 (omega (arith, pre.0.by_cell.points.least)) entry.ensures Cell-at.ensures.0 cell-at2.ensures.0
     1 _ (omega arith) if1.true entry2.ensures (pre.0.slab_ends.each _ pre.2)
 
-add-if2 : tie.Need-overflow_add-x
-add-if2 c =
+pub overflow_add-x : goal.overflow_add-x
+overflow_add-x c =
     let Cell-at = c.cell_at-x in
     omega (arith, Cell-at.ensures.1)
 
-returns-2 : tie.Need-returns-then-x-u
-returns-2 c =
+pub returns-then-x-u : goal.returns-then-x-u
+returns-then-x-u c =
     let pre = c.requires in
     let entry = c.entry-j in
     let Cell-at = c.cell_at-x in
@@ -57,29 +56,29 @@ returns-2 c =
     high_all pre.0 pre.1 pre.2 0 (omega (arith, pre.0.by_cell.points.least)) entry.ensures Cell-at.ensures.0 cell-at2.ensures.0
     refl if2.true
 
-cell-at-requires-3 : tie.Need-cell_at-y-requires
-cell-at-requires-3 c κs =
+pub cell_at-y-requires : goal.cell_at-y-requires
+cell_at-y-requires c =
     let pre = c.requires in
     (pre.0.by_cell.points, omega (arith, pre.0.by_cell.points.least), pre.1)
 
-cell-at-requires-4 : tie.Need-cell_at-v-requires
-cell-at-requires-4 c κs =
+pub cell_at-v-requires : goal.cell_at-v-requires
+cell_at-v-requires c =
     let pre = c.requires in
     let entry = c.entry-j in
     (pre.0.by_cell.points, omega (arith, pre.0.by_cell.points.least), omega (arith, entry.ensures, pre.0.by_cell.below _ pre.2))
 
-add-if3 : tie.Need-overflow_add-v
-add-if3 c =
+pub overflow_add-v : goal.overflow_add-v
+overflow_add-v c =
     let cell-at4 = c.cell_at-v in
     omega (arith, cell-at4.ensures.1)
 
-entry-requires-3 : tie.Need-entry-requires-then-v-y
-entry-requires-3 c κs =
+pub entry-requires-then-v-y : goal.entry-requires-then-v-y
+entry-requires-then-v-y c =
     let pre = c.requires in
     omega (arith, pre.2, pre.0.row_ends.room)
 
-returns-3 : tie.Need-returns-then-v-y
-returns-3 c =
+pub returns-then-v-y : goal.returns-then-v-y
+returns-then-v-y c =
     let pre = c.requires in
     let entry = c.entry-j in
     let cell-at3 = c.cell_at-y in
@@ -89,18 +88,18 @@ returns-3 c =
     low_to pre.0 pre.1 pre.2 1 (omega (arith, pre.0.by_cell.points.least)) entry.ensures cell-at3.ensures.0 cell-at4.ensures.0
     2 _ (omega arith) if3.true entry3.ensures (pre.0.row_ends.each _ pre.2)
 
-add-if4 : tie.Need-overflow_add-y
-add-if4 c =
+pub overflow_add-y : goal.overflow_add-y
+overflow_add-y c =
     let cell-at3 = c.cell_at-y in
     omega (arith, cell-at3.ensures.1)
 
-entry-requires-4 : tie.Need-entry-requires-then-y-v
-entry-requires-4 c κs =
+pub entry-requires-then-y-v : goal.entry-requires-then-y-v
+entry-requires-then-y-v c =
     let pre = c.requires in
     omega (arith, pre.2, pre.0.slab_ends.room)
 
-returns-4 : tie.Need-returns-then-y-v
-returns-4 c =
+pub returns-then-y-v : goal.returns-then-y-v
+returns-then-y-v c =
     let pre = c.requires in
     let entry = c.entry-j in
     let cell-at3 = c.cell_at-y in
@@ -110,8 +109,8 @@ returns-4 c =
     high_to pre.0 pre.1 pre.2 1 (omega (arith, pre.0.by_cell.points.least)) entry.ensures cell-at3.ensures.0 cell-at4.ensures.0
     _ if4.true entry4.ensures (pre.0.slab_ends.each _ pre.2)
 
-returns-5 : tie.Need-returns-then-w-eq-TEXEL_WIDTH
-returns-5 c =
+pub returns-then-w-eq-TEXEL_WIDTH : goal.returns-then-w-eq-TEXEL_WIDTH
+returns-then-w-eq-TEXEL_WIDTH c =
     let pre = c.requires in
     let if5 = c.if-w-eq-TEXEL_WIDTH in
     let entry = c.entry-j in
@@ -127,31 +126,31 @@ returns-5 c =
     (reached pre.0 pre.1 pre.2 0 (omega (arith, pre.0.by_cell.points.least)) entry.ensures Cell-at.ensures.0 cell-at2.ensures.0 if1.false if2.false)
     (reached pre.0 pre.1 pre.2 1 (omega (arith, pre.0.by_cell.points.least)) entry.ensures cell-at3.ensures.0 cell-at4.ensures.0 if3.false if4.false)
 
-cell-at-requires-5 : tie.Need-cell_at-z-requires
-cell-at-requires-5 c κs =
+pub cell_at-z-requires : goal.cell_at-z-requires
+cell_at-z-requires c =
     let pre = c.requires in
     let if5 = c.if-w-eq-TEXEL_WIDTH in
     (pre.0.by_cell.points, omega (arith, pre.0.by_cell.points.least, if5.false), pre.1)
 
-cell-at-requires-6 : tie.Need-cell_at-t-requires
-cell-at-requires-6 c κs =
+pub cell_at-t-requires : goal.cell_at-t-requires
+cell_at-t-requires c =
     let pre = c.requires in
     let if5 = c.if-w-eq-TEXEL_WIDTH in
     let entry = c.entry-j in
     (pre.0.by_cell.points, omega (arith, pre.0.by_cell.points.least, if5.false), omega (arith, entry.ensures, pre.0.by_cell.below _ pre.2))
 
-add-if6 : tie.Need-overflow_add-t
-add-if6 c =
+pub overflow_add-t : goal.overflow_add-t
+overflow_add-t c =
     let cell-at6 = c.cell_at-t in
     omega (arith, cell-at6.ensures.1)
 
-entry-requires-5 : tie.Need-entry-requires-then-t-z
-entry-requires-5 c κs =
+pub entry-requires-then-t-z : goal.entry-requires-then-t-z
+entry-requires-then-t-z c =
     let pre = c.requires in
     omega (arith, pre.2, pre.0.run_ends.room)
 
-returns-6 : tie.Need-returns-then-t-z
-returns-6 c =
+pub returns-then-t-z : goal.returns-then-t-z
+returns-then-t-z c =
     let pre = c.requires in
     let if5 = c.if-w-eq-TEXEL_WIDTH in
     let entry = c.entry-j in
@@ -162,18 +161,18 @@ returns-6 c =
     low_to pre.0 pre.1 pre.2 2 (omega (arith, pre.0.by_cell.points.least, if5.false)) entry.ensures cell-at5.ensures.0 cell-at6.ensures.0
     _ _ (omega (arith, pre.0.by_cell.points.least, if5.false)) if6.true entry5.ensures (pre.0.run_ends.each _ pre.2)
 
-add-if7 : tie.Need-overflow_add-z
-add-if7 c =
+pub overflow_add-z : goal.overflow_add-z
+overflow_add-z c =
     let cell-at5 = c.cell_at-z in
     omega (arith, cell-at5.ensures.1)
 
-entry-requires-6 : tie.Need-entry-requires-then-z-t
-entry-requires-6 c κs =
+pub entry-requires-then-z-t : goal.entry-requires-then-z-t
+entry-requires-then-z-t c =
     let pre = c.requires in
     omega (arith, pre.2, pre.0.row_ends.room)
 
-returns-7 : tie.Need-returns-then-z-t
-returns-7 c =
+pub returns-then-z-t : goal.returns-then-z-t
+returns-then-z-t c =
     let pre = c.requires in
     let if5 = c.if-w-eq-TEXEL_WIDTH in
     let entry = c.entry-j in
@@ -184,8 +183,8 @@ returns-7 c =
     high_to pre.0 pre.1 pre.2 2 (omega (arith, pre.0.by_cell.points.least, if5.false)) entry.ensures cell-at5.ensures.0 cell-at6.ensures.0
     _ if7.true entry6.ensures (pre.0.row_ends.each _ pre.2)
 
-returns-8 : tie.Need-returns
-returns-8 c =
+pub returns : goal.returns
+returns c =
     let pre = c.requires in
     let if5 = c.if-w-eq-TEXEL_WIDTH in
     let entry = c.entry-j in
@@ -205,34 +204,3 @@ returns-8 c =
     (reached pre.0 pre.1 pre.2 0 (omega (arith, pre.0.by_cell.points.least)) entry.ensures Cell-at.ensures.0 cell-at2.ensures.0 if1.false if2.false)
     (reached pre.0 pre.1 pre.2 1 (omega (arith, pre.0.by_cell.points.least)) entry.ensures cell-at3.ensures.0 cell-at4.ensures.0 if3.false if4.false)
     (reached pre.0 pre.1 pre.2 2 (omega (arith, pre.0.by_cell.points.least, if5.false)) entry.ensures cell-at5.ensures.0 cell-at6.ensures.0 if6.false if7.false)
-
-pub skip_spec : {M : Type 1} → statement M
-skip_spec =
-    tie.close
-    (tie.spec
-    entry-requires
-    cell-at-requires
-    cell-at-requires-2
-    add-if1
-    entry-requires-2
-    returns
-    add-if2
-    returns-2
-    cell-at-requires-3
-    cell-at-requires-4
-    add-if3
-    entry-requires-3
-    returns-3
-    add-if4
-    entry-requires-4
-    returns-4
-    returns-5
-    cell-at-requires-5
-    cell-at-requires-6
-    add-if6
-    entry-requires-5
-    returns-6
-    add-if7
-    entry-requires-6
-    returns-7
-    returns-8)

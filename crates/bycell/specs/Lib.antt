@@ -1,2 +1,0 @@
--- steps of the code
-pub mod Rows
