@@ -7,7 +7,7 @@ use lib.Seq.{sets}
 use Rattle.mesh.specs.Mesh.{Mesh, faces, position_count, texture_count, normal_count}
 use Rattle.mesh.specs.Table.{mesh_number, after}
 use Rattle.grouping.specs.Push.{corner_count}
-use Rattle.removal.specs.declared.Removed.{Removed}
+use Rattle.removal.specs.Folded.{Removed}
 use Rattle.removal.specs.Origins.{origins_of}
 use Rattle.removal.specs.Folded as removal
 use Rattle.removal.proofs.Accepted.{removed_accepted}

@@ -21,7 +21,7 @@ use Rattle.mesh.proofs.Numbers.{first_head, first_tail, when_not}
 use Rattle.mesh.proofs.Accepted.{accepted}
 use Rattle.mesh.proofs.Faces.{sizes_back}
 use Rattle.grouping.specs.Push.{corner_count}
-use Rattle.removal.specs.declared.Removed.{Removed}
+use Rattle.removal.specs.Folded.{Removed}
 use Rattle.removal.specs.Origins.{origins_of}
 use Rattle.removal.specs.Folded as removal
 use Rattle.removal.proofs.Result.{removed_count, removed_length}

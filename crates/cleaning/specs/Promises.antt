@@ -5,7 +5,7 @@ use Rattle.mesh.specs.Limits.{width}
 use Rattle.mesh.specs.Mesh.{Mesh, mesh_of, Ring, mark, rings, faces}
 use Rattle.mesh.specs.Table.{mesh_number}
 use Rattle.folding.specs.Folding.{pieces}
-use Rattle.removal.specs.declared.Removed.{Removed}
+use Rattle.removal.specs.Folded.{Removed}
 use Rattle.removal.specs.Folded as removal
 use Rattle.removal.specs.Promises.{face_at}
 use Rattle.unused.specs.declared.Compacted.{Compacted}

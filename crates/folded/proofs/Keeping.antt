@@ -9,7 +9,6 @@ use lib.Seq.{sets, length-take-le}
 use Rattle.lists.specs.Lists.{span, sum}
 use Rattle.lists.proofs.Buckets.{length_span}
 use Rattle.lists.proofs.Writing.{sets_front}
-use Rattle.sorting.specs.Sorting.{number_limit}
 use Rattle.mesh.specs.Limits.{width}
 use Rattle.mesh.specs.Mesh.{rings}
 use Rattle.mesh.specs.Face.{Sound}
@@ -27,10 +26,6 @@ kept_all cs s o o' l l' y e f =
       more = omega (arith, ap sum b, y.adds);
       most = omega (arith, length_rings s cs);
     }
-
--- so few that they can be counted
-pub few_numbers : (cs s u : List ℕ) → Sound cs s → length s ≤ length u → length (take (length s) u) ≤ number_limit
-few_numbers cs s u y h = omega (arith, length-take-le (length s) u h, y.few)
 
 -- with the numbers 0, 1, 2, .. in front
 pub left_all : (cs s o o' l l' u u' : List ℕ) → Sound cs s → length s ≤ length u → o' ≡ sets o 0 cs → l' ≡ sets l 0 s → u' ≡ span 0 (length (take (length s) u))

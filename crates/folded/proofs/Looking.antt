@@ -5,11 +5,11 @@ use mathlib.Core.List.{List, []}
 use Prim.Native.Nat.{ℕ, ◌+◌, ◌≤◌, ◌<◌}
 use lib.ListN.{length, get_or}
 use Rattle.lists.specs.Lists.{some}
-use Rattle.lists.proofs.Parts.{Searching, search_begins, search_turns, search_finds, search_ends}
+use Rattle.lists.proofs.Parts.{Searching, search_turns, search_finds, search_ends}
 use Rattle.mesh.specs.Mesh.{corners_in, rings}
 use Rattle.mesh.specs.Face.{face_of}
 use Rattle.mesh.proofs.Faces.{length_rings, get_or-rings, face_length}
-use Rattle.mesh.proofs.Walking.{Walking, walk_begins, walk_turns}
+use Rattle.mesh.proofs.Walking.{Walking, walk_turns}
 use Rattle.folding.specs.Folding.{folded}
 use Rattle.oneface.specs.Working.{Corners}
 use Rattle.removal.specs.Working.{Fit}
@@ -17,9 +17,6 @@ use Rattle.removal.specs.Working.{Fit}
 pub record Looking (cs s : List ℕ) (from k : ℕ) : Type 0 where
   pub walk : Walking s from k
   pub search : Searching folded (rings s cs) k
-
-pub looking_begins : (cs s : List ℕ) → Looking cs s 0 0
-looking_begins cs s = record { walk = walk_begins s; search = search_begins folded [] (rings s cs) }
 
 pub looking_face : (cs s face : List ℕ) (k : ℕ) → Fit cs s → k < length s → face ≡ face_of cs s k → Corners face (get_or s k 0)
 looking_face cs s face k y h e = record { small = y.most k h; wide = ap length e ∙ face_length cs s y.sound k h }

@@ -7,66 +7,38 @@
 
 ghost use Rattle.std.specs.Prelude.{◌≡◌, length};
 ghost use Rattle.lists.specs.Lists.{some, span};
-ghost use Rattle.mesh.specs.Mesh.{mesh_of, rings};
+ghost use Rattle.mesh.specs.Mesh.{rings};
+ghost use Rattle.mesh.specs.Seen.{seen};
 ghost use Rattle.folding.specs.Folding.{folded};
 ghost use Rattle.removal.specs.Folded as want;
 ghost use Rattle.removal.specs.Origins.{origins_of};
-ghost use Rattle.removal.specs.Working.{Fit, Ready, Given, Left, refused_by};
+ghost use Rattle.removal.specs.Working.{Fit, Ready, Given, Left};
 
 use grouping::Filled;
-use mesh::{LEAST_RING, WIDTH};
-pub use removal::Removed;
+use mesh::{LEAST_RING, Mesh, Refusal, WIDTH};
 
-// Takes the mesh in five lists and lends three for the result: corners and sizes, and for each face the number of the face it came
-// from; positions, texture points and normals don't change. The corners need the room of the input's, the sizes and the origins each
-// a third of the number of corners, rounded down. Answers 0 and how many corners and faces are left; or 1 to 5 as the mesh earns, or
-// 9 where a result list is too short, with counts of 0 and nothing written.
+// Lends three lists for the result: corners and sizes, and for each face the number of the face it came from; positions, texture points
+// and normals don't change. The corners need the room of the mesh's, the sizes and the origins each a third of the number of corners, rounded
+// down. Answers how many corners and faces are left; or the refusal 1 to 5 as the mesh earns, or 9 where a result list is too short, with
+// nothing written.
 pub fn remove_degenerate_faces(
-    positions: &[f64],
-    textures: &[f64],
-    normals: &[f64],
-    corners: &[u32],
-    sizes: &[u32],
+    mesh: &Mesh<'_>,
     newcorners: &mut [u32],
     newsizes: &mut [u32],
     origins: &mut [u32],
-) -> Removed
+) -> Result<Filled, Refusal>
     ensures { want.Removal
-        (mesh_of positions.now textures.now normals.now corners.now sizes.now)
+        (seen mesh.now)
         (want.result_of newcorners.old newsizes.old origins.old)
         (want.result_of newcorners.new newsizes.new origins.new)
-        result }
+        (want.removed_of result) }
 {
-    let number = mesh::number(positions, textures, normals, corners, sizes);
-    if number != 0 {
-        return refused(number);
+    mesh.check()?;
+    let faces = mesh.corners.len() / WIDTH / LEAST_RING;
+    if newcorners.len() < mesh.corners.len() || newsizes.len() < faces || origins.len() < faces {
+        return Err(Refusal::Room);
     }
-    if newcorners.len() < corners.len() {
-        return refused(9);
-    }
-    if newsizes.len() < corners.len() / WIDTH / LEAST_RING {
-        return refused(9);
-    }
-    if origins.len() < corners.len() / WIDTH / LEAST_RING {
-        return refused(9);
-    }
-    let left = remove(corners, sizes, newcorners, newsizes, origins);
-    Removed {
-        number: 0,
-        corners: left.corners,
-        faces: left.faces,
-    }
-}
-
-// A refusal: each count beside it is 0.
-fn refused(number: u32) -> Removed
-    ensures { result ≡ refused_by number }
-{
-    Removed {
-        number: number,
-        corners: 0,
-        faces: 0,
-    }
+    Ok(remove(mesh.corners, mesh.sizes, newcorners, newsizes, origins))
 }
 
 // What is left of the faces of an accepted mesh. Where none is folded, that is all of them, as they stand.
@@ -94,16 +66,13 @@ fn any_folded(corners: &[u32], sizes: &[u32]) -> bool
     requires { Fit corners.now sizes.now }
     ensures { result ≡ some folded (rings sizes.now corners.now) }
 {
-    let mut from: usize = 0;
-    let mut k: usize = 0;
-    while k < sizes.len() {
+    let mut from = 0;
+    for (k, n) in sizes.iter().enumerate() {
         let face = mesh::face_at(corners, sizes, k, from);
-        let n = sizes[k] as usize;
-        if oneface::is_folded(face, n) {
+        if oneface::is_folded(face, *n as usize) {
             return true;
         }
-        from += n;
-        k += 1;
+        from += *n as usize;
     }
     false
 }
@@ -123,8 +92,7 @@ fn keep_all(
 {
     lists::put(corners, newcorners, 0);
     lists::put(sizes, newsizes, 0);
-    let n = sizes.len();
-    sorting::count_up(&mut origins[..n]);
+    sorting::count_up(&mut origins[..sizes.len()]);
     Filled {
         corners: corners.len() / WIDTH,
         faces: sizes.len(),

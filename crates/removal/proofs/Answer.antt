@@ -14,9 +14,8 @@ use Rattle.mesh.proofs.After.{after_refused}
 use Rattle.mesh.proofs.Numbers.{first_is, first_on, row_given}
 use Rattle.mesh.proofs.Accepted.{accepted}
 use Rattle.grouping.specs.Push.{corner_count}
-use Rattle.removal.specs.declared.Removed.{Removed}
 use Rattle.removal.specs.Origins.{origins_of}
-use Rattle.removal.specs.Folded.{removed, unfolded_mesh, result_of, too_short, removal_number, Removal}
+use Rattle.removal.specs.Folded.{Removed, removed, unfolded_mesh, result_of, too_short, removal_number, Removal}
 use Rattle.removal.specs.Working.{Given, Left, refused_by}
 use Rattle.removal.proofs.Accepted.{fit}
 

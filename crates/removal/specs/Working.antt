@@ -10,7 +10,7 @@ use Rattle.grouping.specs.Push.{Placed}
 use Rattle.grouping.specs.Tags.{pushed_beside}
 use Rattle.folding.specs.Folding.{pieces}
 use Rattle.removal.specs.Origins.{numbered}
-use Rattle.removal.specs.declared.Removed.{Removed}
+use Rattle.removal.specs.Folded.{Removed}
 
 -- corners and sizes that add up, each face of 3 to 300 corners
 pub record Fit (cs s : List ℕ) : Type 0 where
