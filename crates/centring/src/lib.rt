@@ -23,10 +23,8 @@ fn group_centre(s: &[f64], w: usize, n: usize, order: &[usize], from: usize, to:
         y: 0.0,
         z: 0.0,
     };
-    let mut k = from;
-    while k < to {
+    for k in from..to {
         sum = floating::plus(sum, floating::attr_at(s, w, order[k]));
-        k += 1;
     }
     floating::over(sum, std::num::nearest_u64_to_f64((to - from) as u64))
 }
@@ -39,15 +37,13 @@ fn representative(s: &[f64], w: usize, n: usize, order: &[usize], from: usize, t
     let c = group_centre(s, w, n, order, from, to);
     let mut rep = order[from];
     let mut least = floating::distance2(w, floating::attr_at(s, w, rep), c);
-    let mut k = from + 1;
-    while k < to {
+    for k in from + 1..to {
         let i = order[k];
         let d = floating::distance2(w, floating::attr_at(s, w, i), c);
         if d < least {
             least = d;
             rep = i;
         }
-        k += 1;
     }
     rep
 }
@@ -66,10 +62,8 @@ fn centralize(
     ensures { Sent w n s.now (slice from to order.now) map.old map.new }
 {
     let rep = representative(s, w, n, order, from, to) as u32;
-    let mut k = from;
-    while k < to {
+    for k in from..to {
         map[order[k]] = rep;
-        k += 1;
     }
 }
 
@@ -86,12 +80,10 @@ pub fn centralize_groups(
     requires { (InGroups w n s.now order.now ends.now count) × (n ≤ length map.old) }
     ensures { Settled n (centre.sent_to w s.now (laid_out order.now ends.now count)) map.old map.new }
 {
-    let mut from: usize = 0;
-    let mut k: usize = 0;
-    while k < count {
+    let mut from = 0;
+    for k in 0..count {
         let to = ends[k];
         centralize(s, w, n, order, from, to, map);
         from = to;
-        k += 1;
     }
 }

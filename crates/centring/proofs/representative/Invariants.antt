@@ -1,0 +1,8 @@
+-- `centring::representative` meets its contract, by the laws of `Centres`. Assumes nothing.
+use Rattle.std.proofs.Common.{◌-◌, arith, rules}
+use Rattle.together.proofs.Centres.{point_in, Choosing, choose_begins, choose_closer, choose_not, choose_ends}
+use Rattle.centring.proofs.representative.Lts.{then-d-least, else-d-least}
+use Rattle.centring.proofs.representative.Given as goal
+
+abbrev pub invariant-loop-k : goal.invariant-loop-k
+invariant-loop-k l = Choosing l.w l.n l.s l.order l.from l.to l.c l.k l.least l.rep
