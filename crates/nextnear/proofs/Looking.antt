@@ -76,27 +76,6 @@ module _ {p : ℕ → Bool} {j best : ℕ} where
 -- ---- one run, from its end on
 
 module _ {p : ℕ → Bool} {order : List ℕ} {best rear : ℕ} where
-  pub run_begins : Best p order rear rear best best
-  run_begins = record { grown = omega arith; after = λ k a b. absurd (let z : rear ≤ k = a in let y : k < rear = b in omega arith); here = inl refl }
-
-  pub run_turns : {k found : ℕ} (j r : ℕ) → 0 < k → j ≡ get_or order (k - 1) 0 → Better p j found r → Best p order k rear best found → Best p order (k - 1) rear best r
-  run_turns {k} {found} j r h e c a = record {
-    grown = omega (arith, a.grown, c.grown);
-    after = λ q u v x.
-        let y : r ≤ get_or order q 0 = x in
-        by_cases (eqb q (k - 1))
-        (λ t.
-        let f : get_or order q 0 ≡ j = ap (λ (d : ℕ). get_or order d 0) (eqb-true q (k - 1) t) ∙ sym e in
-        ap p f ∙ c.after (omega arith))
-        (λ t.
-        let f : q ≡ k - 1 → ⊥ = eqb-false q (k - 1) t in
-        let z : k - 1 ≤ q = u in
-        a.after q (omega arith) v (omega (arith, c.grown)));
-    here = ⊎_elim (λ f. subst (λ (d : ℕ). (d ≡ best) ⊎ ((0 < d) × (p (d - 1) ≡ true))) (sym f) a.here) inr c.here;
-  }
-
-  pub run_ends : {k r : ℕ} (fore : ℕ) → k ≤ fore → fore ≤ k → Best p order k rear best r → Best p order fore rear best r
-  run_ends {k} {r} fore h l a = subst (λ (d : ℕ). Best p order d rear best r) (let e : k ≡ fore = omega arith in e) a
 
 -- ---- all runs
 

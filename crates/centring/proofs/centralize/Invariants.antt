@@ -1,6 +1,5 @@
 -- `centring::centralize` meets its contract, by the laws of `Sending`. Assumes nothing.
-use Rattle.std.proofs.Common.{◌-◌, arith, rules}
-use Rattle.together.proofs.Sending.{Sending, send_begins, send_turns, send_ends}
+use Rattle.together.proofs.Sending.{Sending}
 use Rattle.centring.proofs.centralize.Given as goal
 
 abbrev pub invariant-loop-k : goal.invariant-loop-k

@@ -1,6 +1,5 @@
 -- `centring::centralize_groups` meets its contract, by the laws of `Settling`. Assumes nothing.
-use Rattle.std.proofs.Common.{◌-◌, arith, rules}
-use Rattle.together.proofs.Settling.{Settling, settle_begins, grouped, settle_turns, settle_ends}
+use Rattle.together.proofs.Settling.{Settling}
 use Rattle.centring.proofs.centralize_groups.Given as goal
 
 abbrev pub invariant-loop-k : goal.invariant-loop-k

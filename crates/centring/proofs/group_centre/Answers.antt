@@ -1,19 +1,9 @@
 -- `centring::group_centre` meets its contract, by the laws of `Centres`. Assumes nothing.
-use Rattle.std.proofs.Common.{◌-◌, arith, rules}
-use Rattle.together.proofs.Centres.{point_in, Summing, sum_begins, sum_turns, sum_ends}
+use Rattle.together.proofs.Centres.{sum_begins, sum_turns, sum_ends}
 use Rattle.centring.proofs.group_centre.Goals as goal
 
 pub loop-k-init : goal.loop-k-init
 loop-k-init c = sum_begins _ _ _ _ _ _ c.requires
-
-pub offset_bounds-order-k : goal.offset_bounds-order-k
-offset_bounds-order-k c = omega (arith, c.requires.room, c.loop-k-test.true, c.well_formed)
-
-pub attr_at-requires : goal.attr_at-requires
-attr_at-requires c =
-    let pre = c.requires in
-    let test = c.loop-k-test in
-    (pre.least, pre.most, point_in _ _ _ _ _ _ pre _ test.true)
 
 pub loop-k-preserved : goal.loop-k-preserved
 loop-k-preserved c =
@@ -23,9 +13,6 @@ loop-k-preserved c =
     let attr-at = c.attr_at in
     let plus = c.plus-sum in
     sum_turns _ _ _ _ _ _ pre loop.k _ _ _ test.true attr-at.ensures plus.ensures loop.invariant
-
-pub overflow_sub-to : goal.overflow_sub-to
-overflow_sub-to c = omega (arith, c.requires.some)
 
 pub returns : goal.returns
 returns c =

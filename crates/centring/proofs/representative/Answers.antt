@@ -1,22 +1,7 @@
 -- `centring::representative` meets its contract, by the laws of `Centres`. Assumes nothing.
-use Rattle.std.proofs.Common.{◌-◌, arith, rules}
-use Rattle.together.proofs.Centres.{point_in, Choosing, choose_begins, choose_closer, choose_not, choose_ends}
+use Rattle.together.proofs.Centres.{choose_begins, choose_closer, choose_not, choose_ends}
 use Rattle.centring.proofs.representative.Goals.{then-d-least, else-d-least}
 use Rattle.centring.proofs.representative.Goals as goal
-
-pub offset_bounds-order-from : goal.offset_bounds-order-from
-offset_bounds-order-from c = omega (arith, c.requires.room, c.requires.some, c.well_formed)
-
-pub bounds-order-from : goal.bounds-order-from
-bounds-order-from c = omega (arith, c.requires.room, c.requires.some)
-
-pub attr_at-requires : goal.attr_at-requires
-attr_at-requires c =
-    let pre = c.requires in
-    (pre.least, pre.most, point_in _ _ _ _ _ _ pre _ pre.some)
-
-pub distance2-least-requires : goal.distance2-least-requires
-distance2-least-requires c = (c.requires.least, c.requires.most)
 
 pub loop-k-init : goal.loop-k-init
 loop-k-init c =
@@ -25,23 +10,6 @@ loop-k-init c =
     let attr-at = c.attr_at in
     let distance2 = c.distance2-least in
     choose_begins _ _ _ _ _ _ pre _ group-centre.ensures _ attr-at.result attr-at.ensures distance2.ensures
-
-pub offset_bounds-order-k : goal.offset_bounds-order-k
-offset_bounds-order-k c = omega (arith, c.requires.room, c.loop-k-test.true, c.well_formed)
-
-pub bounds-order-k : goal.bounds-order-k
-bounds-order-k c = omega (arith, c.requires.room, c.loop-k-test.true)
-
-pub attr_at-requires-in-loop-k : goal.attr_at-requires-in-loop-k
-attr_at-requires-in-loop-k c =
-    let pre = c.requires in
-    let test = c.loop-k-test in
-    (pre.least, pre.most, point_in _ _ _ _ _ _ pre _ test.true)
-
-pub distance2-d-requires : goal.distance2-d-requires
-distance2-d-requires c =
-    let pre = c.requires in
-    (pre.least, pre.most)
 
 pub loop-k-preserved : goal.loop-k-preserved
 loop-k-preserved c =

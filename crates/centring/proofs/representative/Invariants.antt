@@ -1,7 +1,5 @@
 -- `centring::representative` meets its contract, by the laws of `Centres`. Assumes nothing.
-use Rattle.std.proofs.Common.{◌-◌, arith, rules}
-use Rattle.together.proofs.Centres.{point_in, Choosing, choose_begins, choose_closer, choose_not, choose_ends}
-use Rattle.centring.proofs.representative.Lts.{then-d-least, else-d-least}
+use Rattle.together.proofs.Centres.{Choosing}
 use Rattle.centring.proofs.representative.Given as goal
 
 abbrev pub invariant-loop-k : goal.invariant-loop-k

@@ -3,27 +3,8 @@ use mathlib.Core.Path.{◌∙◌}
 use Rattle.nearby.specs.Engine.{beside_at}
 use Rattle.paired.proofs.Both.{beside_both, beside_self}
 use Rattle.paired.proofs.Paired.{same_pairs}
-use Rattle.inreach.proofs.Counting.{paired_begins, paired_turns, paired_ends}
-use native.Mathlib.Omega.{arith}
+use Rattle.inreach.proofs.Counting.{paired_turns, paired_ends}
 use Rattle.inreach.proofs.count_pairs.Goals as goal
-
-pub loop-p-init : goal.loop-p-init
-loop-p-init c =
-    let pre = c.requires in
-    paired_begins pre.by_cell.long
-
-pub count_behind-found-requires : goal.count_behind-found-requires
-count_behind-found-requires c =
-    let pre = c.requires in
-    let test = c.loop-p-test in
-    (pre, test.true)
-
-pub overflow_add-found : goal.overflow_add-found
-overflow_add-found c =
-    let loop = c.loop-p in
-    let count-behind = c.count_behind-found in
-    let pre = c.requires in
-    omega (arith, loop.invariant.few, loop.invariant.within, count-behind.ensures.1, pre.by_cell.points.few)
 
 pub loop-p-preserved : goal.loop-p-preserved
 loop-p-preserved c =

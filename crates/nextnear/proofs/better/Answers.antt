@@ -6,16 +6,6 @@ use native.Mathlib.Omega.{arith}
 use Rattle.nextnear.proofs.better.Goals as goal
 use Rattle.nextnear.proofs.better.Goals.{then-seen-j-via-then-seen-j, then-seen-j-via-else-seen-j+then-j-low, then-seen-j-via-else-seen-j+else-j-low+then-from-j}
 
-pub returns-then-j-best : goal.returns-then-j-best
-returns-then-j-best c =
-    let if1 = c.if-j-best in
-    better_less if1.true
-
-pub bounds-seen-j : goal.bounds-seen-j
-bounds-seen-j c =
-    let pre = c.requires in
-    omega (arith, pre.1, pre.3)
-
 pub returns-then-seen-j : goal.returns-then-seen-j
 returns-then-seen-j c =
     let args = c.args in
@@ -25,22 +15,6 @@ returns-then-seen-j c =
       | then-seen-j-via-else-seen-j+then-j-low w ↦ below_low args.t _ _ _ _ _ args.low args.from _ w.if-j-low.true
       | then-seen-j-via-else-seen-j+else-j-low+then-from-j w ↦ from_on args.t _ _ _ _ _ args.low args.from _ w.if-from-j.true
     ])
-
-pub attr_at-requires : goal.attr_at-requires
-attr_at-requires c =
-    let pre = c.requires in
-    (pre.0.points.least, pre.0.points.most, spot_in _ _ _ _ pre.0 _ pre.2)
-
-pub attr_at-requires-2 : goal.attr_at-requires-2
-attr_at-requires-2 c =
-    let pre = c.requires in
-    (pre.0.points.least, pre.0.points.most, spot_in _ _ _ _ pre.0 _ pre.3)
-
-pub overflow_add-result : goal.overflow_add-result
-overflow_add-result c =
-    let pre = c.requires in
-    omega (arith, pre.3, pre.0.points.few)
-
 pub returns-then-distance2-t : goal.returns-then-distance2-t
 returns-then-distance2-t c =
     let if1 = c.if-j-best in
@@ -57,7 +31,6 @@ returns-then-distance2-t c =
     (is_wanted args.t args.w args.s.now args.cells.now args.seen.now args.i args.low args.from args.j if3.false if4.false
     (sym (by_distance args.t args.w args.s.now args.cells.now args.seen.now args.i args.j pre.4 if2.false
     attr-at.result attr-at2.result distance2.result attr-at.ensures attr-at2.ensures distance2.ensures) ∙ if5.true))
-
 pub returns-else-distance2-t : goal.returns-else-distance2-t
 returns-else-distance2-t c =
     let args = c.args in
