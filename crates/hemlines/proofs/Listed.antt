@@ -8,7 +8,7 @@ use lib.ListN.{length, get_or}
 use Rattle.lists.specs.Lists.{span}
 use Rattle.lists.specs.Putting.{Room, Written}
 use Rattle.lists.proofs.Buckets.{length_span, span_at}
-use Rattle.lists.proofs.Listing.{Listing, listing_begins, listing_room, listing_turns, listing_ends}
+use Rattle.lists.proofs.Listing.{Listing, listing_room, listing_turns, listing_ends}
 use Rattle.hemlines.specs.HemLines.{hem_line, line_at, hem_lines}
 use Rattle.hemlines.specs.Working.{Beside}
 
@@ -17,7 +17,6 @@ pub record Hemming (ps es ls o o' : List ℕ) (at to k : ℕ) : Type 0 where
   pub listing : Listing (line_at ps es ls) (span 0 (length ps)) o o' at to k
 
 module _ (ps es ls o : List ℕ) (at : ℕ) where
-
   module _ (o' : List ℕ) (to k p e : ℕ) (h : k < length ps) (ep : p ≡ get_or ps k 0) (ee : e ≡ get_or es k 0) (n : Hemming ps es ls o o' at to k) where
     inside : k < length (span 0 (length ps))
     inside = omega (arith, length_span 0 (length ps))

@@ -7,7 +7,7 @@ use native.Mathlib.Omega.{arith}
 use lib.ListN.{length, get_or, set}
 use lib.IntN.{ℤ, pos}
 use Rattle.lists.proofs.Buckets.{length_table, table_at}
-use Rattle.lists.proofs.Writing.{Copying, copy_begins, copy_turns, copy_ends}
+use Rattle.lists.proofs.Writing.{Copying, copy_turns, copy_ends}
 use Rattle.lists.proofs.Copies.{sets_whole}
 use Rattle.little.specs.Little.{word}
 use Rattle.triples.specs.Triples.{coordinate_bytes, signed, coordinate_at, coordinates_in}
@@ -26,7 +26,6 @@ abbrev pub Putting : List ℕ → List ℤ → List ℤ → ℕ → Type 0
 Putting bytes out out' k = Copying (coordinates_in bytes (length out)) out out' 0 k
 
 module _ (bytes : List ℕ) (out : List ℤ) where
-
   pub putting_turns :
       (out' : List ℤ) (k w : ℕ) (z : ℤ) → k < length out' → w ≡ word bytes (coordinate_bytes * k) → z ≡ signed w → Putting bytes out out' k
       → Putting bytes out (set out' k z) (k + 1)
