@@ -8,8 +8,7 @@ use native.Mathlib.Nat.{add-zero, zero-add}
 use native.Mathlib.Numerals.{add-one}
 use native.Mathlib.Omega.{arith}
 use lib.Dec.{eqb}
-use lib.ListN.{length, get_or, take, drop, set, replicate, length-set, length-map, drop_of_length-le}
-use Rattle.lists.proofs.Buckets.{length_front}
+use lib.ListN.{length, get_or, take, drop, set, length-set, length-map, drop_of_length-le}
 use lib.Seq.{length-sets, length-take-le, drop-cons, get_or-set_same, get_or-set_other}
 use borrow.Author.Tests.{eqb-true, eqb-false}
 use Rattle.lists.specs.Lists.{has, count, sum, joined}
@@ -21,14 +20,13 @@ use Rattle.lists.proofs.Cutting.{parts_at, parts_back, length_parts}
 use Rattle.lists.proofs.Members.{in_append}
 use Rattle.lists.proofs.Parts.{sum_at, sum_step, some_append, length_joined}
 use Rattle.lists.proofs.Places.{has_get_d}
-use Rattle.mesh.specs.Limits.{face_limit}
 use Rattle.mesh.specs.Mesh.{Ring, rings}
 use Rattle.mesh.proofs.Faces.{length_rings}
 use Rattle.searching.specs.Walk.{Parted}
 use Rattle.panels.specs.Panels.{panels}
 use Rattle.panels.proofs.Panelled.{panels_once, panels_inside, panels_length, panels_count}
 use Rattle.hemlist.specs.HemList.{first_at, panel_of}
-use Rattle.labelled.specs.Labels.{Labelled, LabelRoom, LabelRows, PartRoom, PartsRoom, marked, labelled}
+use Rattle.labelled.specs.Labels.{Labelled, LabelRows, PartRoom, PartsRoom, marked, labelled}
 
 -- ---- one panel
 
@@ -121,20 +119,6 @@ pub record Marking (part : List ℕ) (j : ℕ) (out₀ out : List ℕ) (i : ℕ)
 module _ (part : List ℕ) (j : ℕ) (out₀ : List ℕ) where
   pub mark_begins : Marking part j out₀ out₀ 0
   mark_begins = record { rest = refl; long = refl }
-
-  pub mark_turns :
-      (out : List ℕ) (i x : ℕ) → i < length part → x ≡ get_or part i 0 → Marking part j out₀ out i → Marking part j out₀ (set out x j) (i + 1)
-  mark_turns out i x h e m = record {
-    rest =
-        ap (λ (k : ℕ). marked (drop k part) j (set out x j)) (add-one i)
-        ∙ ap (λ (k : ℕ). marked (drop (suc i) part) j (set out k j)) e
-        ∙ ap (λ (p : List ℕ). marked p j out) (sym (drop-cons part i 0 h))
-        ∙ m.rest;
-    long = length-set out x j ∙ m.long;
-  }
-
-  pub mark_ends : (out : List ℕ) (i : ℕ) → length part ≤ i → Marking part j out₀ out i → out ≡ marked part j out₀
-  mark_ends out i h m = ap (λ (p : List ℕ). marked p j out) (sym (drop_of_length-le part h)) ∙ m.rest
 
 -- the first j panels are labelled, and panel j starts at `from`
 pub record Labelling (flat lengths out₀ out : List ℕ) (from j : ℕ) : Type 0 where
@@ -258,6 +242,3 @@ module _ (cs s flat lengths out flat' lengths' : List ℕ) (faces count : ℕ)
       }
 
 -- ---- the fronts of rows of fixed length
-
-pub face_row : (cs s out : List ℕ) → LabelRoom cs s out → length (take {A = ℕ} (length s) (replicate face_limit 0)) ≡ length s
-face_row cs s out r = length_front 0 (length s) face_limit r.keyable.sound.few

@@ -1,6 +1,6 @@
 -- The hems of a flat list, measured one after the other: `Measuring` is the loop's invariant, with what begins, turns and ends it.
 -- Assumes nothing.
-use mathlib.Core.Path.{◌≡◌, refl, sym, ap, ◌∙◌, subst}
+use mathlib.Core.Path.{◌≡◌, sym, ap, ◌∙◌, subst}
 use mathlib.Core.List.{List, [], map}
 use Prim.Native.Nat.{ℕ, ◌+◌, ◌-◌, ◌≤◌, ◌<◌}
 use native.Mathlib.Nat.{zero-add}
@@ -13,7 +13,7 @@ use Rattle.lists.specs.Cutting.{parts}
 use Rattle.lists.proofs.Parts.{sum_step, sum_at}
 use Rattle.lists.proofs.Cutting.{length_parts, parts_at}
 use Rattle.lists.proofs.Changing.{map_at}
-use Rattle.lists.proofs.Writing.{Copying, copy_begins, copy_turns, copy_ends}
+use Rattle.lists.proofs.Writing.{Copying, copy_turns, copy_ends}
 use Rattle.hemlist.specs.HemList.{point_of, hem_length}
 use Rattle.measured.specs.Measured.{Measurable, Walkable}
 
@@ -25,9 +25,6 @@ pub record Measuring (flat edges : List ℕ) (cs : List ℤ) (o o' : List ℕ) (
 module _ (flat edges : List ℕ) (cs : List ℤ) (o : List ℕ) where
   abbrev lengths : List ℕ
   lengths = map (hem_length (point_of cs)) (parts edges flat)
-
-  pub measure_begins : Measuring flat edges cs o o 0 0
-  measure_begins = record { copying = copy_begins 0 lengths o 0; offset = refl }
 
   lengths_long : length lengths ≡ length edges
   lengths_long = length-map (parts edges flat) (hem_length (point_of cs)) ∙ length_parts edges flat

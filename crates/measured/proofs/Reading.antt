@@ -1,5 +1,5 @@
 -- A point as its coordinates are read, the length of the edge between two such points, and how long it can be. Assumes nothing.
-use mathlib.Core.Path.{◌≡◌, sym, ap₂, ◌∙◌, subst}
+use mathlib.Core.Path.{◌≡◌, ap₂, ◌∙◌}
 use mathlib.Core.List.{List}
 use Prim.Native.Nat.{ℕ, ◌+◌, ◌*◌, ◌≤◌, ◌<◌, ◌^◌}
 use native.Mathlib.Omega.{arith}
@@ -10,7 +10,7 @@ use mir.Syntax.{w32}
 use mir.Val.{of_z, to_z}
 use Rattle.mesh.specs.Limits.{point_width}
 use Rattle.roots.specs.Roots.{Root, root_of}
-use Rattle.roots.specs.Distances.{Point, apart_by, squared_distance, squared_limit, Reached}
+use Rattle.roots.specs.Distances.{Point, apart_by, squared_distance, squared_limit}
 use Rattle.roots.proofs.Signs.{read}
 use Rattle.roots.proofs.Distances.{spanned, squares_most}
 use Rattle.roots.proofs.Greatest.{root_of_lem, root_most}
@@ -36,9 +36,6 @@ module _ (cs : List ℤ) where
         read (get_or cs (point_width * p + 1) (pos 0)) (record { sfits = y }) i,
         read (get_or cs (point_width * p + 2) (pos 0)) (record { sfits = z }) i,
       )
-
-  pub reached_read : (p : ℕ) → point_read cs p ≡ point_of cs p → Placed cs p → Reached (point_read cs p)
-  reached_read p e w = subst Reached (sym e) w.reached
 
   -- the root that is found is the edge's length
   pub edge_read :

@@ -1,6 +1,6 @@
 -- A hem walked edge by edge, from each position to the one behind it in the ring, and the lengths added up: `Walking` is the loop's
 -- invariant, with what begins, turns and ends it. Assumes nothing.
-use mathlib.Core.Path.{◌≡◌, refl, ap, ◌∙◌}
+use mathlib.Core.Path.{◌≡◌, ap, ◌∙◌}
 use mathlib.Core.List.{List, map}
 use Prim.Native.Nat.{ℕ, ◌+◌, ◌*◌, ◌≤◌, ◌<◌, ◌^◌}
 use native.Mathlib.Omega.{arith}
@@ -30,9 +30,6 @@ pub record Walking (wire : List ℕ) (cs : List ℤ) (long i : ℕ) : Type 0 whe
   pub few : long ≤ longest_edge * i
 
 module _ (wire : List ℕ) (cs : List ℤ) where
-  pub walk_begins : Walking wire cs 0 0
-  walk_begins = record { within = omega arith; added = refl; few = omega arith }
-
   -- both ends of edge i have their points
   pub ends_placed :
       (i next p q : ℕ) → i < length wire → next < length wire → p ≡ get_or wire i 0 → q ≡ get_or wire next 0 → Walkable wire cs → Placed cs p × Placed cs q

@@ -15,6 +15,7 @@ pub fn is_far(a: i32) -> bool
 }
 
 // All of them, up to the first that is.
+#[tactic(auto, unfolding(hemlist::specs::HemList::beyond_reach))]
 pub fn beyond_reach(triples: &[i32]) -> bool
     ensures { result ≡ beyond_reach triples.now }
 {

@@ -1,23 +1,16 @@
 -- The difference of two signed numbers by the numbers from 0 that stand for them, and how large differences and squared distances
 -- get. Assumes nothing.
-use mathlib.Core.Path.{◌≡◌, refl, sym, ap, ap₂, ◌∙◌}
+use mathlib.Core.Path.{◌≡◌, refl}
 use mathlib.Core.Bool.{Bool, true, false, cond}
 use Prim.Native.Nat.{ℕ, zero, suc, ◌+◌, ◌-◌, ◌*◌, ◌≤◌, ◌<◌}
 use native.Mathlib.Nat.{mul-le-mul}
 use native.Mathlib.Omega.{arith}
 use lib.Dec.{ltb}
-use lib.IntN.{ℤ, pos, negsuc, nat_abs, neg_ℤ, sub_ℕ, ◌+ℤ◌, ◌-ℤ◌, +ℤ_assoc, +ℤ_comm, neg_ℤ-+ℤ, +ℤ-neg_ℤ_cancel}
+use lib.IntN.{ℤ, pos, negsuc, nat_abs, sub_ℕ}
 use borrow.Author.Tests.{ltb-true, ltb-false}
-use Rattle.roots.specs.Distances.{apart_by, Point, squares, squared_distance, Reached, Spanned, coordinate_limit, span_limit, squared_limit}
+use Rattle.roots.specs.Distances.{apart_by, Point, squares, Reached, Spanned, coordinate_limit, span_limit, squared_limit}
 
 -- ---- one difference
-
--- what is added to both does not matter
-shifted : (a b s : ℤ) → (a +ℤ s) -ℤ (b +ℤ s) ≡ a -ℤ b
-shifted a b s =
-    ap (λ (z : ℤ). (a +ℤ s) +ℤ z) (neg_ℤ-+ℤ b s ∙ +ℤ_comm (neg_ℤ b) (neg_ℤ s))
-    ∙ sym (+ℤ_assoc (a +ℤ s) (neg_ℤ s) (neg_ℤ b))
-    ∙ ap (λ (z : ℤ). z +ℤ neg_ℤ b) (+ℤ-neg_ℤ_cancel a s)
 
 gap : (m n : ℕ) → nat_abs (sub_ℕ m n) ≡ (m - n) + (n - m)
 gap m n = go (ltb m n) refl
@@ -25,15 +18,6 @@ gap m n = go (ltb m n) refl
     go : (b : Bool) → ltb m n ≡ b → nat_abs (cond b (negsuc (n - suc m)) (pos (m - n))) ≡ (m - n) + (n - m)
     go true q = let l : m < n = ltb-true m n q in omega arith
     go false q = let l : n ≤ m = ltb-false m n q in omega arith
-
-from_zero_apart : (p q : ℕ) → nat_abs (pos p -ℤ pos q) ≡ (p - q) + (q - p)
-from_zero_apart p zero = omega arith
-from_zero_apart p (suc k) = gap p (suc k)
-
--- two numbers by those that stand for them, s more each
-pub apart_shifted : (a b s : ℤ) (p q : ℕ) → pos p ≡ a +ℤ s → pos q ≡ b +ℤ s → apart_by a b ≡ (p - q) + (q - p)
-apart_shifted a b s p q x y =
-    ap nat_abs (sym (shifted a b s) ∙ ap₂ (λ (m n : ℤ). m -ℤ n) (sym x) (sym y)) ∙ from_zero_apart p q
 
 -- no further than both from 0
 pub apart_most : (a b : ℤ) → apart_by a b ≤ nat_abs a + nat_abs b
@@ -67,16 +51,3 @@ squares_most x y z s =
     let b : y * y ≤ span_limit * span_limit = square_most y s.second in
     let c : z * z ≤ span_limit * span_limit = square_most z s.third in
     omega arith
-
--- by numbers that are equal to the differences
-module _ (a b : Point) (x y z : ℕ) (p : x ≡ apart_by a.0 b.0) (q : y ≡ apart_by a.1 b.1) (r : z ≡ apart_by a.2 b.2) where
-  pub spanned_by : Reached a → Reached b → Spanned x y z
-  spanned_by m n =
-      let s : Spanned (apart_by a.0 b.0) (apart_by a.1 b.1) (apart_by a.2 b.2) = spanned a b m n in
-      let f : _ = s.first in
-      let g : _ = s.second in
-      let h : _ = s.third in
-      record { first = omega arith; second = omega arith; third = omega arith }
-
-  pub squares_by : squares x y z ≡ squared_distance a b
-  squares_by = λ i. squares (p i) (q i) (r i)

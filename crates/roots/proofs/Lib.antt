@@ -1,4 +1,3 @@
 pub mod Greatest
-pub mod Halved
 pub mod Signs
 pub mod Distances

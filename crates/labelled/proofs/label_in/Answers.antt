@@ -1,6 +1,5 @@
 -- `labelled::label_in` meets its contract: the panels are listed, then their faces are labelled. Assumes nothing.
 use Rattle.labelled.proofs.Labels.{count_within, count_taken, panels_room, labels_done}
-use borrow.Author.Rules.{rules}
 use Rattle.labelled.proofs.label_in.Goals as goal
 
 pub slice_bounds-label_panels-end : goal.slice_bounds-label_panels-end

@@ -1,9 +1,5 @@
 -- `labelled::label_panel` meets its contract: after i faces these are labelled. Assumes nothing.
-use Prim.Native.Nat.{◌-◌}
-use lib.ListN.{length}
-use Rattle.labelled.proofs.Labels.{Marking, mark_turns, mark_ends}
-use borrow.Author.Rules.{rules}
-use native.Mathlib.Omega.{arith}
+use Rattle.labelled.proofs.Labels.{Marking}
 use Rattle.labelled.proofs.label_panel.Given as goal
 
 abbrev pub invariant-loop-x : goal.invariant-loop-x

@@ -1,9 +1,5 @@
 -- `labelled::label_panels` meets its contract: the faces of the first j panels are labelled, and panel j starts at `from`. Assumes nothing.
-use Prim.Native.Nat.{◌-◌}
-use lib.ListN.{length}
-use Rattle.labelled.proofs.Labels.{Labelling, label_within, label_room, label_turns, label_ends}
-use borrow.Author.Rules.{rules}
-use native.Mathlib.Omega.{arith}
+use Rattle.labelled.proofs.Labels.{Labelling}
 use Rattle.labelled.proofs.label_panels.Given as goal
 
 abbrev pub invariant-loop-j : goal.invariant-loop-j

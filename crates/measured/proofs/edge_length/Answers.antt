@@ -2,19 +2,8 @@
 -- Assumes nothing.
 use mathlib.Core.List.{List}
 use lib.IntN.{ℤ}
-use borrow.Author.Rules.{rules}
-use Rattle.measured.proofs.Reading.{point_read_lem, reached_read, edge_read}
+use Rattle.measured.proofs.Reading.{point_read_lem, edge_read}
 use Rattle.measured.proofs.edge_length.Goals as goal
-
-pub length_between-requires : goal.length_between-requires
-length_between-requires c =
-    let w = c.requires in
-    let cs : List ℤ = c.args.triples.now in
-    let p = c.args.p in
-    let q = c.args.q in
-    let start = point_read_lem cs p c.ax-1.given c.ay-1.given c.az-1.given in
-    let end = point_read_lem cs q c.bx-1.given c.by-1.given c.bz-1.given in
-    (reached_read cs p start w.0, reached_read cs q end w.1)
 
 pub returns : goal.returns
 returns c =

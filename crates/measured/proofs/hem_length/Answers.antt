@@ -1,17 +1,8 @@
 -- `measured::hem_length` meets its contract: the lengths of the first i edges are added up, and i rises to all of them. Assumes nothing.
-use Prim.Native.Nat.{◌-◌}
-use lib.ListN.{length}
 use Rattle.std.proofs.Common.{refl}
 use native.Mathlib.Omega.{arith}
-use Rattle.measured.proofs.Walking.{Walking, walk_begins, ends_placed, walk_fits, walk_turns, walk_ends}
+use Rattle.measured.proofs.Walking.{walk_fits, walk_turns, walk_ends}
 use Rattle.measured.proofs.hem_length.Goals as goal
-
-pub loop-i-init : goal.loop-i-init
-loop-i-init c = walk_begins _ _
-
-pub edge_length-long-requires : goal.edge_length-long-requires
-edge_length-long-requires c =
-    ends_placed _ _ _ _ _ _ (omega arith) c.next_of.ensures.1 refl refl c.requires
 
 pub overflow_add-long : goal.overflow_add-long
 overflow_add-long c =

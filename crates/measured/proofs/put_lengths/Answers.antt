@@ -1,18 +1,12 @@
 -- `measured::put_lengths` meets its contract: the lengths of the first k hems are put, `from` is where hem k starts, and k rises to all of
 -- them. Assumes nothing.
-use Prim.Native.Nat.{◌-◌}
-use lib.ListN.{length}
-use Rattle.std.proofs.Common.{refl}
 use native.Mathlib.Omega.{arith}
-use Rattle.measured.proofs.Measuring.{Measuring, measure_begins, hem_within, hem_walkable, measure_turns, measure_ends}
+use Rattle.measured.proofs.Measuring.{hem_within, hem_walkable, measure_turns, measure_ends}
 use Rattle.measured.proofs.put_lengths.Goals as goal
-
-pub loop-k-init : goal.loop-k-init
-loop-k-init c = measure_begins _ _ _ _
 
 pub overflow_add-end : goal.overflow_add-end
 overflow_add-end c =
-    omega (arith, hem_within _ _ _ _ c.requires _ _ _ (omega arith) c.loop-k.invariant, refl, c.well_formed.0)
+    omega (arith, hem_within _ _ _ _ c.requires _ _ _ (omega arith) c.loop-k.invariant, c.well_formed.0)
 
 pub offset_bounds-flat-from : goal.offset_bounds-flat-from
 offset_bounds-flat-from c =
@@ -20,22 +14,15 @@ offset_bounds-flat-from c =
 
 pub slice_bounds-hem_length-end : goal.slice_bounds-hem_length-end
 slice_bounds-hem_length-end c =
-    omega (arith, hem_within _ _ _ _ c.requires _ _ _ (omega arith) c.loop-k.invariant, refl)
+    omega (arith, hem_within _ _ _ _ c.requires _ _ _ (omega arith) c.loop-k.invariant)
 
 pub hem_length-requires : goal.hem_length-requires
 hem_length-requires c =
-    rw refl (hem_walkable _ _ _ _ c.requires _ _ _ (omega arith) c.loop-k.invariant)
-
-pub bounds-out-k : goal.bounds-out-k
-bounds-out-k c =
-    omega (arith, c.requires.room, (omega arith), c.loop-k.invariant.copying.long)
+    hem_walkable _ _ _ _ c.requires _ _ _ (omega arith) c.loop-k.invariant
 
 pub loop-k-preserved : goal.loop-k-preserved
 loop-k-preserved c =
-    measure_turns _ _ _ _ c.requires _ _ _ (omega arith) c.loop-k.invariant _ _ (omega (arith, refl)) (rw refl at c.hem_length.ensures)
-
-pub shape_of-out : goal.shape_of-out
-shape_of-out c = c.loop-k.invariant.copying.long
+    measure_turns _ _ _ _ c.requires _ _ _ (omega arith) c.loop-k.invariant _ _ (omega arith) (c.hem_length.ensures)
 
 pub returns : goal.returns
 returns c = measure_ends _ _ _ _ _ _ _ (omega arith) c.loop-k.invariant
