@@ -6,7 +6,7 @@ use Prim.Native.Nat.{ℕ, ◌+◌, ◌*◌, ◌≤◌, ◌<◌}
 use native.Mathlib.Nat.{add-zero}
 use native.Mathlib.Omega.{arith}
 use lib.ListN.{length, get_or, set, take, length-append}
-use lib.Seq.{sets, length-sets, take_all, length-take-le}
+use lib.Seq.{sets, length-sets, length-take-le}
 use borrow.Author.Tests.{eq-eqb, ne_eqb}
 use Rattle.lists.specs.Lists.{keep_if, only}
 use Rattle.lists.proofs.Only.{only_step, only_length}
@@ -96,6 +96,3 @@ module _ {cs twins order starts₀ kept₀ : List ℕ} where
         kept_are =
             subst (λ (l : List ℕ). Kept cs l starts₀ kept₀ 0 starts' kept' r) (sym (only_step (alone twins) 0 order i h)) (kept_joins k.kept_are w);
       }
-
-    pub keep_ends : length order ≤ i → Kept cs (hem_places twins order) starts₀ kept₀ 0 starts kept m
-    keep_ends h = subst (λ (l : List ℕ). Kept cs (hem_places twins l) starts₀ kept₀ 0 starts kept m) (take_all i order h) k.kept_are

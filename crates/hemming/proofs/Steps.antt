@@ -11,9 +11,9 @@ use Rattle.lists.proofs.Only.{only_length}
 use Rattle.sorting.specs.Sorting.{sorted_by}
 use Rattle.sorting.proofs.Laws.{sorted_length}
 use Rattle.tracing.specs.Hems.{Written}
-use Rattle.crossing.specs.Crossing.{after_row, follow_row, alone, FollowRoom}
+use Rattle.crossing.specs.Crossing.{after_row, alone, FollowRoom}
 use Rattle.trailing.specs.Trailing.{wires_by, AllLeft}
-use Rattle.hemming.specs.Rows.{twins_of, Turnable, TurnedBy, hem_places, Kept, by_start, wires_from, Beginning, wires_in, Traceable}
+use Rattle.hemming.specs.Rows.{twins_of, Turnable, hem_places, Kept, by_start, wires_from, Beginning, wires_in, Traceable}
 
 -- ---- how a hem turns
 
@@ -22,9 +22,6 @@ module _
     (t : twins' ≡ twins_of l h order twins) where
   pub follow_room : FollowRoom after' twins' d
   follow_room = rw (a, t) (record { rows = p.crossable; room = p.follow_room })
-
-  pub turned_by : {d' : List ℕ} → d' ≡ follow_row after' twins' → TurnedBy s l h order twins d' after' twins'
-  turned_by f = record { after_is = a; twins_are = t; follows_are = f ∙ rw (a, t) }
 
 -- ---- the order by start, and the wires from the places in it
 

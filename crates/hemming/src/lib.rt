@@ -107,10 +107,8 @@ fn keep_hems(
         starts.old kept.old 0 starts.new kept.new result }
 {
     let mut m: usize = 0;
-    let mut i: usize = 0;
-    while i < order.len() {
-        m = keep_hem(corners, twins, order[i], starts, kept, m);
-        i += 1;
+    for place in order {
+        m = keep_hem(corners, twins, *place, starts, kept, m);
     }
     m
 }
@@ -128,7 +126,7 @@ fn keep_hem(
     ensures { Kept corners.now (hem_places twins.now (place ∷ []))
         starts.old kept.old m starts.new kept.new result }
 {
-    let u = lists::wide(place);
+    let u = place as usize;
     if twins[u] != place {
         return m;
     }
