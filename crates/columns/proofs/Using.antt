@@ -2,7 +2,7 @@
 -- Assumes nothing.
 use mathlib.Core.Path.{◌≡◌, refl, sym, ap, ap₂, ◌∙◌, subst}
 use mathlib.Core.Logic.{⊎_elim}
-use mathlib.Core.Bool.{Bool, true, false, cond}
+use mathlib.Core.Bool.{Bool, cond}
 use mathlib.Core.List.{List, [], ◌∷◌, ◌++◌, append-nil, append_assoc, map, map-map, map-append}
 use Prim.Native.Nat.{ℕ, zero, suc, ◌+◌, ◌*◌, ◌/◌, ◌≤◌, ◌<◌}
 use native.Mathlib.Nat.{add-zero, zero-add, suc-add, add-suc, not-suc-le-zero, le_of_suc-le-suc}
@@ -10,13 +10,13 @@ use native.Mathlib.Numerals.{add-one}
 use native.Mathlib.Omega.{arith}
 use lib.ListN.{length, get_or, take, set, length-append, length-map, get_or-append}
 use lib.Seq.{sets, length-sets, take-suc, take-length, get_or-append-add}
-use borrow.Author.Tests.{lt-ltb, le-ltb, eq-eqb, ne_eqb}
+use borrow.Author.Tests.{lt-ltb, le-ltb}
 use Rattle.lists.specs.Lists.{span, sum}
 use Rattle.lists.proofs.Writing.{sets_append, Copying, copy_turns, copy_ends}
 use Rattle.lists.proofs.Copies.{sets_whole}
 use Rattle.lists.proofs.Buckets.{lt_or_ge, table_at, table_ext}
 use Rattle.mesh.specs.Limits.{width, corner_numbers}
-use Rattle.mesh.specs.Mesh.{Corner, Ring, missing, corners_in, rings, corner_at}
+use Rattle.mesh.specs.Mesh.{Corner, Ring, corners_in, rings, corner_at}
 use Rattle.mesh.specs.Face.{offset_of, face_of, Sound}
 use Rattle.mesh.proofs.Corners.{length-corners_in, get_or-corners_in}
 use Rattle.mesh.proofs.Faces.{face_length, face_fits, offset_step, length_rings, get_or-rings}
@@ -212,46 +212,6 @@ module _ (normals : Bool) (which : ℕ) (cs s out₀ : List ℕ) where
       record { whole = omega arith; few = omega arith; room = omega arith }
 
 -- ---- one number
-
-module _ (which lower higher n m face : ℕ) where
-  pub chosen_lower : which ≡ 0 → lower ≡ chosen which lower higher n m face
-  unfolding chosen
-  chosen_lower e = sym (ap (λ (w : ℕ). chosen w lower higher n m face) e)
-
-  pub chosen_higher : which ≡ 1 → higher ≡ chosen which lower higher n m face
-  unfolding chosen
-  chosen_higher e = sym (ap (λ (w : ℕ). chosen w lower higher n m face) e)
-
-  pub chosen_lower_normal : which ≡ 2 → n ≡ chosen which lower higher n m face
-  unfolding chosen
-  chosen_lower_normal e = sym (ap (λ (w : ℕ). chosen w lower higher n m face) e)
-
-  pub chosen_higher_normal : which ≡ 3 → m ≡ chosen which lower higher n m face
-  unfolding chosen
-  chosen_higher_normal e = sym (ap (λ (w : ℕ). chosen w lower higher n m face) e)
-
-pub chosen_face :
-    (which lower higher n m face : ℕ) → (which ≡ 0 → ⊥) → (which ≡ 1 → ⊥) → (which ≡ 2 → ⊥) → (which ≡ 3 → ⊥)
-    → face ≡ chosen which lower higher n m face
-unfolding chosen
-chosen_face zero lower higher n m face a b c d = absurd (a refl)
-chosen_face (suc zero) lower higher n m face a b c d = absurd (b refl)
-chosen_face (suc (suc zero)) lower higher n m face a b c d = absurd (c refl)
-chosen_face (suc (suc (suc zero))) lower higher n m face a b c d = absurd (d refl)
-chosen_face (suc (suc (suc (suc which)))) lower higher n m face a b c d = refl
-
--- a normal that is not looked at, that is missing, that is there
-pub digit_off : (normals : Bool) (n : ℕ) → normals ≡ false → 1 ≡ normal_digit (cond normals n 0)
-unfolding normal_digit
-digit_off normals n e = rw e
-
-pub digit_missing : (normals : Bool) (n : ℕ) → normals ≡ true → n ≡ missing → 0 ≡ normal_digit (cond normals n 0)
-unfolding normal_digit
-digit_missing normals n e h = rw (e, eq-eqb n missing h)
-
-pub digit_there : (normals : Bool) (n : ℕ) → normals ≡ true → (n ≡ missing → ⊥) → n + 1 ≡ normal_digit (cond normals n 0)
-unfolding normal_digit
-digit_there normals n e h = rw (e, ne_eqb n missing h)
 
 -- the edge from corner j to the one behind it, b: by which position is lower
 module _ (normals : Bool) (which k : ℕ) (part : List ℕ) (j b n m r : ℕ) (e : b ≡ next_of j (length part / width)) where

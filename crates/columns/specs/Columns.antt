@@ -70,19 +70,10 @@ pub record Digits (normals : Bool) (fs : List Ring) (lower higher n m : List ℕ
   pub n_is : n ≡ column normals 2 fs
   pub m_is : m ≡ column normals 3 fs
 
--- so many uses count as few
-abbrev pub few_uses : ℕ
-few_uses = 512
-
 -- room for one number for each use
 pub record FirstRoom (cs s firsts : List ℕ) : Type 0 where
   pub keyable : Keyable cs s
   pub room : length firsts ≡ length cs / width
-
--- and few of them
-pub record FewRoom (cs s firsts : List ℕ) : Type 0 where
-  pub first : FirstRoom cs s firsts
-  pub few : length cs / width ≤ few_uses
 
 -- and rows beside it, of one number for each use
 pub record KeyRows (cs s lower higher n m order firsts : List ℕ) : Type 0 where

@@ -48,12 +48,10 @@ pub fn put_column(corners: &[u32], sizes: &[u32], normals: bool, which: u32, out
     ensures { out.new ≡ column normals which (rings sizes.now corners.now) }
 {
     let mut at: usize = 0;
-    let mut k: usize = 0;
-    while k < sizes.len() {
+    for k in 0..sizes.len() {
         let part = mesh::face_at(corners, sizes, k, at);
         put_face(part, k as u32, normals, which, out, at);
         at += part.len() / mesh::WIDTH;
-        k += 1;
     }
 }
 
@@ -63,10 +61,8 @@ fn put_face(part: &[u32], face: u32, normals: bool, which: u32, out: &mut [u32],
     ensures { out.new ≡ sets out.old at (map (entry_of which) (face_uses normals face (corners_in part.now))) }
 {
     let n = part.len() / mesh::WIDTH;
-    let mut j: usize = 0;
-    while j < n {
+    for j in 0..n {
         out[at + j] = edge_entry(part, j, face, normals, which);
-        j += 1;
     }
 }
 
@@ -90,6 +86,7 @@ fn edge_entry(part: &[u32], j: usize, face: u32, normals: bool, which: u32) -> u
 }
 
 // A normal index as a digit; without the normals setting it is not looked at, and all count as the first.
+#[tactic(auto, unfolding(crate::specs::Columns::normal_digit))]
 fn normal_digit(normal: u32, normals: bool) -> u32
     ensures { result ≡ normal_digit (cond normals normal 0) }
 {
@@ -102,20 +99,16 @@ fn normal_digit(normal: u32, normals: bool) -> u32
     normal + 1
 }
 
+// The number for column `which`.
+#[tactic(auto, unfolding(crate::specs::Columns::chosen))]
 fn choose(which: u32, lower: u32, higher: u32, n: u32, m: u32, face: u32) -> u32
     ensures { result ≡ chosen which lower higher n m face }
 {
-    if which == LOWER {
-        return lower;
+    match which {
+        LOWER => lower,
+        HIGHER => higher,
+        LOWER_NORMAL => n,
+        HIGHER_NORMAL => m,
+        _ => face,
     }
-    if which == HIGHER {
-        return higher;
-    }
-    if which == LOWER_NORMAL {
-        return n;
-    }
-    if which == HIGHER_NORMAL {
-        return m;
-    }
-    face
 }
