@@ -12,7 +12,7 @@ use Rattle.mesh.specs.Limits.{width, corner_limit, corner_numbers}
 use Rattle.mesh.specs.Mesh.{Ring, rings}
 use Rattle.mesh.specs.Edges.{ring_edges}
 use Rattle.columns.specs.Keys.{key_of, face_keys, Use, uses_from, use_faces, FirstUses}
-use Rattle.columns.specs.Columns.{Keyable, few_uses, FewRoom, chosen, entry_of, column, face_uses, Digits}
+use Rattle.columns.specs.Columns.{Keyable, chosen, entry_of, column, face_uses, Digits}
 use Rattle.keys.specs.Firsts.{KeyColumns, Plain, TwoRows, Marked}
 use Rattle.keys.proofs.Valid.{good_key, uses_good, faces_good, key_columns, key_plain, same_key, uses_corners}
 
@@ -109,6 +109,3 @@ faces_column fs = refl
 
 pub corner_row : (cs s : List ℕ) → Keyable cs s → length (take {A = ℕ} (length cs / width) (replicate corner_limit 0)) ≡ length cs / width
 corner_row cs s k = length_front 0 (length cs / width) corner_limit (let a : length cs ≤ corner_numbers = k.sound.fits in omega arith)
-
-pub few_row : (cs s firsts : List ℕ) → FewRoom cs s firsts → length (take {A = ℕ} (length cs / width) (replicate few_uses 0)) ≡ length cs / width
-few_row cs s firsts f = length_front 0 (length cs / width) few_uses f.few

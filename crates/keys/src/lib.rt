@@ -5,10 +5,11 @@
 // of it is linear: no use is looked for.
 #![tactic(auto)]
 
-ghost use Rattle.std.specs.Prelude.{◌≡◌};
+ghost use Rattle.std.specs.Prelude.{◌≡◌, ◌/◌, ◌≤◌, length};
+ghost use Rattle.mesh.specs.Limits.{width, corner_limit};
 ghost use Rattle.mesh.specs.Mesh.{rings};
 ghost use Rattle.columns.specs.Keys.{uses_from, use_faces, FirstUses};
-ghost use Rattle.columns.specs.Columns.{ColumnRoom, FirstRoom, FewRoom, KeyRows};
+ghost use Rattle.columns.specs.Columns.{ColumnRoom, FirstRoom, KeyRows};
 
 pub mod firsts;
 
@@ -22,44 +23,24 @@ pub fn first_uses(corners: &[u32], sizes: &[u32], normals: bool, firsts: &mut [u
     ensures { FirstUses (uses_from normals 0 (rings sizes.now corners.now)) firsts.new }
 {
     if corners.len() / mesh::WIDTH <= FEW_USES {
-        first_of_few(corners, sizes, normals, firsts);
+        first_with::<FEW_USES>(corners, sizes, normals, firsts);
     } else {
-        first_of_many(corners, sizes, normals, firsts);
+        first_with::<{ mesh::CORNERS }>(corners, sizes, normals, firsts);
     }
 }
 
-fn first_of_few(corners: &[u32], sizes: &[u32], normals: bool, firsts: &mut [u32])
-    requires { FewRoom corners.now sizes.now firsts.old }
+// The same, with room for `N` uses in each row.
+fn first_with<const N: usize>(corners: &[u32], sizes: &[u32], normals: bool, firsts: &mut [u32])
+    requires first { FirstRoom corners.now sizes.now firsts.old }
+    requires few { length corners.now / width ≤ N }
+    requires room { N ≤ corner_limit }
     ensures { FirstUses (uses_from normals 0 (rings sizes.now corners.now)) firsts.new }
 {
-    let mut lower = [0u32; FEW_USES];
-    let mut higher = [0u32; FEW_USES];
-    let mut n = [0u32; FEW_USES];
-    let mut m = [0u32; FEW_USES];
-    let mut order = [0u32; FEW_USES];
-    let u = corners.len() / mesh::WIDTH;
-    first_uses_in(
-        corners,
-        sizes,
-        normals,
-        &mut lower[..u],
-        &mut higher[..u],
-        &mut n[..u],
-        &mut m[..u],
-        &mut order[..u],
-        firsts,
-    );
-}
-
-fn first_of_many(corners: &[u32], sizes: &[u32], normals: bool, firsts: &mut [u32])
-    requires { FirstRoom corners.now sizes.now firsts.old }
-    ensures { FirstUses (uses_from normals 0 (rings sizes.now corners.now)) firsts.new }
-{
-    let mut lower = [0u32; mesh::CORNERS];
-    let mut higher = [0u32; mesh::CORNERS];
-    let mut n = [0u32; mesh::CORNERS];
-    let mut m = [0u32; mesh::CORNERS];
-    let mut order = [0u32; mesh::CORNERS];
+    let mut lower = [0u32; N];
+    let mut higher = [0u32; N];
+    let mut n = [0u32; N];
+    let mut m = [0u32; N];
+    let mut order = [0u32; N];
     let u = corners.len() / mesh::WIDTH;
     first_uses_in(
         corners,
