@@ -1,16 +1,11 @@
 -- A point: its three coordinates, and one after the other up to one that is not finite. Assumes nothing.
 use mathlib.Core.Path.{◌≡◌, sym, ap, ◌∙◌}
-use mathlib.Core.Bool.{Bool, true, false, not, ◌&&◌, and-true}
 use mathlib.Core.List.{List, [], ◌∷◌}
 use Prim.Native.Nat.{ℕ, ◌+◌, ◌*◌, ◌<◌}
 use lib.Ieee.{Float}
-use borrow.Author.Tests.{not-true, not-false}
-use Rattle.floating.specs.Limits.{finite}
 use Rattle.little.specs.Little.{word_values, word}
 use Rattle.scanned.specs.Scan.{coordinate_bytes, plain, point, point_from, widened, coordinates_of}
 use Rattle.scanned.proofs.Points.{coordinates_point}
-
-module _ (x y z : Float) where
 
 -- ---- a point of the file, from the bits of its coordinates
 

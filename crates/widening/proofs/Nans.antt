@@ -1,11 +1,10 @@
 -- The f32 of 32 bits as an f64: which bits stand for a NaN, and that any other fits. Assumes nothing.
 use mathlib.Core.Path.{◌≡◌, refl, sym, ◌∙◌}
-use mathlib.Core.Bool.{Bool, true, false, not, ◌&&◌}
+use mathlib.Core.Bool.{Bool, true, false, not}
 use Prim.Native.Nat.{ℕ, ◌%◌, ◌<◌, ◌≤◌}
 use lib.Dec.{T, ltb, lt→ltb}
-use lib.Ieee.{Float, nan, inf, fin, binary32, binary64, of_bits, is_nan, fits, nan_bits}
-use lib.Ieee.Bits.{is_true, nan_bits_is, nan_bits_above, of_bits-fits}
-use lib.Ieee.Fits.{and_i, fits_widens}
+use lib.Ieee.{Float, nan, inf, fin, binary32, of_bits, is_nan, nan_bits}
+use lib.Ieee.Bits.{is_true, nan_bits_is, nan_bits_above}
 use borrow.Author.Tests.{le-ltb}
 
 nan_of : (x : Float) → is_nan x ≡ true → x ≡ nan

@@ -1,6 +1,5 @@
 -- `widening::half_from` meets its contract: of three coordinates, half of the bits. Assumes nothing.
 use Rattle.widening.proofs.Halves.{upper_is, lower_is}
-use borrow.Author.Rules.{rules}
 use Rattle.widening.proofs.half_from.Goals as goal
 
 pub returns-then-upper : goal.returns-then-upper

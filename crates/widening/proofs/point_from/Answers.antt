@@ -1,6 +1,5 @@
 -- `widening::point_from` meets its contract: three coordinates, each widened. Assumes nothing.
 use Rattle.widening.proofs.Finite.{point_made}
-use borrow.Author.Rules.{rules}
 use Rattle.widening.proofs.point_from.Goals as goal
 
 pub returns : goal.returns

@@ -2,7 +2,6 @@
 use mathlib.Core.Path.{sym, ◌∙◌}
 use Rattle.floating.proofs.Nans.{nan_made}
 use Rattle.widening.proofs.Nans.{special, made}
-use borrow.Author.Rules.{rules}
 use Rattle.widening.proofs.widened.Goals as goal
 
 pub returns-then-n-gt-INFINITY : goal.returns-then-n-gt-INFINITY
@@ -10,4 +9,3 @@ returns-then-n-gt-INFINITY c = nan_made ∙ sym (special _ c.if-n-gt-INFINITY.tr
 
 pub float_from_bits-result : goal.float_from_bits-result
 float_from_bits-result c = made _ c.if-n-gt-INFINITY.false
-
