@@ -1,16 +1,12 @@
 -- Marks by the lower and by the upper half make marks by the point. Assumes nothing.
 use mathlib.Core.Path.{◌≡◌, refl, sym, ap, ◌∙◌}
 use mathlib.Core.Logic.{⊎_elim}
-use mathlib.Core.Bool.{true, false, ◌&&◌}
+use mathlib.Core.Bool.{true, false}
 use mathlib.Core.List.{List}
 use Prim.Native.Nat.{ℕ, ◌/◌, ◌%◌, ◌≤◌, ◌<◌}
 use native.Mathlib.Omega.{arith}
-use lib.Dec.{eqb}
 use lib.ListN.{length, get_or}
-use borrow.Author.Tests.{eqb-true, eq-eqb}
-use Rattle.lists.proofs.Bools.{and_left, and_right, and_both}
 use Rattle.lists.proofs.Buckets.{lt_or_ge}
-use Rattle.lists.proofs.Counting.{clash}
 use Rattle.columns.specs.Columns.{normal_digit}
 use Rattle.sorting.specs.Sorting.{key_limit}
 use Rattle.keys.specs.Firsts as keys
@@ -33,10 +29,6 @@ module _ (key : ℕ → ℕ) (u : ℕ) (fs : List ℕ) (m : MarkedBy key u fs) w
       (λ l. absurd (not_before x y h i e l))
       (λ g. ⊎_elim (λ l. absurd (not_before y x i h (sym e) l)) (λ k. omega arith) (lt_or_ge (get_or fs y 0) (get_or fs x 0)))
       (lt_or_ge (get_or fs x 0) (get_or fs y 0))
-
-  -- a mark is one of the marked
-  pub mark_below : (x : ℕ) → x < u → get_or fs x 0 < u
-  mark_below x h = let l : get_or fs x 0 ≤ x = (m.first x h).upto in omega arith
 
 -- ---- a point by its halves
 
@@ -96,31 +88,3 @@ module _ (low high alike order firsts : List ℕ) (r : AlikeRoom low high alike 
         plain = λ e x h. (r.alike_is x (omega arith), r.alike_is x (omega arith));
         spare_long = sym o;
       }
-
-  pub pairs_marked : (firsts' : List ℕ) → keys.Marked low high alike alike (length order) firsts' → FirstPairs low high (length firsts) firsts'
-  pairs_marked firsts' m =
-      let o : length order ≡ length firsts = r.order_long in
-      record {
-        long = m.long ∙ o;
-        first = λ x h.
-            let f = m.first x (omega arith) in
-            let g = get_or firsts' x 0 in
-            let l : g ≤ x = f.upto in
-            let el = eqb (get_or low x 0) (get_or low g 0) in
-            let eh = eqb (get_or high x 0) (get_or high g 0) in
-            let ea = eqb (get_or alike x 0) (get_or alike g 0) in
-            let s : (el && eh) ≡ true = and_left (el && eh) ea (and_left (el && eh && ea) ea f.same) in
-            record {
-              upto = l;
-              same_low = eqb-true _ _ (and_left el eh s);
-              same_high = eqb-true _ _ (and_right el eh s);
-              none = λ y i a b. clash (pair_same x y h (omega arith) a b) (f.none y i);
-            };
-      }
-    where
-      pair_same :
-          (x y : ℕ) → x < length firsts → y < length firsts → get_or low x 0 ≡ get_or low y 0 → get_or high x 0 ≡ get_or high y 0
-          → keys.same_use low high alike alike x y ≡ true
-      pair_same x y h i a b =
-          let e : eqb (get_or alike x 0) (get_or alike y 0) ≡ true = eq-eqb _ _ (r.alike_is x h ∙ sym (r.alike_is y i)) in
-          and_both _ _ (and_both _ _ (and_both _ _ (eq-eqb _ _ a) (eq-eqb _ _ b)) e) e

@@ -1,15 +1,14 @@
 -- A half is told by its four digits, and so the marks of a sort by them are marks by half. Assumes nothing.
-use mathlib.Core.Path.{◌≡◌, refl, sym, ap, ◌∙◌}
+use mathlib.Core.Path.{◌≡◌, sym, ap, ◌∙◌}
 use mathlib.Core.Bool.{true, ◌&&◌}
 use mathlib.Core.List.{List}
 use Prim.Native.Nat.{ℕ, ◌≤◌, ◌<◌}
 use native.Mathlib.Omega.{arith}
 use lib.Dec.{eqb}
-use lib.ListN.{length, get_or}
+use lib.ListN.{get_or}
 use borrow.Author.Tests.{eqb-true, eq-eqb}
 use Rattle.lists.proofs.Bools.{and_left, and_right, and_both}
 use Rattle.lists.proofs.Counting.{clash}
-use Rattle.mesh.specs.Limits.{corner_limit}
 use Rattle.keys.specs.Firsts as keys
 use Rattle.widening.specs.Halves.{half_points}
 use Rattle.matching.specs.Marks.{MarkedBy}
@@ -73,19 +72,3 @@ module _ (key : ℕ → ℕ) (u : ℕ) (a b c d : List ℕ) (r : HalfColumns key
           none = λ y i e. clash (half_same x y h (omega arith) e) (f.none y i);
         };
   }
-
--- the columns of digits can be sorted
-pub columns_sort :
-    (key : ℕ → ℕ) (u : ℕ) (a b c d order firsts : List ℕ) → u ≤ corner_limit → HalfColumns key u a b c d → length order ≡ u → length firsts ≡ u
-    → keys.TwoRows true a b c d order firsts
-columns_sort key u a b c d order firsts few r lo lf = record {
-  columns = record {
-    few = omega arith;
-    of_lower = record { long = r.a_long ∙ sym lo; below = λ x h. (let e : get_or a x 0 ≡ lowest (key x) = (r.digits x (omega arith)).in_a in omega arith) };
-    of_higher = record { long = r.b_long ∙ sym lo; below = λ x h. (let e : get_or b x 0 ≡ lowest (above (key x)) = (r.digits x (omega arith)).in_b in omega arith) };
-    of_n = record { long = r.c_long ∙ sym lo; below = λ x h. (let e : get_or c x 0 ≡ lowest (above (above (key x))) = (r.digits x (omega arith)).in_c in omega arith) };
-    of_m = record { long = r.d_long ∙ sym lo; below = λ x h. (let e : get_or d x 0 ≡ lowest (above (above (above (key x)))) = (r.digits x (omega arith)).in_d in omega arith) };
-  };
-  plain = λ e. clash (sym e) refl;
-  spare_long = lf ∙ sym lo;
-}

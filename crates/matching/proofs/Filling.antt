@@ -11,7 +11,7 @@ use borrow.Author.Tests.{eqb-true, eqb-false}
 use Rattle.lists.proofs.Bools.{by_cases}
 use Rattle.scanned.specs.Scan.{point_place, point_from, point_at}
 use Rattle.widening.specs.Halves.{half_points, half_of}
-use Rattle.matching.specs.Steps.{lowest, above, half_at, DigitsAt, HalfColumns, DigitsPut}
+use Rattle.matching.specs.Steps.{lowest, above, half_at, DigitsAt, DigitsPut}
 
 -- the digits of the first k keys stand there
 pub record Filling (key : ℕ → ℕ) (u : ℕ) (a b c d : List ℕ) (k : ℕ) : Type 0 where
@@ -23,10 +23,6 @@ pub record Filling (key : ℕ → ℕ) (u : ℕ) (a b c d : List ℕ) (k : ℕ) 
   pub digits : (j : ℕ) → j < k → DigitsAt (key j) j a b c d
 
 module _ (key : ℕ → ℕ) (u : ℕ) where
-  pub fill_begins : (a b c d : List ℕ) → length a ≡ u → length b ≡ u → length c ≡ u → length d ≡ u → Filling key u a b c d 0
-  fill_begins a b c d la lb lc ld =
-      record { within = omega arith; a_long = la; b_long = lb; c_long = lc; d_long = ld; digits = λ j h. absurd (omega arith) }
-
   pub fill_turns :
       (a b c d a' b' c' d' : List ℕ) (k h : ℕ) → k < u → (h ≡ key k) × (h < half_points) → DigitsPut h k a b c d a' b' c' d' → Filling key u a b c d k
       → Filling key u a' b' c' d' (k + 1)
@@ -68,16 +64,6 @@ module _ (key : ℕ → ℕ) (u : ℕ) where
             in_c = off_k c c' _ p.c_is j ne ∙ o.in_c;
             in_d = off_k d d' _ p.d_is j ne ∙ o.in_d;
           }
-
-  pub fill_ends : (a b c d : List ℕ) (k : ℕ) → u ≤ k → Filling key u a b c d k → HalfColumns key u a b c d
-  fill_ends a b c d k h f =
-      record { a_long = f.a_long; b_long = f.b_long; c_long = f.c_long; d_long = f.d_long; digits = λ j i. f.digits j (omega arith) }
-
--- the digits of one half
-pub digits_put :
-    (h k : ℕ) (a b c d : List ℕ) (p q r s : ℕ) → p ≡ lowest h → q ≡ lowest (above h) → r ≡ lowest (above (above h))
-    → s ≡ lowest (above (above (above h))) → DigitsPut h k a b c d (set a k p) (set b k q) (set c k r) (set d k s)
-digits_put h k a b c d p q r s e f g i = record { a_is = ap (set a k) e; b_is = ap (set b k) f; c_is = ap (set c k) g; d_is = ap (set d k) i }
 
 -- half of point k, where it begins at i
 pub half_key :

@@ -81,11 +81,9 @@ fn put_columns(file: &[u8], upper: bool, a: &mut [u32], b: &mut [u32], c: &mut [
     requires { HalfRows file.now a.old b.old c.old d.old }
     ensures { HalfColumns (half_at upper file.now) (length a.old) a.new b.new c.new d.new }
 {
-    let mut k: usize = 0;
-    while k < a.len() {
+    for k in 0..a.len() {
         let h = widening::half_from(file, widening::place_of(k), upper);
         put_digits(h, k, a, b, c, d);
-        k += 1;
     }
 }
 
