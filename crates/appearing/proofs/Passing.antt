@@ -1,11 +1,11 @@
 -- The pass over the marks: those before x are numbered. Assumes nothing.
-use mathlib.Core.Path.{◌≡◌, refl, sym, ap, ◌∙◌, subst}
+use mathlib.Core.Path.{◌≡◌, refl, sym, ap, ◌∙◌}
 use mathlib.Core.Bool.{Bool, true, false, cond}
 use mathlib.Core.List.{List, [], ◌∷◌, ◌++◌}
 use Prim.Native.Nat.{ℕ, ◌+◌, ◌≤◌, ◌<◌}
 use native.Mathlib.Omega.{arith}
 use lib.Dec.{eqb}
-use lib.ListN.{length, get_or, set, length-set, length-append}
+use lib.ListN.{length, get_or, length-set, length-append}
 use lib.Seq.{get_or-set_same, get_or-set_other}
 use borrow.Author.Tests.{eqb-true, eqb-false, eq-eqb, ne_eqb}
 use Rattle.lists.specs.Lists.{has}
@@ -13,11 +13,9 @@ use Rattle.lists.specs.FirstUses.{first_uses, place}
 use Rattle.lists.proofs.Bools.{by_cases}
 use Rattle.lists.proofs.Places.{place_append, place_new}
 use Rattle.lists.proofs.FirstUses.{has-first_uses}
-use Rattle.mesh.specs.Limits.{corner_limit}
 use Rattle.matching.specs.Marks.{FirstBy, MarkedBy}
 use Rattle.scanned.specs.Seen.{upto, seen}
-use Rattle.appearing.specs.Appearing.{Numbered}
-use Rattle.appearing.specs.Steps.{Marks, NumberedBy, TakeRoom, Taken}
+use Rattle.appearing.specs.Steps.{Marks, NumberedBy, Taken}
 use Rattle.scanned.proofs.Prefixes.{has_upto, has_seen, has_none, seen_old, seen_new}
 
 -- the keys before x have their numbers
@@ -47,12 +45,6 @@ pass_begins marks = record {
 }
 
 module _ (marks : List ℕ) (m : Marks marks) (numbers : List ℕ) (x found : ℕ) (p : Passing marks numbers x found) where
-  pub pass_room : x < length numbers → TakeRoom x found numbers
-  pass_room h =
-      let e : get_or numbers x 0 ≡ get_or marks x 0 = p.left x (omega arith) in
-      let u : get_or marks x 0 ≤ x = m.upto x (omega (arith, p.long)) in
-      record { inside = h; few = omega (arith, m.few, p.long); counted = p.counted; upto = omega arith }
-
   module _ (h : x < length numbers) (numbers' : List ℕ) (r : ℕ) (t : Taken x found numbers numbers' r) where
     at_x : get_or numbers' x 0 ≡ cond (eqb (get_or numbers x 0) x) found (get_or numbers (get_or numbers x 0) 0)
     at_x = ap (λ (l : List ℕ). get_or l x 0) t.is ∙ get_or-set_same numbers x _ 0 h
@@ -157,23 +149,3 @@ module _ (marks : List ℕ) (m : Marks marks) (numbers : List ℕ) (x found : �
   }
 
 -- ---- one mark, and what the functions hand on
-
-module _ (x found first : ℕ) (numbers : List ℕ) (e : first ≡ get_or numbers x 0) where
-  pub taken_new : first ≡ x → Taken x found numbers (set numbers x found) (found + 1)
-  taken_new q =
-      let b : eqb (get_or numbers x 0) x ≡ true = eq-eqb (get_or numbers x 0) x (sym e ∙ q) in
-      record { is = rw b; count = rw b }
-
-  pub taken_old : (first ≡ x → ⊥) → Taken x found numbers (set numbers x (get_or numbers first 0)) found
-  taken_old ne =
-      let b : eqb (get_or numbers x 0) x ≡ false = ne_eqb (get_or numbers x 0) x (λ q. ne (e ∙ q)) in
-      record { is = rw b (ap (λ (i : ℕ). set numbers x (get_or numbers i 0)) e); count = rw b }
-
-module _ (key : ℕ → ℕ) (u : ℕ) (marks : List ℕ) (m : MarkedBy key u marks) where
-  pub marks_of : u ≤ corner_limit → Marks marks
-  marks_of few = record { few = omega (arith, m.long); upto = λ x h. (m.first x (omega (arith, m.long))).upto }
-
-  pub numbered_of : (numbers : List ℕ) (found : ℕ) → NumberedBy marks numbers found → Numbered key u numbers found
-  numbered_of numbers found n =
-      subst (λ (w : ℕ). Numbered key w numbers found) m.long
-      (n.numbered key (subst (λ (w : ℕ). MarkedBy key w marks) (sym m.long) m))

@@ -23,10 +23,8 @@ fn number_marks(numbers: &mut [u32]) -> usize
     ensures { NumberedBy numbers.old numbers.new result }
 {
     let mut found: usize = 0;
-    let mut x: usize = 0;
-    while x < numbers.len() {
+    for x in 0..numbers.len() {
         found = take_point(x, found, numbers);
-        x += 1;
     }
     found
 }
@@ -37,7 +35,7 @@ fn take_point(x: usize, found: usize, numbers: &mut [u32]) -> usize
     requires { TakeRoom x found numbers.old }
     ensures { Taken x found numbers.old numbers.new result }
 {
-    let first = lists::wide(numbers[x]);
+    let first = numbers[x] as usize;
     if first == x {
         numbers[x] = found as u32;
         return found + 1;

@@ -1,11 +1,11 @@
 -- The pass that puts corners: those of the first x points stand there. Assumes nothing.
-use mathlib.Core.Path.{◌≡◌, refl, sym, ap, ◌∙◌}
+use mathlib.Core.Path.{◌≡◌, sym, ap, ◌∙◌}
 use mathlib.Core.List.{List, [], ◌∷◌}
 use Prim.Native.Nat.{ℕ, ◌+◌, ◌*◌, ◌≤◌, ◌<◌}
 use native.Mathlib.Numerals.{add-one}
 use native.Mathlib.Omega.{arith}
 use lib.ListN.{length, get_or, take}
-use lib.Seq.{sets, length-sets, take-suc, take-length, length-take-le}
+use lib.Seq.{sets, length-sets, take-suc, length-take-le}
 use Rattle.lists.specs.Lists.{each}
 use Rattle.lists.proofs.Parts.{each_append}
 use Rattle.mesh.specs.Limits.{width}
@@ -17,9 +17,6 @@ pub record Cornering (numbers before now : List ℕ) (x : ℕ) : Type 0 where
   pub within : x ≤ length numbers
   pub put : now ≡ sets before 0 (each bare (take x numbers))
   pub long : length now ≡ length before
-
-pub corner_begins : (numbers c : List ℕ) → Cornering numbers c c 0
-corner_begins numbers c = record { within = omega arith; put = refl; long = refl }
 
 pub corner_turns :
     (numbers c₀ c c' : List ℕ) (x i : ℕ) → x < length numbers → i ≡ width * x → c' ≡ sets c i (bare (get_or numbers x 0)) → Cornering numbers c₀ c x
@@ -35,8 +32,3 @@ corner_turns numbers c₀ c c' x i h e w s =
           ∙ ap (λ (l : List ℕ). sets c₀ 0 (each bare l)) (sym (ap (λ (j : ℕ). take j numbers) (add-one x) ∙ take-suc numbers x 0 h));
       long = ap length w ∙ length-sets c i (bare (get_or numbers x 0)) ∙ s.long;
     }
-
-pub corner_ends : (numbers c₀ c : List ℕ) (x : ℕ) → length numbers ≤ x → Cornering numbers c₀ c x → c ≡ sets c₀ 0 (each bare numbers)
-corner_ends numbers c₀ c x h s =
-    let e : x ≡ length numbers = omega (arith, s.within) in
-    s.put ∙ ap (λ (n : ℕ). sets c₀ 0 (each bare (take n numbers))) e ∙ ap (λ (l : List ℕ). sets c₀ 0 (each bare l)) (take-length numbers)

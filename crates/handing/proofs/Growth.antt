@@ -1,10 +1,9 @@
 -- What is written from the front on, and a piece more behind it; four stores to places in a row are one piece. Assumes nothing.
 use mathlib.Core.Path.{◌≡◌, sym, ap, ◌∙◌}
-use mathlib.Core.List.{List, [], ◌∷◌, ◌++◌}
-use Prim.Native.Nat.{ℕ, ◌+◌}
+use mathlib.Core.List.{List, ◌++◌}
+use Prim.Native.Nat.{ℕ}
 use native.Mathlib.Nat.{zero-add}
-use native.Mathlib.Numerals.{towards_suc}
-use lib.ListN.{length, set}
+use lib.ListN.{length}
 use lib.Seq.{sets}
 use Rattle.lists.proofs.Writing.{sets_append}
 
@@ -15,7 +14,3 @@ piece_behind l₀ l l' a b i e n f =
     ∙ ap (λ (t : List _). sets t i b) e
     ∙ ap (λ (j : ℕ). sets (sets l₀ 0 a) j b) (n ∙ sym (zero-add (length a)))
     ∙ sym (sets_append l₀ 0 a b)
-
-pub four_stores :
-    (l : List ℕ) (b x y z u : ℕ) → set (set (set (set l b x) (b + 1) y) (b + 2) z) (b + 3) u ≡ sets l b (x ∷ y ∷ z ∷ u ∷ [])
-four_stores l b x y z u = simp towards_suc

@@ -99,17 +99,8 @@ module _ (file numbers : List ℕ) (p₀ : List Float) (r : PositionRoom file nu
     pub putting_turns : Putting (point_at file) (length numbers) p₀ p' (x + 1) found'
     putting_turns = by_cases (has (point_at file x) (upto (point_at file) x)) put_old put_new
 
-pub putting_ends :
-    (key : ℕ → ℕ) (u : ℕ) (p₀ p : List Float) (x found : ℕ) → u ≤ x → Putting key u p₀ p x found → p ≡ sets p₀ 0 (each coordinates_of (seen key u))
-putting_ends key u p₀ p x found h s =
-    let e : x ≡ u = omega (arith, s.within) in
-    s.put ∙ ap (λ (n : ℕ). sets p₀ 0 (each coordinates_of (seen key n))) e
-
 -- one point: passed over, or put
 module _ (file : List ℕ) (x number found : ℕ) (p : List Float) where
-  pub new_passed : (number ≡ found → ⊥) → NewPut (point_at file x) number found p p found
-  new_passed ne = record { is = rw (ne_eqb number found ne); count = rw (ne_eqb number found ne) }
-
   pub new_put :
       (q : number ≡ found) (i : ℕ) (cs p' : List Float) → i ≡ point_place x → cs ≡ coordinates_of (point_from file i)
       → p' ≡ sets p (3 * found) cs → NewPut (point_at file x) number found p p' (found + 1)

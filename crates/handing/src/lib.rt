@@ -2,10 +2,9 @@
 // point. The numbers are by first appearance, so that a point with the next number is a new position, and nothing is searched for.
 #![tactic(auto)]
 
-ghost use Rattle.std.specs.Prelude.{◌≡◌, List, ℕ, ◌+◌, ◌*◌, ◌≤◌, length};
+ghost use Rattle.std.specs.Prelude.{◌≡◌, length};
 ghost use Rattle.std.proofs.lemmas.List.Edits.{sets};
 ghost use Rattle.lists.specs.Lists.{each};
-ghost use Rattle.mesh.specs.Limits.{width};
 ghost use Rattle.scanned.specs.Scan.{point_at, coordinates_of, bare};
 ghost use Rattle.scanned.specs.Seen.{seen};
 ghost use Rattle.handing.specs.Handing.{PositionRoom, CornerRoom};
@@ -18,11 +17,8 @@ pub fn put_positions(file: &[u8], numbers: &[u32], positions: &mut [f64])
         (each coordinates_of (seen (point_at file.now) (length numbers.now))) }
 {
     let mut found: usize = 0;
-    let mut x: usize = 0;
-    while x < numbers.len() {
-        let number = lists::wide(numbers[x]);
-        found = put_new(file, x, number, found, positions);
-        x += 1;
+    for (x, number) in numbers.iter().enumerate() {
+        found = put_new(file, x, *number as usize, found, positions);
     }
 }
 
@@ -44,19 +40,8 @@ pub fn put_corners(numbers: &[u32], corners: &mut [u32])
     requires { CornerRoom numbers.now corners.old }
     ensures { corners.new ≡ sets corners.old 0 (each bare numbers.now) }
 {
-    let mut x: usize = 0;
-    while x < numbers.len() {
-        put_bare(numbers[x], corners, mesh::WIDTH * x);
-        x += 1;
+    for (x, number) in numbers.iter().enumerate() {
+        let corner = [*number, mesh::MISSING, mesh::MISSING, 0];
+        lists::put(&corner, corners, mesh::WIDTH * x);
     }
-}
-
-fn put_bare(number: u32, corners: &mut [u32], at: usize)
-    requires { at + width ≤ length corners.old }
-    ensures { corners.new ≡ sets corners.old at (bare number) }
-{
-    corners[at] = number;
-    corners[at + 1] = mesh::MISSING;
-    corners[at + 2] = mesh::MISSING;
-    corners[at + 3] = 0;
 }

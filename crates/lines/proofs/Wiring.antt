@@ -10,7 +10,7 @@ use Rattle.lists.specs.Cutting.{parts}
 use Rattle.lists.proofs.Cutting.{length_parts, parts_at}
 use Rattle.lists.proofs.Parts.{sum_step, sum_at}
 use Rattle.lists.specs.Putting.{Room, Written}
-use Rattle.lists.proofs.Listing.{Listing, listing_begins, listing_room, listing_turns, listing_ends}
+use Rattle.lists.proofs.Listing.{Listing, listing_room, listing_turns, listing_ends}
 use Rattle.lines.specs.Lines.{hem_line, hem_lines}
 use Rattle.lines.specs.Working.{wires_by, Wired}
 
@@ -20,9 +20,6 @@ pub record Hemming (flat lengths o o' : List ℕ) (at to from k : ℕ) : Type 0 
   pub offset : from ≡ sum (take k lengths)
 
 module _ (flat lengths o : List ℕ) (at : ℕ) where
-  pub hemming_begins : Hemming flat lengths o o at at 0 0
-  hemming_begins = record { listing = listing_begins [] hem_line (parts lengths flat) o at; offset = refl }
-
   -- wire k lies within the flat list
   pub hemming_within : (o' : List ℕ) (to from k : ℕ) → k < length lengths → Wired 0 flat lengths o at → Hemming flat lengths o o' at to from k → from + get_or lengths k 0 ≤ length flat
   hemming_within o' to from k h w n = omega (arith, w.within, n.offset, sum_at lengths k h)
@@ -65,6 +62,3 @@ pub refused_lines : (n : ℕ) (flat lengths : List ℕ) → (n ≡ 0 → ⊥) �
 unfolding wires_by
 refused_lines zero flat lengths h = absurd (h refl)
 refused_lines (suc n) flat lengths h = refl
-
-pub wired_zero : {n : ℕ} {flat lengths out : List ℕ} {at : ℕ} → n ≡ 0 → Wired n flat lengths out at → Wired 0 flat lengths out at
-wired_zero e w = rw e at w

@@ -32,7 +32,6 @@ pub fn put_sheet(found: Findings, flat: &[u32], lengths: &[u32], out: &mut [u8])
     requires { Ready flat.now lengths.now out.old }
     ensures { Sheeted (sheet_text (found_by found flat.now lengths.now)) out.old out.new result }
 {
-    let verdict = found.verdict;
     let a = put_mesh(
         found.positions,
         found.textures,
@@ -41,7 +40,7 @@ pub fn put_sheet(found: Findings, flat: &[u32], lengths: &[u32], out: &mut [u8])
         out,
         0,
     );
-    let b = put_verdict(verdict, out, a);
+    let b = put_verdict(found.verdict, out, a);
     let c = put_panels(found.panels, out, b);
     put_wires(found.number, flat, lengths, out, c)
 }
@@ -51,8 +50,7 @@ pub fn put_refusal(number: u32, out: &mut [u8]) -> usize
     requires { sheet_room ≤ length out.old }
     ensures { Sheeted (refusal number) out.old out.new result }
 {
-    let answer = [number];
-    text::put_line(b"refused", &answer, out, 0)
+    text::put_line(b"refused", &[number], out, 0)
 }
 
 // The first line: positions, texture points, normals, faces.
@@ -60,8 +58,7 @@ fn put_mesh(p: u32, t: u32, n: u32, f: u32, out: &mut [u8], at: usize) -> usize
     requires { Room (mesh_line p t n f) out.old at }
     ensures { Written (mesh_line p t n f) out.old out.new at result }
 {
-    let counts = [p, t, n, f];
-    text::put_line(b"mesh", &counts, out, at)
+    text::put_line(b"mesh", &[p, t, n, f], out, at)
 }
 
 // The verdict.
@@ -82,8 +79,7 @@ fn put_panels(k: u32, out: &mut [u8], at: usize) -> usize
     requires { Room (panels_line k) out.old at }
     ensures { Written (panels_line k) out.old out.new at result }
 {
-    let count = [k];
-    text::put_line(b"panels", &count, out, at)
+    text::put_line(b"panels", &[k], out, at)
 }
 
 // The house wires, or the line that stands for them, by the number that they answered.
@@ -113,12 +109,10 @@ fn put_hems(flat: &[u32], lengths: &[u32], out: &mut [u8], at: usize) -> usize
 {
     let mut to = at;
     let mut from: usize = 0;
-    let mut k: usize = 0;
-    while k < lengths.len() {
-        let end = from + lists::wide(lengths[k]);
+    for n in lengths {
+        let end = from + *n as usize;
         to = put_hem(&flat[from..end], out, to);
         from = end;
-        k += 1;
     }
     to
 }

@@ -6,7 +6,7 @@ use Prim.Native.Nat.{ℕ, ◌+◌, ◌≤◌, ◌<◌}
 use native.Mathlib.Omega.{arith}
 use lib.ListN.{length, get_or}
 use Rattle.lists.specs.Lists.{some}
-use Rattle.lists.proofs.Parts.{Searching, search_begins, search_turns, search_finds, search_ends}
+use Rattle.lists.proofs.Parts.{Searching, search_turns, search_finds, search_ends}
 use Rattle.scanned.specs.Scan.{point_place, point_from, point_at, not_finite}
 use Rattle.scanned.specs.Seen.{upto}
 use Rattle.scanned.proofs.Prefixes.{upto_long, upto_at}
@@ -15,9 +15,6 @@ module _ (file : List ℕ) (u : ℕ) where
   -- none of the first k is
   abbrev pub Finding : ℕ → Type 0
   Finding k = Searching not_finite (upto (point_at file) u) k
-
-  pub find_begins : Finding 0
-  find_begins = search_begins not_finite 0 (upto (point_at file) u)
 
   module _ (k i : ℕ) (b : Bool) (h : k < u) (e : i ≡ point_place k) (f : b ≡ not_finite (point_from file i)) where
     test : not_finite (get_or (upto (point_at file) u) k 0) ≡ b

@@ -23,7 +23,6 @@ use Rattle.scanned.specs.Seen.{upto, seen}
 use Rattle.scanned.proofs.Lengths.{count_is, right}
 use Rattle.scanned.proofs.Numbers.{number_14, number_1}
 use Rattle.appearing.specs.Appearing.{Numbered}
-use Rattle.handing.specs.Handing.{PositionRoom}
 use Rattle.scanfile.specs.Steps.{PointsRoom, NumbersRoom, PointsRead}
 use Rattle.scanfile.proofs.Lengths.{points_inside}
 use Rattle.scanfile.proofs.Answers.{points_refused, points_read, points_in_lem}
@@ -37,14 +36,6 @@ module _ (file numbers : List ℕ) (p : List Float) (c s : List ℕ) (r : Number
 
   again : Numbered (point_at file) (length numbers') numbers' found
   again = subst (λ (u : ℕ). Numbered (point_at file) u numbers' found) (sym n.long) n
-
-  pub positions_room : found ≤ entry_limit → PositionRoom file numbers' p
-  positions_room l = record {
-    rows = subst (ScanRows file) (sym n.long) r.rows;
-    found = found;
-    numbered = again;
-    room = omega (arith, r.roomy.positions);
-  }
 
   pub all_read :
       found ≤ entry_limit → (p' : List Float) (c' s' : List ℕ)

@@ -61,7 +61,7 @@ fn length_number(file: &[u8]) -> u32
     if file.len() < widening::FRONT_BYTES {
         return 11;
     }
-    let count = lists::wide(little::word(file, HEADER_BYTES));
+    let count = little::word(file, HEADER_BYTES) as usize;
     if count > mesh::FACES {
         return 1;
     }
@@ -87,7 +87,7 @@ fn read_points(
         positions.old corners.old sizes.old
         positions.new corners.new sizes.new result }
 {
-    let points = mesh::LEAST_RING * lists::wide(little::word(file, HEADER_BYTES));
+    let points = mesh::LEAST_RING * little::word(file, HEADER_BYTES) as usize;
     if some_not_finite(file, points) {
         return drawing::refused(14);
     }
@@ -100,12 +100,10 @@ fn some_not_finite(file: &[u8], points: usize) -> bool
     requires { ScanRows file.now points }
     ensures { result ≡ some not_finite (upto (point_at file.now) points) }
 {
-    let mut k: usize = 0;
-    while k < points {
+    for k in 0..points {
         if widening::not_finite_from(file, widening::place_of(k)) {
             return true;
         }
-        k += 1;
     }
     false
 }
