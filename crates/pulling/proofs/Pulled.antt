@@ -1,22 +1,15 @@
 -- How far the neighbours of each position lie from it, one edge more at a time. Positions and sums are flat lists, three numbers for
 -- each position, and an edge of positions is three edges of their numbers. Assumes nothing.
-use mathlib.Core.Path.{◌≡◌, refl, sym, ap, ap₂, ◌∙◌, subst}
-use mathlib.Core.Bool.{false}
-use mathlib.Core.List.{List, [], ◌∷◌, ◌++◌, map, map-append, append-nil, append_assoc}
-use Prim.Native.Nat.{ℕ, zero, suc, ◌+◌, ◌*◌, ◌/◌, ◌%◌, ◌≤◌, ◌<◌}
-use native.Mathlib.Nat.{add-zero}
-use native.Mathlib.Omega.{arith}
-use lib.Dec.{eqb}
-use lib.ListN.{length, get_or, set, drop, replicate, length-replicate, get_or-replicate, drop_of_length-le}
-use lib.Seq.{drop-cons}
-use lib.Ieee.{Float, nan}
-use borrow.Author.Tests.{eqb-true, eqb-false, eq-eqb, ne_eqb}
+use Rattle.std.proofs.Common.{◌≡◌, refl, sym, ap, ap₂, ◌∙◌, subst, false, List, [], ◌∷◌, ◌++◌, map, append-nil, append_assoc, ℕ, zero, suc, ◌+◌, ◌*◌, ◌/◌, ◌%◌, ◌≤◌, ◌<◌, add-zero, arith}
+use Rattle.std.proofs.Common.{eqb, length, get_or, drop, replicate, drop_of_length-le, drop-cons, Float, eqb-true, eq-eqb, ne_eqb}
+use mathlib.Core.List.{map-append}
+use lib.ListN.{length-replicate}
+use lib.Ieee.{nan}
+use borrow.Author.Tests.{eqb-false}
 use Rattle.lists.specs.Lists.{each, span}
 use Rattle.lists.proofs.Bools.{by_cases}
 use Rattle.lists.proofs.Buckets.{each_span_cong}
 use Rattle.lists.proofs.Parts.{each_append}
-use Rattle.lists.proofs.Writing.{Copying, copy_begins, copy_ends}
-use Rattle.lists.proofs.Copies.{front_turns, sets_whole}
 use Rattle.mesh.specs.Limits.{point_width}
 use Rattle.verdicts.specs.Edges.{Edge}
 use Rattle.floating.specs.Near.{nought}
@@ -26,27 +19,6 @@ use Rattle.around.specs.Steps.{both, passed}
 use Rattle.around.proofs.Gathering.{steps, Gathered, both_long, both_gathers, filled_begins, Joins, neighbours_append, no_neighbours, at_lower, at_higher, elsewhere}
 use Rattle.around.proofs.Edges.{edges_more, joins}
 use Rattle.pulling.specs.Pulls.{pulls_in, tug, on_axis, threefold, PullRows, PairAt}
-
--- ---- sums that begin at 0
-
-module _ (l : List Float) where
-  -- the first k are 0
-  abbrev pub Clearing : List Float → ℕ → Type 0
-  Clearing l' k = Copying (replicate (length l) nought) l l' 0 k
-
-  pub clear_begins : Clearing l 0
-  clear_begins = copy_begins nan (replicate (length l) nought) l 0
-
-  pub clear_turns : (l' : List Float) (k : ℕ) (x : Float) → x ≡ nought → k < length l → Clearing l' k → Clearing (set l' k x) (k + 1)
-  clear_turns l' k x e h c =
-      let m : length (replicate (length l) nought) ≡ length l = length-replicate (length l) nought in
-      subst (λ (y : Float). Clearing (set l' k y) (k + 1)) (get_or-replicate (length l) k nought nan h ∙ sym e)
-      (front_turns nan (replicate (length l) nought) l l' k (omega arith) c)
-
-  pub clear_ends : (l' : List Float) (k : ℕ) → length l ≤ k → Clearing l' k → l' ≡ replicate (length l) nought
-  clear_ends l' k h c =
-      let m : length (replicate (length l) nought) ≡ length l = length-replicate (length l) nought in
-      copy_ends nan (replicate (length l) nought) l l' 0 k (omega arith) c ∙ sets_whole l (replicate (length l) nought) m
 
 -- ---- the neighbours of one number
 

@@ -1,10 +1,5 @@
 -- What is gathered from the rows of the edges by first use is what the rules of smoothing say. Assumes nothing.
-use mathlib.Core.Path.{◌≡◌, sym, ap, ap₂, ◌∙◌, subst}
-use mathlib.Core.List.{List}
-use Prim.Native.Nat.{ℕ, ◌*◌, ◌/◌, ◌≤◌}
-use native.Mathlib.Omega.{arith}
-use lib.ListN.{length}
-use lib.Ieee.{Float}
+use Rattle.std.proofs.Common.{◌≡◌, sym, ap, ap₂, ◌∙◌, subst, List, ℕ, ◌*◌, ◌/◌, ◌≤◌, arith, length, Float}
 use Rattle.mesh.specs.Limits.{point_width, corner_limit}
 use Rattle.mesh.specs.Mesh.{Ring}
 use Rattle.smoothed.specs.Smoothed.{edges_by_use, Smoothable}

@@ -3,10 +3,9 @@
 // what the rules of smoothing say.
 #![tactic(auto)]
 
-ghost use Rattle.std.specs.Prelude.{◌≡◌, ◌/◌, length, replicate};
+ghost use Rattle.std.specs.Prelude.{◌≡◌, ◌/◌, length};
 ghost use Rattle.std.specs.Float.{nan};
 ghost use Rattle.mesh.specs.Limits.{point_width};
-ghost use Rattle.floating.specs.Near.{nought};
 ghost use Rattle.around.specs.Rows.{edges_in};
 ghost use Rattle.around.specs.Steps.{both, passed};
 ghost use Rattle.pulling.specs.Pulls.{pulls_in, tug, threefold, PullRows, PairAt, PullAt};
@@ -17,24 +16,9 @@ pub fn put_pulls(positions: &[f64], lowers: &[u32], highers: &[u32], pulls: &mut
     ensures { pulls.new ≡ pulls_in
         (edges_in lowers.now highers.now) positions.now (length positions.now / point_width) }
 {
-    clear(pulls);
-    let mut e: usize = 0;
-    while e < lowers.len() {
-        let a = lists::wide(lowers[e]);
-        let b = lists::wide(highers[e]);
-        pull_ends(positions, a, b, pulls);
-        e += 1;
-    }
-}
-
-// Nothing pulls yet.
-fn clear(pulls: &mut [f64])
-    ensures { pulls.new ≡ replicate (length pulls.old) nought }
-{
-    let mut i: usize = 0;
-    while i < pulls.len() {
-        pulls[i] = 0.0;
-        i += 1;
+    pulls.fill(0.0);
+    for (a, b) in lowers.iter().zip(highers) {
+        pull_ends(positions, *a as usize, *b as usize, pulls);
     }
 }
 
@@ -57,6 +41,6 @@ fn pull(positions: &[f64], i: usize, j: usize, pulls: &mut [f64])
 {
     let p = positions[i];
     let q = positions[j];
-    pulls[i] = pulls[i] + (q - p);
-    pulls[j] = pulls[j] + (p - q);
+    pulls[i] += q - p;
+    pulls[j] += p - q;
 }
