@@ -1,6 +1,6 @@
 -- The share of an edge and the position on it, case by case. Assumes nothing.
-use Rattle.std.proofs.Common.{◌≡◌, ℕ, List, get_or, eq-eqb, ne_eqb}
-use lib.Ieee.{Float, binary64, of_bits, sub}
+use Rattle.std.proofs.Common.{◌≡◌, ℕ, List, get_or, eq-eqb, ne_eqb, Float}
+use lib.Ieee.{binary64, of_bits, sub}
 use Rattle.lists.proofs.Others.{eqb_flip}
 use Rattle.mesh.specs.Mesh.{missing}
 use Rattle.floating.specs.Points.{coordinates}

@@ -1,7 +1,6 @@
 -- Points written one behind the other into a flat list. Assumes nothing.
-use Rattle.std.proofs.Common.{◌≡◌, ℕ, zero, suc, ◌+◌, ◌*◌, ◌<◌, ◌≤◌, List, length, sym, refl, ap, ◌∙◌, arith}
+use Rattle.std.proofs.Common.{◌≡◌, ℕ, zero, suc, ◌+◌, ◌*◌, ◌<◌, ◌≤◌, List, length, sym, refl, ap, ◌∙◌, arith, Float}
 use lib.Seq.{sets, length-sets}
-use lib.Ieee.{Float}
 use Rattle.lists.specs.Lists.{each, span}
 use Rattle.lists.proofs.Buckets.{start, start_zero, start_next, each_span_snoc}
 use Rattle.lists.proofs.Writing.{sets_append}

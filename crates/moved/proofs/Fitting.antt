@@ -1,8 +1,7 @@
 -- The rows of a mesh are as the code asks; and what it writes, both lists, is what smoothing gives. Assumes nothing.
-use Rattle.std.proofs.Common.{◌≡◌, ℕ, zero, suc, ◌+◌, ◌-◌, ◌*◌, ◌<◌, ◌≤◌, List, [], ◌∷◌, map, length, get_or, sym, refl, ap, ◌∙◌, subst, le_of_suc-le-suc, not-suc-le-zero, arith}
+use Rattle.std.proofs.Common.{◌≡◌, ℕ, zero, suc, ◌+◌, ◌-◌, ◌*◌, ◌<◌, ◌≤◌, List, [], ◌∷◌, map, length, get_or, sym, refl, ap, ◌∙◌, subst, le_of_suc-le-suc, not-suc-le-zero, arith, Float}
 use lib.ListN.{length-map}
 use lib.Seq.{sets}
-use lib.Ieee.{Float}
 use Rattle.lists.specs.Lists.{each, span}
 use Rattle.lists.proofs.Buckets.{start}
 use Rattle.lists.proofs.Writing.{sets_append}

@@ -1,6 +1,6 @@
 -- Each formula of an axis, from the operations on points that it is made of. Assumes nothing.
-use Rattle.std.proofs.Common.{◌≡◌, ℕ, List, pos}
-use lib.Ieee.{Float, binary64, of_bits, add, sub, mul, div, of_int}
+use Rattle.std.proofs.Common.{◌≡◌, ℕ, List, pos, Float}
+use lib.Ieee.{binary64, of_bits, add, sub, mul, div, of_int}
 use Rattle.floating.specs.Scaling.{axes1, axes2, axes3}
 use Rattle.floating.specs.declared.Point.{Point}
 use Rattle.floating.proofs.Literals.{two_is}

@@ -1,7 +1,7 @@
 -- Of the rows of a mesh, new positions stand where the rules say. Assumes nothing.
-use Rattle.std.proofs.Common.{◌≡◌, ℕ, ◌<◌, ◌≤◌, Bool, true, false, cond, eqb, List, length, get_or, sym, refl, ap, ◌∙◌, ap₂, arith}
+use Rattle.std.proofs.Common.{◌≡◌, ℕ, ◌<◌, ◌≤◌, Bool, true, false, cond, eqb, List, length, get_or, sym, refl, ap, ◌∙◌, ap₂, arith, Float}
 use lib.ListN.{length-map}
-use lib.Ieee.{Float, binary64, sub}
+use lib.Ieee.{binary64, sub}
 use Rattle.lists.specs.Lists.{some, each, span}
 use Rattle.lists.proofs.Buckets.{each_span_cong}
 use Rattle.lists.proofs.Changing.{map_at}

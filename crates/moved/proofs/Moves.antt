@@ -1,6 +1,6 @@
 -- Of the rows of a mesh, old positions are moved as the rules say. Assumes nothing.
-use Rattle.std.proofs.Common.{◌≡◌, ℕ, zero, suc, ◌+◌, ◌<◌, ◌≤◌, List, get_or, sym, refl, ap, ◌∙◌, arith}
-use lib.Ieee.{Float, nan}
+use Rattle.std.proofs.Common.{◌≡◌, ℕ, zero, suc, ◌+◌, ◌<◌, ◌≤◌, List, get_or, sym, refl, ap, ◌∙◌, arith, Float}
+use lib.Ieee.{nan}
 use Rattle.lists.specs.Lists.{each, span}
 use Rattle.lists.proofs.Buckets.{start_at, each_span_cong}
 use Rattle.mesh.specs.Limits.{entry_limit}

@@ -1,6 +1,6 @@
 -- Points as they are read from the rows, and where a position moves to, case by case. Assumes nothing.
-use Rattle.std.proofs.Common.{◌≡◌, ℕ, ◌+◌, ◌*◌, ◌<◌, ◌≤◌, List, length, get_or, ap, ◌∙◌, arith, eq-eqb, ne_eqb}
-use lib.Ieee.{Float, nan}
+use Rattle.std.proofs.Common.{◌≡◌, ℕ, ◌+◌, ◌*◌, ◌<◌, ◌≤◌, List, length, get_or, ap, ◌∙◌, arith, eq-eqb, ne_eqb, Float}
+use lib.Ieee.{nan}
 use Rattle.mesh.specs.Mesh.{missing}
 use Rattle.floating.specs.Points.{point, coordinates, leading, row}
 use Rattle.floating.specs.Scaling.{axes2, axes3}

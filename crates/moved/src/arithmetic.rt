@@ -77,8 +77,7 @@ pub fn cosine_of(cosines: &[f64], n: u32) -> f64
     requires { (1 ≤ n) × (n ≤ length cosines.now) }
     ensures { result ≡ cosine cosines.now n }
 {
-    let k = n as usize;
-    cosines[k - 1]
+    cosines[n as usize - 1]
 }
 
 // 3/8 + c/4, and 5/8 - c/4.
@@ -100,5 +99,5 @@ pub fn weight_of(twos: &[f64], n: u32) -> f64
     ensures { result ≡ weight twos.now n }
 {
     let a = spread_of(cosine_of(twos, n));
-    (FIVE_EIGHTHS - a * a) / std::num::nearest_u64_to_f64(n as u64)
+    (FIVE_EIGHTHS - a * a) / f64::from(n)
 }

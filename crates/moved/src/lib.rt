@@ -37,14 +37,9 @@ pub fn put_moved(
     ensures { out.new ≡ sets out.old 0
         (moved_list positions.now degrees.now first.now second.now pulls.now twos.now) }
 {
-    let mut v: usize = 0;
-    while v < degrees.len() {
-        floating::put_point(
-            moved(positions, degrees, first, second, pulls, twos, v),
-            out,
-            v,
-        );
-        v += 1;
+    for v in 0..degrees.len() {
+        let p = moved(positions, degrees, first, second, pulls, twos, v);
+        floating::put_point(p, out, v);
     }
 }
 
@@ -106,13 +101,11 @@ pub fn put_middles(
         positions.now lowers.now highers.now firsts.now seconds.now wings.now
         degrees.now second.now ones.now) }
 {
-    let mut e: usize = 0;
-    while e < lowers.len() {
+    for e in 0..lowers.len() {
         let p = middle(
             positions, lowers, highers, firsts, seconds, wings, degrees, second, ones, e,
         );
         floating::put_point(p, out, at + e);
-        e += 1;
     }
 }
 
