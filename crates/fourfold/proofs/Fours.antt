@@ -1,19 +1,17 @@
 -- Four triangles for one, on flat lists: those of triangle k are those of the face at place k; written for one face after the other they
 -- are the smoothed faces. Assumes nothing.
-use mathlib.Core.Path.{◌≡◌, refl, sym, ap, ◌∙◌}
-use mathlib.Core.Bool.{Bool, true, false, cond}
-use mathlib.Core.List.{List, [], ◌∷◌, ◌++◌, map, append-nil}
-use Prim.Native.Nat.{ℕ, suc, ◌+◌, ◌*◌, ◌≤◌, ◌<◌}
-use native.Mathlib.Omega.{arith}
-use lib.ListN.{length, get_or, replicate, length-map, length-append}
+use Rattle.std.proofs.Common.{◌≡◌, refl, sym, ap, ◌∙◌, Bool, true, false, cond, List, [], ◌∷◌, ◌++◌, map, ℕ, suc, ◌+◌, ◌*◌, ◌≤◌, ◌<◌, arith, length, get_or, replicate, take}
+use Rattle.std.proofs.Common.{drop, length-take-le}
+use lib.ListN.{length-map}
 use lib.Seq.{sets}
+use lib.ListN.{length-replicate}
+use Rattle.lists.proofs.Writing.{sets_front}
 use Rattle.lists.specs.Lists.{joined, each}
 use Rattle.lists.specs.Putting.{Written}
 use Rattle.lists.proofs.Changing.{map_at}
 use Rattle.lists.proofs.Listing.{Listing, written_long, listing_begins, listing_turns, listing_ends}
 use Rattle.lists.proofs.Mapping.{each_each}
-use Rattle.lists.proofs.Writing.{sets_append}
-use Rattle.mesh.specs.Limits.{width, least_ring, corner_limit}
+use Rattle.mesh.specs.Limits.{least_ring, corner_limit}
 use Rattle.mesh.specs.Mesh.{Corner, Ring}
 use Rattle.mesh.specs.Edges.{Edge, same}
 use Rattle.smoothed.specs.Smoothed.{fold, bare, sides, quartered, four, middle, place, edges_by_use, smoothed_faces}
@@ -22,44 +20,16 @@ use Rattle.smoothed.proofs.Limits.{edges_few}
 use Rattle.smoothed.proofs.Triangles.{length_triangles, triangle_count, triangle_at, triangle_at_lem, length-edge_numbers, edge_number}
 use Rattle.fourfold.specs.Working.{triangle_numbers, Given, four_at, FourRoom}
 
--- ---- one part behind another
+-- ---- a front of sizes that is filled
 
-behind : (a b o o1 o2 : List ℕ) (at m : ℕ) → at + length a ≡ m → o1 ≡ sets o at a → o2 ≡ sets o1 m b → o2 ≡ sets o at (a ++ b)
-behind a b o o1 o2 at m e f g = rw (g, f, sets_append o at a b, e)
-
--- three corners
-pub corners_put :
-    (a b c o o1 o2 o3 : List ℕ) (at : ℕ) → length a ≡ width → length b ≡ width
-    → o1 ≡ sets o at a → o2 ≡ sets o1 (at + width) b → o3 ≡ sets o2 (at + 2 * width) c
-    → o3 ≡ sets o at (joined (a ∷ b ∷ c ∷ []))
-corners_put a b c o o1 o2 o3 at la lb f g h =
-    behind a (b ++ (c ++ [])) o o1 o3 at (at + width) (omega arith) f
-    (behind b (c ++ []) o1 o2 o3 (at + width) (at + 2 * width) (omega arith) g (rw append-nil h))
-
-three_long : (a b c : List ℕ) → length a ≡ width → length b ≡ width → length c ≡ width → length (joined (a ∷ b ∷ c ∷ [])) ≡ triangle_numbers
-three_long a b c f g h =
-    omega (arith, length-append a (b ++ (c ++ [])), length-append b (c ++ []), length-append c [])
-
--- four triangles
-pub quarters_put :
-    (v0 v1 v2 e0 e1 e2 o o1 o2 o3 o4 : List ℕ) (at : ℕ)
-    → length v0 ≡ width → length v1 ≡ width → length v2 ≡ width → length e0 ≡ width → length e1 ≡ width → length e2 ≡ width
-    → o1 ≡ sets o at (joined (v0 ∷ e2 ∷ e1 ∷ []))
-    → o2 ≡ sets o1 (at + triangle_numbers) (joined (e0 ∷ v2 ∷ e1 ∷ []))
-    → o3 ≡ sets o2 (at + 2 * triangle_numbers) (joined (e0 ∷ e2 ∷ v1 ∷ []))
-    → o4 ≡ sets o3 (at + 3 * triangle_numbers) (joined (e0 ∷ e1 ∷ e2 ∷ []))
-    → o4 ≡ sets o at (each joined (quartered v0 v1 v2 e0 e1 e2))
-quarters_put v0 v1 v2 e0 e1 e2 o o1 o2 o3 o4 at lv0 lv1 lv2 le0 le1 le2 f g h i =
-    let a : List ℕ = joined (v0 ∷ e2 ∷ e1 ∷ []) in
-    let b : List ℕ = joined (e0 ∷ v2 ∷ e1 ∷ []) in
-    let c : List ℕ = joined (e0 ∷ e2 ∷ v1 ∷ []) in
-    let d : List ℕ = joined (e0 ∷ e1 ∷ e2 ∷ []) in
-    let la : length a ≡ triangle_numbers = three_long v0 e2 e1 lv0 le2 le1 in
-    let lb : length b ≡ triangle_numbers = three_long e0 v2 e1 le0 lv2 le1 in
-    let lc : length c ≡ triangle_numbers = three_long e0 e2 v1 le0 le2 lv1 in
-    behind a (b ++ (c ++ (d ++ []))) o o1 o4 at (at + triangle_numbers) (ap (λ (n : ℕ). at + n) la) f
-    (behind b (c ++ (d ++ [])) o1 o2 o4 (at + triangle_numbers) (at + 2 * triangle_numbers) (omega (arith, lb)) g
-    (behind c (d ++ []) o2 o3 o4 (at + 2 * triangle_numbers) (at + 3 * triangle_numbers) (omega (arith, lc)) h (i ∙ ap (sets o3 (at + 3 * triangle_numbers)) (sym (append-nil d)))))
+pub sizes_put :
+    (n t : ℕ) (l f : List ℕ) → n ≤ length l → f ≡ replicate (length (take n l)) t → f ++ drop n l ≡ sets l 0 (replicate n t)
+sizes_put n t l f h e =
+    let m : length (take n l) ≡ n = length-take-le n l h in
+    let k : length (replicate n t) ≡ n = length-replicate n t in
+    ap (λ (g : List ℕ). g ++ drop n l) (e ∙ ap (λ (i : ℕ). replicate i t) m)
+    ∙ ap (λ (i : ℕ). replicate n t ++ drop i l) (sym k)
+    ∙ sym (sets_front l (replicate n t) (omega arith))
 
 -- ---- the four triangles of the face at place k
 

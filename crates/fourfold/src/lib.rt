@@ -26,11 +26,8 @@ pub fn put_faces(corners: &[u32], numbers: &[u32], positions: usize, out: &mut [
     requires { Given corners.now numbers.now positions out.old }
     ensures { out.new ≡ sets out.old 0 (each joined (smoothed_faces positions (triangles corners.now))) }
 {
-    let count = corners.len() / TRIANGLE;
-    let mut k: usize = 0;
-    while k < count {
+    for k in 0..corners.len() / TRIANGLE {
         put_four(corners, numbers, positions, k, out);
-        k += 1;
     }
 }
 
@@ -39,10 +36,11 @@ pub fn put_sizes(faces: usize, out: &mut [u32])
     requires { fold * faces ≤ length out.old }
     ensures { out.new ≡ sets out.old 0 (replicate (fold * faces) least_ring) }
 {
-    grouping::fill_tags(out, 0, FOLD * faces, LEAST_RING as u32);
+    out[..FOLD * faces].fill(LEAST_RING as u32);
 }
 
-// The four triangles of triangle k. e0 stands across from v0, e1 from v1, e2 from v2.
+// The four triangles of triangle k: the three at its corners, each with the two edges that meet there, then the one in the middle. e0
+// stands across from v0, e1 from v1, e2 from v2.
 fn put_four(corners: &[u32], numbers: &[u32], positions: usize, k: usize, out: &mut [u32])
     requires { FourRoom corners.now numbers.now positions k out.old }
     ensures { out.new ≡ sets out.old (fold * triangle_numbers * k) (each joined (four_at corners.now numbers.now positions k)) }
@@ -54,27 +52,8 @@ fn put_four(corners: &[u32], numbers: &[u32], positions: usize, k: usize, out: &
     let e0 = inner_corner(positions, numbers[a]);
     let e1 = inner_corner(positions, numbers[a + 1]);
     let e2 = inner_corner(positions, numbers[a + 2]);
-    put_quarters(v0, v1, v2, e0, e1, e2, out, FOUR * k);
-}
-
-// The three triangles at the corners, each with the two edges that meet there, then the one in the middle.
-fn put_quarters(
-    v0: [u32; WIDTH],
-    v1: [u32; WIDTH],
-    v2: [u32; WIDTH],
-    e0: [u32; WIDTH],
-    e1: [u32; WIDTH],
-    e2: [u32; WIDTH],
-    out: &mut [u32],
-    at: usize,
-)
-    requires { at + fold * triangle_numbers ≤ length out.old }
-    ensures { out.new ≡ sets out.old at (each joined (quartered v0 v1 v2 e0 e1 e2)) }
-{
-    put_triangle(v0, e2, e1, out, at);
-    put_triangle(e0, v2, e1, out, at + TRIANGLE);
-    put_triangle(e0, e2, v1, out, at + 2 * TRIANGLE);
-    put_triangle(e0, e1, e2, out, at + 3 * TRIANGLE);
+    let four = [[v0, e2, e1], [e0, v2, e1], [e0, e2, v1], [e0, e1, e2]];
+    lists::put(four.as_flattened().as_flattened(), out, FOUR * k);
 }
 
 // The corner on an edge: behind the old positions, by the edge's number, with no texture, no normal and no mark.
@@ -83,14 +62,4 @@ fn inner_corner(positions: usize, number: u32) -> [u32; WIDTH]
     ensures { result ≡ bare (positions + number) }
 {
     [positions as u32 + number, MISSING, MISSING, 0]
-}
-
-// Three corners, one behind the other.
-fn put_triangle(a: [u32; WIDTH], b: [u32; WIDTH], c: [u32; WIDTH], out: &mut [u32], at: usize)
-    requires { at + triangle_numbers ≤ length out.old }
-    ensures { out.new ≡ sets out.old at (joined (a ∷ b ∷ c ∷ [])) }
-{
-    places::put_corner(a, out, at);
-    places::put_corner(b, out, at + WIDTH);
-    places::put_corner(c, out, at + 2 * WIDTH);
 }
