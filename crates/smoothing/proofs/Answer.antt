@@ -1,11 +1,6 @@
 -- What the call answers: a refusal by its number, or what was written. Assumes nothing.
-use mathlib.Core.Path.{◌≡◌, refl, sym, ap, ◌∙◌}
-use mathlib.Core.List.{List, map}
-use Prim.Native.Nat.{ℕ, zero, suc, ◌*◌, ◌/◌}
-use native.Mathlib.Omega.{arith}
-use lib.ListN.{length}
+use Rattle.std.proofs.Common.{◌≡◌, refl, sym, ap, ◌∙◌, List, map, ℕ, zero, suc, ◌*◌, ◌/◌, arith, length, Float}
 use lib.Seq.{sets}
-use lib.Ieee.{Float}
 use Rattle.lists.specs.Lists.{joined, each}
 use Rattle.mesh.specs.Limits.{width, least_ring}
 use Rattle.mesh.specs.Mesh.{Mesh, Ring, faces, position_count}

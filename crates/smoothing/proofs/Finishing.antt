@@ -1,11 +1,6 @@
 -- What a mesh that is checked comes to: a refusal by a row that was left, or a result that is written. Assumes nothing.
-use mathlib.Core.Path.{◌≡◌, refl, sym, ap, ap₂, ◌∙◌}
-use mathlib.Core.List.{List, map}
-use Prim.Native.Nat.{ℕ, ◌+◌, ◌*◌, ◌/◌, ◌≤◌}
-use native.Mathlib.Omega.{arith}
-use lib.ListN.{length, take, replicate}
+use Rattle.std.proofs.Common.{◌≡◌, refl, sym, ap, ap₂, ◌∙◌, List, map, ℕ, ◌+◌, ◌*◌, ◌/◌, ◌≤◌, arith, length, take, replicate, Float}
 use lib.Seq.{sets}
-use lib.Ieee.{Float}
 use Rattle.mesh.specs.Limits.{width, least_ring}
 use Rattle.mesh.proofs.After.{after_refused}
 use Rattle.smoothed.specs.Smoothed.{fold, edges_by_use, smoothed_faces}
@@ -70,12 +65,11 @@ module _
       sizes_room = free.sizes
 
       pub writable :
-          (r : Rows) (k : ℕ) (first second : List ℕ) (pulls : List Float) → Fronts (triangles cs) r k
-          → length first ≡ count ps → length second ≡ count ps → length pulls ≡ length ps
+          (r : Rows) (k : ℕ) → Fronts (triangles cs) r k
           → Writable ps cs ones twos
           (rows r.numbers (take k r.lowers) (take k r.highers) (take k r.firsts) (take k r.seconds) (take k r.wings))
-          ds first second pulls b.positions b.corners
-      writable r k first second pulls f a e g = record {
+          ds b.positions b.corners
+      writable r k f = record {
         triangular = c.triangular;
         points = c.points;
         smoothable = c.smoothable;
@@ -90,9 +84,6 @@ module _
         wings = f.wings;
         degrees_are = d;
         uncrowded = free.uncrowded;
-        first_long = a;
-        second_long = e;
-        pulls_long = g;
         room = omega (arith, free.positions, long);
         corner_room = free.corners;
       }

@@ -1,14 +1,10 @@
 -- Of the rows in which edges were numbered the fronts are those of the rules, and so are the counts of neighbours. Assumes nothing.
-use mathlib.Core.Path.{◌≡◌, sym, ap, ◌∙◌}
-use mathlib.Core.List.{List}
-use Prim.Native.Nat.{ℕ, ◌/◌, ◌≤◌}
-use native.Mathlib.Omega.{arith}
-use lib.ListN.{length, take, replicate, length-map}
-use lib.Seq.{sets, length-sets, length-take-le}
-use lib.Ieee.{Float}
+use Rattle.std.proofs.Common.{◌≡◌, sym, ap, ◌∙◌, List, ℕ, ◌/◌, ◌≤◌, arith, length, take, replicate, length-take-le, Float}
+use lib.ListN.{length-map}
+use lib.Seq.{sets, length-sets}
 use Rattle.lists.proofs.Buckets.{length_front}
 use Rattle.lists.proofs.Copies.{take_written}
-use Rattle.mesh.specs.Limits.{width, entry_limit, corner_limit, point_numbers}
+use Rattle.mesh.specs.Limits.{width, entry_limit, corner_limit}
 use Rattle.mesh.specs.Mesh.{Ring}
 use Rattle.verdicts.specs.Edges.{Edge}
 use Rattle.smoothed.specs.Smoothed.{edges_by_use, Smoothable}
@@ -35,9 +31,9 @@ wider cs n t = record {
 }
 
 pub numberable :
-    (ps : List Float) (cs s : List ℕ) (ones twos : List Float) (r : Rows) (ds first second : List ℕ) (pulls : List Float)
-    → Checked ps cs s ones twos → Room ps cs r ds first second pulls → Numberable cs r
-numberable ps cs s ones twos r ds first second pulls c w = record { triangular = wider cs (count ps) c.triangular; long = w.long }
+    (ps : List Float) (cs s : List ℕ) (ones twos : List Float) (r : Rows) (ds : List ℕ)
+    → Checked ps cs s ones twos → Room ps cs r ds → Numberable cs r
+numberable ps cs s ones twos r ds c w = record { triangular = wider cs (count ps) c.triangular; long = w.long }
 
 -- what stands at the front of the rows
 pub record Fronts (fs : List Ring) (r : Rows) (k : ℕ) : Type 0 where
@@ -109,24 +105,16 @@ module _ (ps : List Float) (cs s : List ℕ) (ones twos : List Float) (c : Check
   pub few_corners : length cs / width ≤ corner_limit
   few_corners = omega (arith, c.triangular.few)
 
-  pub few_numbers : length ps ≤ point_numbers
-  few_numbers = omega (arith, c.triangular.entries, c.points)
-
   pub corner_row : length cs / width ≡ length (take (length cs / width) (replicate {A = ℕ} corner_limit 0))
   corner_row = sym (length_front 0 (length cs / width) corner_limit few_corners)
 
   pub entry_row : count ps ≡ length (take (count ps) (replicate {A = ℕ} entry_limit 0))
   entry_row = sym (length_front 0 (count ps) entry_limit c.triangular.entries)
 
-  pub point_row : (x : Float) → length ps ≡ length (take (length ps) (replicate point_numbers x))
-  point_row x = sym (length_front x (length ps) point_numbers few_numbers)
-
   pub rooms :
-      (x : Float)
-      → (let row = take (length cs / width) (replicate {A = ℕ} corner_limit 0) in
-      let entries = take (count ps) (replicate {A = ℕ} entry_limit 0) in
-      Room ps cs (rows row row row row row row) entries entries entries (take (length ps) (replicate point_numbers x)))
-  rooms x = record {
+      (let row = take (length cs / width) (replicate {A = ℕ} corner_limit 0) in
+      Room ps cs (rows row row row row row row) (take (count ps) (replicate {A = ℕ} entry_limit 0)))
+  rooms = record {
     long =
         record {
           numbers = sym corner_row;
@@ -137,7 +125,4 @@ module _ (ps : List Float) (cs s : List ℕ) (ones twos : List Float) (c : Check
           wings = sym corner_row;
         };
     degrees_long = sym entry_row;
-    first_long = sym entry_row;
-    second_long = sym entry_row;
-    pulls_long = sym (point_row x);
   }

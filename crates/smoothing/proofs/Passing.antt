@@ -1,12 +1,6 @@
 -- A mesh that no row refused before the neighbours were counted is one that the code can work on. Assumes nothing.
-use mathlib.Core.Path.{◌≡◌, sym, ap, ◌∙◌}
-use mathlib.Core.Bool.{true, false, not}
-use mathlib.Core.List.{List}
-use native.Mathlib.Omega.{arith}
-use lib.ListN.{length}
-use lib.Dec.{eqb}
-use lib.Ieee.{Float}
-use borrow.Author.Tests.{eqb-true, not-false}
+use Rattle.std.proofs.Common.{◌≡◌, sym, ap, ◌∙◌, true, false, not, List, arith, length, eqb, Float, eqb-true}
+use borrow.Author.Tests.{not-false}
 use Rattle.lists.specs.Lists.{some}
 use Rattle.lists.proofs.Bools.{or_false_left, or_false_right}
 use Rattle.mesh.specs.Mesh.{Mesh, faces, position_count}

@@ -1,13 +1,6 @@
 -- How long the lists of a smoothed mesh are, and that they fit into the stated room. Assumes nothing.
-use mathlib.Core.Path.{◌≡◌, refl}
-use mathlib.Core.Bool.{true, false, ◌||◌}
-use mathlib.Core.List.{List, [], ◌∷◌}
-use Prim.Native.Nat.{ℕ, ◌+◌, ◌*◌, ◌/◌, ◌≤◌}
-use native.Mathlib.Omega.{arith}
-use lib.ListN.{length, length-map}
-use lib.Dec.{ltb, eqb}
-use lib.Ieee.{Float}
-use borrow.Author.Tests.{ltb-false, eqb-true}
+use Rattle.std.proofs.Common.{◌≡◌, refl, true, false, ◌||◌, List, [], ◌∷◌, ℕ, ◌+◌, ◌*◌, ◌/◌, ◌≤◌, arith, length, ltb, eqb, Float, ltb-false, eqb-true}
+use lib.ListN.{length-map}
 use Rattle.lists.specs.Lists.{every, sum}
 use Rattle.lists.proofs.Bools.{and_left, and_right, or_false_left, or_false_right}
 use Rattle.mesh.specs.Limits.{point_width, width, least_ring}

@@ -1,12 +1,5 @@
 -- Where the call answers 0, the mesh that it hands over is the smoothed mesh, and so all that is promised of that holds of it. Assumes nothing.
-use mathlib.Core.Path.{◌≡◌, sym, ◌∙◌}
-use mathlib.Core.Bool.{true}
-use mathlib.Core.List.{List}
-use Prim.Native.Nat.{◌*◌, ◌/◌}
-use native.Mathlib.Omega.{arith}
-use lib.ListN.{length}
-use lib.Dec.{eqb}
-use lib.Ieee.{Float}
+use Rattle.std.proofs.Common.{◌≡◌, sym, ◌∙◌, true, List, ◌*◌, ◌/◌, arith, length, eqb, Float}
 use Rattle.lists.specs.Lists.{every}
 use Rattle.lists.proofs.Fronts.{front}
 use Rattle.lists.proofs.Mapping.{every_map}

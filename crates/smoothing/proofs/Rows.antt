@@ -1,13 +1,7 @@
 -- The rows that are left once the neighbours are counted; and that these, behind those that were looked at before, are all the rows.
 -- Assumes nothing.
-use mathlib.Core.Path.{◌≡◌, refl, sym, ◌∙◌}
-use mathlib.Core.Bool.{Bool, true, false, ◌||◌}
-use mathlib.Core.List.{List, [], ◌∷◌}
-use Prim.Native.Nat.{ℕ, zero, suc, ◌+◌, ◌*◌, ◌/◌, ◌≤◌, ◌<◌}
-use lib.ListN.{length, length-map}
-use lib.Dec.{ltb}
-use lib.Ieee.{Float}
-use borrow.Author.Tests.{lt-ltb, le-ltb, ltb-false}
+use Rattle.std.proofs.Common.{◌≡◌, refl, sym, ◌∙◌, Bool, true, false, ◌||◌, List, [], ◌∷◌, ℕ, zero, suc, ◌+◌, ◌*◌, ◌/◌, ◌≤◌, ◌<◌, length, ltb, Float, lt-ltb, le-ltb, ltb-false}
+use lib.ListN.{length-map}
 use Rattle.lists.specs.Lists.{some, span}
 use Rattle.lists.proofs.Alike.{some_map}
 use Rattle.lists.proofs.Bools.{or_false_left, or_false_right}

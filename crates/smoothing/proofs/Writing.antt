@@ -1,17 +1,11 @@
 -- The result is written from the rows: what each step asks is there, and what they leave is what the rules say. Assumes nothing.
-use mathlib.Core.Path.{◌≡◌, sym, ap, ◌∙◌}
-use mathlib.Core.Bool.{false}
-use mathlib.Core.List.{List}
-use Prim.Native.Nat.{ℕ, ◌*◌, ◌/◌, ◌≤◌, ◌<◌}
-use native.Mathlib.Omega.{arith}
-use lib.ListN.{length, get_or, length-map}
+use Rattle.std.proofs.Common.{◌≡◌, sym, ap, ◌∙◌, false, List, ℕ, ◌*◌, ◌/◌, ◌≤◌, ◌<◌, arith, length, get_or, ltb, take, replicate, Float, ltb-false}
+use lib.ListN.{length-map}
 use lib.Seq.{sets, length-sets}
-use lib.Dec.{ltb}
-use lib.Ieee.{Float}
-use borrow.Author.Tests.{ltb-false}
+use Rattle.lists.proofs.Buckets.{length_front}
 use Rattle.lists.specs.Lists.{some, joined, each}
 use Rattle.lists.proofs.Parts.{some_false_at}
-use Rattle.mesh.specs.Limits.{point_width, corner_limit}
+use Rattle.mesh.specs.Limits.{point_width, corner_limit, entry_limit, point_numbers}
 use Rattle.mesh.specs.Mesh.{Ring}
 use Rattle.verdicts.specs.Edges.{Edge}
 use Rattle.smoothed.specs.Smoothed.{edges_by_use, smoothed_faces, used_in, all_used}
@@ -34,8 +28,8 @@ use Rattle.smoothing.specs.Working.{count, Writable}
 use Rattle.smoothing.proofs.Gathering.{edges_most}
 
 module _
-    (ps : List Float) (cs : List ℕ) (ones twos : List Float) (r : Rows) (ds first second : List ℕ) (sums out : List Float) (corners : List ℕ)
-    (w : Writable ps cs ones twos r ds first second sums out corners)
+    (ps : List Float) (cs : List ℕ) (ones twos : List Float) (r : Rows) (ds : List ℕ) (out : List Float) (corners : List ℕ)
+    (w : Writable ps cs ones twos r ds out corners)
   where
     abbrev fs : List Ring
     fs = triangles cs
@@ -71,21 +65,36 @@ module _
           degree_at fs n v h,
         )
 
-    pub hems_ask : HemRows r.lowers r.highers r.wings first second
-    hems_ask =
-        hem_rows n fs w.lowers w.highers w.smoothable few r.wings first second w.wings w.triangular.entries
-        w.first_long w.second_long
+    -- the rows to work in, as they are made
+    abbrev entries : List ℕ
+    entries = take (length ds) (replicate entry_limit 0)
 
-    pub pulls_ask : PullRows ps r.lowers r.highers sums
-    pulls_ask = pull_rows n fs w.lowers w.highers ps points w.smoothable few sums (w.pulls_long ∙ points)
+    abbrev sums : Float → List Float
+    sums x = take (length ps) (replicate point_numbers x)
+
+    pub entries_few : length ds ≤ entry_limit
+    entries_few = omega (arith, long, w.triangular.entries)
+
+    pub entries_long : length entries ≡ length ds
+    entries_long = length_front 0 (length ds) entry_limit entries_few
+
+    sums_long : (x : Float) → length (sums x) ≡ length ps
+    sums_long x = length_front x (length ps) point_numbers (omega (arith, w.points, w.triangular.entries))
+
+    pub hems_ask : HemRows r.lowers r.highers r.wings entries entries
+    hems_ask =
+        hem_rows n fs w.lowers w.highers w.smoothable few r.wings entries entries w.wings w.triangular.entries (entries_long ∙ long) (entries_long ∙ long)
+
+    pub pulls_ask : (x : Float) → PullRows ps r.lowers r.highers (sums x)
+    pulls_ask x = pull_rows n fs w.lowers w.highers ps points w.smoothable few (sums x) (sums_long x ∙ points)
 
     module _
         (first' second' : List ℕ) (sums' : List Float)
-        (hems : HemsAre (length first) (hems_in r.lowers r.highers r.wings) first' second')
+        (hems : HemsAre (length entries) (hems_in r.lowers r.highers r.wings) first' second')
         (pulled : sums' ≡ pulls_in (edges_in r.lowers r.highers) ps (length ps / point_width))
       where
         both : (first' ≡ hem_neighbours 0 fs n) × (second' ≡ hem_neighbours 1 fs n)
-        both = hems_come n fs w.lowers w.highers r.wings first' second' (length first) w.first_long w.wings hems
+        both = hems_come n fs w.lowers w.highers r.wings first' second' (length entries) (entries_long ∙ long) w.wings hems
 
         sums_are : sums' ≡ pulls fs ps n
         sums_are = pulls_come n fs w.lowers w.highers ps points sums' pulled

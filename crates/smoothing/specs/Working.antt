@@ -46,13 +46,10 @@ pub record Checked (ps : List Float) (cs s : List ℕ) (ones twos : List Float) 
   pub ones_long : length ones ≡ cosine_count
   pub twos_long : length twos ≡ cosine_count
 
--- rows to work in: a number for each corner, and one, or three, for each position
-pub record Room (ps : List Float) (cs : List ℕ) (r : Rows) (ds first second : List ℕ) (pulls : List Float) : Type 0 where
+-- rows to work in: a number for each corner, and one for each position
+pub record Room (ps : List Float) (cs : List ℕ) (r : Rows) (ds : List ℕ) : Type 0 where
   pub long : Long r (length cs / width)
   pub degrees_long : length ds ≡ count ps
-  pub first_long : length first ≡ count ps
-  pub second_long : length second ≡ count ps
-  pub pulls_long : length pulls ≡ length ps
 
 -- what a mesh that is checked comes to
 pub record Done
@@ -81,8 +78,7 @@ pub record Done
 
 -- the edges of the triangles and how many neighbours each position has are found, none has too many, and there is room
 pub record Writable
-    (ps : List Float) (cs : List ℕ) (ones twos : List Float) (r : Rows) (ds first second : List ℕ) (pulls : List Float)
-    (out : List Float) (corners : List ℕ)
+    (ps : List Float) (cs : List ℕ) (ones twos : List Float) (r : Rows) (ds : List ℕ) (out : List Float) (corners : List ℕ)
     : Type 0 where
   pub triangular : Triangular cs (count ps)
   pub points : length ps % point_width ≡ 0
@@ -98,9 +94,6 @@ pub record Writable
   pub wings : r.wings ≡ edge_wings (triangles cs)
   pub degrees_are : ds ≡ degrees (triangles cs) (count ps)
   pub uncrowded : some (ltb cosine_count) ds ≡ false
-  pub first_long : length first ≡ count ps
-  pub second_long : length second ≡ count ps
-  pub pulls_long : length pulls ≡ length ps
   pub room : point_width * (count ps + length cs / width) ≤ length out
   pub corner_room : fold * length cs ≤ length corners
 

@@ -79,6 +79,18 @@ fn refused(number: u32) -> Smoothed
     }
 }
 
+// What is known of each use of an edge, its number, and of each edge, by these numbers: its lower and its higher position, its first and
+// its last wing, and how many wings it has.
+#[derive(Clone, Copy)]
+struct EdgeRows<'a> {
+    numbers: &'a [u32],
+    lowers: &'a [u32],
+    highers: &'a [u32],
+    firsts: &'a [u32],
+    seconds: &'a [u32],
+    wings: &'a [u32],
+}
+
 // A mesh that has passed the tests, with rows to work in: a number for each use of an edge, and for each position.
 fn smooth(
     positions: &[f64],
@@ -103,12 +115,8 @@ fn smooth(
     let mut seconds = [0u32; mesh::CORNERS];
     let mut wings = [0u32; mesh::CORNERS];
     let mut degrees = [0u32; mesh::ENTRIES];
-    let mut first = [0u32; mesh::ENTRIES];
-    let mut second = [0u32; mesh::ENTRIES];
-    let mut pulls = [0.0f64; mesh::POINT_NUMBERS];
     let u = corners.len() / WIDTH;
     let n = positions.len() / POINT_WIDTH;
-    let p = positions.len();
     smooth_in(
         positions,
         corners,
@@ -122,9 +130,6 @@ fn smooth(
         &mut seconds[..u],
         &mut wings[..u],
         &mut degrees[..n],
-        &mut first[..n],
-        &mut second[..n],
-        &mut pulls[..p],
         newpositions,
         newcorners,
         newsizes,
@@ -145,23 +150,27 @@ fn smooth_in(
     seconds: &mut [u32],
     wings: &mut [u32],
     degrees: &mut [u32],
-    first: &mut [u32],
-    second: &mut [u32],
-    pulls: &mut [f64],
     newpositions: &mut [f64],
     newcorners: &mut [u32],
     newsizes: &mut [u32],
 ) -> Smoothed
     requires checked { Checked positions.now corners.now sizes.now ones.now twos.now }
-    requires room { Room positions.now corners.now (rows numbers.old lowers.old highers.old firsts.old seconds.old wings.old)
-        degrees.old first.old second.old pulls.old }
+    requires room { Room positions.now corners.now (rows numbers.old lowers.old highers.old firsts.old seconds.old wings.old) degrees.old }
     ensures { Done positions.now corners.now sizes.now ones.now twos.now
         (lists newpositions.old newcorners.old newsizes.old)
         (lists newpositions.new newcorners.new newsizes.new)
         result }
 {
-    let edges = numbering::number_edges(corners, numbers, lowers, highers, firsts, seconds, wings);
-    around::put_degrees(&lowers[..edges], &highers[..edges], degrees);
+    let count = numbering::number_edges(corners, numbers, lowers, highers, firsts, seconds, wings);
+    let edges = EdgeRows {
+        numbers,
+        lowers: &lowers[..count],
+        highers: &highers[..count],
+        firsts: &firsts[..count],
+        seconds: &seconds[..count],
+        wings: &wings[..count],
+    };
+    around::put_degrees(edges.lowers, edges.highers, degrees);
     let number = late_number(
         degrees,
         corners.len(),
@@ -178,23 +187,15 @@ fn smooth_in(
         corners,
         ones,
         twos,
-        numbers,
-        &lowers[..edges],
-        &highers[..edges],
-        &firsts[..edges],
-        &seconds[..edges],
-        &wings[..edges],
+        edges,
         degrees,
-        first,
-        second,
-        pulls,
         newpositions,
         newcorners,
     );
     fourfold::put_sizes(sizes.len(), newsizes);
     Smoothed {
         number: 0,
-        positions: degrees.len() + edges,
+        positions: degrees.len() + count,
         corners: FOLD * (corners.len() / WIDTH),
         faces: FOLD * sizes.len(),
     }
@@ -218,13 +219,10 @@ fn late_number(
     if MOST_FACES < faces {
         return 1;
     }
-    if newpositions < POINT_WIDTH * (degrees.len() + corners / WIDTH) {
-        return 9;
-    }
-    if newcorners < FOLD * corners {
-        return 9;
-    }
-    if newsizes < FOLD * faces {
+    if newpositions < POINT_WIDTH * (degrees.len() + corners / WIDTH)
+        || newcorners < FOLD * corners
+        || newsizes < FOLD * faces
+    {
         return 9;
     }
     0
@@ -236,40 +234,39 @@ fn write(
     corners: &[u32],
     ones: &[f64],
     twos: &[f64],
-    numbers: &[u32],
-    lowers: &[u32],
-    highers: &[u32],
-    firsts: &[u32],
-    seconds: &[u32],
-    wings: &[u32],
+    edges: EdgeRows,
     degrees: &[u32],
-    first: &mut [u32],
-    second: &mut [u32],
-    pulls: &mut [f64],
     newpositions: &mut [f64],
     newcorners: &mut [u32],
 )
     requires { Writable positions.now corners.now ones.now twos.now
-        (rows numbers.now lowers.now highers.now firsts.now seconds.now wings.now)
-        degrees.now first.old second.old pulls.old newpositions.old newcorners.old }
+        (rows edges.numbers.now edges.lowers.now edges.highers.now edges.firsts.now edges.seconds.now edges.wings.now)
+        degrees.now newpositions.old newcorners.old }
     ensures { Filled positions.now corners.now ones.now twos.now
         newpositions.old newpositions.new newcorners.old newcorners.new }
 {
-    around::put_hems(lowers, highers, wings, first, second);
-    pulling::put_pulls(positions, lowers, highers, pulls);
+    let n = degrees.len();
+    let mut first = [0u32; mesh::ENTRIES];
+    let mut second = [0u32; mesh::ENTRIES];
+    let mut pulls = [0.0f64; mesh::POINT_NUMBERS];
+    let first = &mut first[..n];
+    let second = &mut second[..n];
+    let pulls = &mut pulls[..positions.len()];
+    around::put_hems(edges.lowers, edges.highers, edges.wings, first, second);
+    pulling::put_pulls(positions, edges.lowers, edges.highers, pulls);
     moved::put_moved(positions, degrees, first, second, pulls, twos, newpositions);
     moved::put_middles(
         positions,
-        lowers,
-        highers,
-        firsts,
-        seconds,
-        wings,
+        edges.lowers,
+        edges.highers,
+        edges.firsts,
+        edges.seconds,
+        edges.wings,
         degrees,
         second,
         ones,
         newpositions,
-        degrees.len(),
+        n,
     );
-    fourfold::put_faces(corners, numbers, degrees.len(), newcorners);
+    fourfold::put_faces(corners, edges.numbers, n, newcorners);
 }
