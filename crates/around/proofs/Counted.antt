@@ -1,5 +1,5 @@
 -- How many neighbours each position has, one edge more at a time. Assumes nothing.
-use Rattle.std.proofs.Common.{◌≡◌, sym, ap, ap₂, ◌∙◌, subst, List, [], ◌∷◌, ℕ, ◌+◌, ◌≤◌, ◌<◌, add-zero, arith, length, get_or, set, replicate, get_or-set_other}
+use Rattle.std.proofs.Common.{◌≡◌, sym, ap, ap₂, ◌∙◌, subst, List, [], ◌∷◌, ℕ, ◌+◌, ◌≤◌, ◌<◌, add-zero, arith, length, get_or, replicate}
 use lib.ListN.{length-replicate}
 use Rattle.lists.proofs.Buckets.{table_ext}
 use Rattle.mesh.specs.Limits.{corner_limit, largest}
@@ -81,10 +81,3 @@ module _ (n : ℕ) (ls hs : List ℕ) where
       let z : e ≡ length ls = omega (arith, c.within) in
       table_ext (λ v. length (neighbours_in (edges_in ls hs) v)) n 0 l c.long
       (λ v u. counted_at l e v u c ∙ ap (λ (m : ℕ). length (neighbours_in (edges_to ls hs m) v)) z)
-
--- the second of two counts fits
-pub second_fits : (l : List ℕ) (a b x : ℕ) → CountAt a b l → get_or (set l a x) b 0 < largest
-second_fits l a b x c =
-    let o : a < b = c.ordered in
-    let e : get_or (set l a x) b 0 ≡ get_or l b 0 = get_or-set_other l a b x 0 (λ q. omega arith) in
-    omega (arith, c.higher_fits)

@@ -1,12 +1,10 @@
 -- The edges of two rows, one more at a time. Assumes nothing.
-use Rattle.std.proofs.Common.{◌≡◌, ap, ◌∙◌, Bool, true, false, List, [], ◌∷◌, ◌++◌, map, append-nil, ℕ, ◌+◌, ◌-◌, ◌≤◌, ◌<◌, zero-add, arith, eqb, length, get_or, replicate}
+use Rattle.std.proofs.Common.{◌≡◌, ap, ◌∙◌, Bool, true, false, List, [], ◌∷◌, ◌++◌, map, append-nil, ℕ, ◌+◌, ◌≤◌, ◌<◌, zero-add, arith, eqb, length, get_or}
 use mathlib.Core.List.{map-append}
-use lib.ListN.{length-map, length-replicate}
-use lib.Seq.{sets}
+use lib.ListN.{length-map}
 use Rattle.lists.specs.Lists.{keep_if, only, span}
 use Rattle.lists.proofs.Buckets.{only_snoc, span_snoc, length_span}
 use Rattle.lists.proofs.Mapping.{map_keep}
-use Rattle.lists.proofs.Copies.{sets_whole}
 use Rattle.lists.proofs.Only.{only_length}
 use Rattle.verdicts.specs.Edges.{Edge}
 use Rattle.smoothed.specs.Around.{ends, across}
@@ -58,10 +56,3 @@ unfolding neighbours_in
 neighbours_few es v =
     let a : length (map (across v) (only (ends v) es)) ≡ length (only (ends v) es) = length-map (only (ends v) es) (across v) in
     omega (arith, only_length (ends v) es)
-
--- a list that is filled from end to end
-pub filled_whole : {A : Type 0} (l₀ l : List A) (x : A) (n : ℕ) → n ≡ length l₀ → l ≡ sets l₀ 0 (replicate (n - 0) x) → l ≡ replicate n x
-filled_whole l₀ l x n e h =
-    let m : length (replicate (n - 0) x) ≡ n - 0 = length-replicate (n - 0) x in
-    let z : n - 0 ≡ n = omega arith in
-    h ∙ sets_whole l₀ (replicate (n - 0) x) (omega arith) ∙ ap (λ (k : ℕ). replicate k x) z

@@ -11,7 +11,7 @@ use Rattle.smoothed.specs.Around.{ends, across}
 use Rattle.smoothed.proofs.All.{All, none, more, all_map, all_append}
 use Rattle.smoothed.proofs.Inside.{all_only, all_mapped}
 use Rattle.around.specs.Rows.{edge_at, hems_to, hems_in, neighbours_in, chosen_in, EdgeRows, HemsAre}
-use Rattle.around.specs.Steps.{Hems, filled, second_filled, given, given_both, given_at, HemAt}
+use Rattle.around.specs.Steps.{Hems, filled, second_filled, given, given_both, given_at}
 use Rattle.around.proofs.Gathering.{steps, Gathered, Visited, gather_begins, gather_turns, Joins}
 use Rattle.around.proofs.Edges.{hems_more, hems_same, joins}
 
@@ -151,23 +151,6 @@ module _ (n : ℕ) (ls hs ws : List ℕ) where
         gather_begins hem_step (missing, missing) n (entries (first, second))
         (λ v b. ap₂ (λ (f s : List ℕ). entries (f, s) v) p q ∙ ap (λ (x : ℕ). (x, x)) (get_or-replicate n v missing 0 b));
   }
-
-  pub hem_ready :
-      (first second : List ℕ) (e : ℕ) → EdgeRows n ls hs → length ws ≡ length ls → e < length ls → Hemmed n ls hs ws (first, second) e
-      → HemAt ls hs ws e first second
-  hem_ready first second e r l b c =
-      let j : Joins n (edge_at ls hs e) = joins ls hs n e r b in
-      let low : get_or ls e 0 < n = j.lower_below in
-      let high : get_or hs e 0 < n = j.higher_below in
-      let f : length first ≡ n = c.first_long in
-      let s : length second ≡ n = c.second_long in
-      record {
-        lower_below = b;
-        higher_below = omega (arith, r.long);
-        wings_below = omega arith;
-        at_lower = record { first_below = omega arith; second_below = omega arith };
-        at_higher = record { first_below = omega arith; second_below = omega arith };
-      }
 
   -- an edge with one wing, and another
   more_turns :

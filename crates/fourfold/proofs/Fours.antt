@@ -9,7 +9,7 @@ use Rattle.lists.proofs.Writing.{sets_front}
 use Rattle.lists.specs.Lists.{joined, each}
 use Rattle.lists.specs.Putting.{Written}
 use Rattle.lists.proofs.Changing.{map_at}
-use Rattle.lists.proofs.Listing.{Listing, written_long, listing_begins, listing_turns, listing_ends}
+use Rattle.lists.proofs.Listing.{Listing, written_long, listing_turns, listing_ends}
 use Rattle.lists.proofs.Mapping.{each_each}
 use Rattle.mesh.specs.Limits.{least_ring, corner_limit}
 use Rattle.mesh.specs.Mesh.{Corner, Ring}
@@ -88,9 +88,6 @@ module _ (cs es : List ℕ) (n : ℕ) (out : List ℕ) (g : Given cs es n out) w
       let e : get_or es i 0 ≡ place ks (get_or (each sides fs) i (0, 0)) =
       ap (λ (t : List ℕ). get_or t i 0) g.numbers ∙ map_at (place ks) (0, 0) 0 (each sides fs) i l in
       omega (arith, place_most ks (get_or (each sides fs) i (0, 0)), edges_few fs, length_triangles cs, g.triangular.few)
-
-  pub folding_begins : Folding cs n out out 0
-  folding_begins = listing_begins [] (flat cs n) (triangles cs) out 0
 
   pub folding_long : (out' : List ℕ) (k : ℕ) → Folding cs n out out' k → length out' ≡ length out
   folding_long out' k f = written_long _ out out' 0 (fold * triangle_numbers * k) f.put

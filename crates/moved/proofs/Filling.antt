@@ -1,5 +1,5 @@
 -- Points written one behind the other into a flat list. Assumes nothing.
-use Rattle.std.proofs.Common.{◌≡◌, ℕ, zero, suc, ◌+◌, ◌*◌, ◌<◌, ◌≤◌, List, length, sym, refl, ap, ◌∙◌, arith, Float}
+use Rattle.std.proofs.Common.{◌≡◌, ℕ, zero, suc, ◌+◌, ◌*◌, ◌<◌, ◌≤◌, List, length, sym, ap, ◌∙◌, arith, Float}
 use lib.Seq.{sets, length-sets}
 use Rattle.lists.specs.Lists.{each, span}
 use Rattle.lists.proofs.Buckets.{start, start_zero, start_next, each_span_snoc}
@@ -28,9 +28,6 @@ module _ (f : ℕ → ℕ → Float) where
       rw s (omega arith)
 
   module _ (l : List Float) (at n : ℕ) where
-    pub fill_begins : Filling f l l at n 0
-    fill_begins = record { within = omega arith; written = refl; long = refl }
-
     pub fill_turns :
         (l' l'' : List Float) (k j : ℕ) (p : Point) → k < n → j ≡ at + k → coordinates p ≡ points k → l'' ≡ sets l' (3 * j) (coordinates p)
         → Filling f l l' at n k → Filling f l l'' at n (k + 1)

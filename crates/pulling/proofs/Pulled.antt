@@ -1,6 +1,6 @@
 -- How far the neighbours of each position lie from it, one edge more at a time. Positions and sums are flat lists, three numbers for
 -- each position, and an edge of positions is three edges of their numbers. Assumes nothing.
-use Rattle.std.proofs.Common.{◌≡◌, refl, sym, ap, ap₂, ◌∙◌, subst, false, List, [], ◌∷◌, ◌++◌, map, append-nil, append_assoc, ℕ, zero, suc, ◌+◌, ◌*◌, ◌/◌, ◌%◌, ◌≤◌, ◌<◌, add-zero, arith}
+use Rattle.std.proofs.Common.{◌≡◌, refl, sym, ap, ap₂, ◌∙◌, subst, false, List, [], ◌∷◌, ◌++◌, map, append-nil, append_assoc, ℕ, zero, suc, ◌+◌, ◌*◌, ◌/◌, ◌%◌, ◌≤◌, ◌<◌, arith}
 use Rattle.std.proofs.Common.{eqb, length, get_or, drop, replicate, drop_of_length-le, drop-cons, Float, eqb-true, eq-eqb, ne_eqb}
 use mathlib.Core.List.{map-append}
 use lib.ListN.{length-replicate}
@@ -18,7 +18,7 @@ use Rattle.around.specs.Rows.{edge_at, edges_to, edges_in, neighbours_in}
 use Rattle.around.specs.Steps.{both, passed}
 use Rattle.around.proofs.Gathering.{steps, Gathered, both_long, both_gathers, filled_begins, Joins, neighbours_append, no_neighbours, at_lower, at_higher, elsewhere}
 use Rattle.around.proofs.Edges.{edges_more, joins}
-use Rattle.pulling.specs.Pulls.{pulls_in, tug, on_axis, threefold, PullRows, PairAt}
+use Rattle.pulling.specs.Pulls.{pulls_in, tug, on_axis, threefold, PullRows}
 
 -- ---- the neighbours of one number
 
@@ -114,16 +114,6 @@ flat_from d l (suc n) a e =
 
 -- ---- the pass
 
--- one edge of positions
-pub pulled_is :
-    (ps l l₁ l₂ l₃ : List Float) (a b : ℕ) → l₁ ≡ both nan (tug ps) (point_width * a, point_width * b) l
-    → l₂ ≡ both nan (tug ps) (point_width * a + 1, point_width * b + 1) l₁ → l₃ ≡ both nan (tug ps) (point_width * a + 2, point_width * b + 2) l₂
-    → l₃ ≡ passed nan (tug ps) (threefold (a, b)) l
-pulled_is ps l l₁ l₂ l₃ a b p q r =
-    let step : Edge → List Float → List Float = both nan (tug ps) in
-    let f : l₁ ≡ step (on_axis 0 (a, b)) l = p ∙ ap₂ (λ (i j : ℕ). step (i, j) l) (sym (add-zero (point_width * a))) (sym (add-zero (point_width * b))) in
-    r ∙ ap (step (on_axis 2 (a, b))) (q ∙ ap (step (on_axis 1 (a, b))) f)
-
 -- the first e edges have pulled
 pub record Pulled (ps : List Float) (ls hs : List ℕ) (l : List Float) (e : ℕ) : Type 0 where
   pub within : e ≤ length ls
@@ -145,15 +135,6 @@ module _ (ps : List Float) (ls hs : List ℕ) where
     long = ap length q ∙ length-replicate (length ps) nought;
     gathered = filled_begins nan (tug ps) nought l (length ps) q;
   }
-
-  pub pull_ready :
-      (l sums : List Float) (e a b : ℕ) → PullRows ps ls hs sums → e < length ls → a ≡ get_or ls e 0 → b ≡ get_or hs e 0 → Pulled ps ls hs l e
-      → PairAt a b ps l
-  pull_ready l sums e a b r h p q c =
-      let j : Joins (length ps / point_width) (edge_at ls hs e) = joins ls hs (length ps / point_width) e r.edges h in
-      let x : get_or ls e 0 < length ps / point_width = j.lower_below in
-      let y : get_or hs e 0 < length ps / point_width = j.higher_below in
-      record { long = c.long; first_fits = omega arith; second_fits = omega arith }
 
   -- three edges more
   three_gather :

@@ -102,9 +102,6 @@ module _ (cs : List ℕ) where
       ∙ ap (map f) (sym (triangle_uses cs))
 
   module _ (lower₀ higher₀ wing₀ : List ℕ) where
-    pub fill_begins : Filling cs lower₀ higher₀ wing₀ lower₀ higher₀ wing₀ 0
-    fill_begins = record { within = omega arith; lower_is = refl; higher_is = refl; wing_is = refl }
-
     module _ (room : SideRoom cs lower₀ higher₀ wing₀) where
       whole : (m : ℕ) → m ≡ length cs / width → m ≡ least_ring * triangle_count cs
       whole m e = omega (arith, room.triangular.whole)
@@ -147,14 +144,3 @@ module _ (cs : List ℕ) where
               higher_is = all_of higher_of higher₀ higher (whole (length higher₀) room.higher_long) (r.higher_is ∙ ap (λ (n : ℕ). sets higher₀ 0 (map higher_of (uses_upto cs n))) e);
               wing_is = all_of wing_of wing₀ wing (whole (length wing₀) room.wing_long) (r.wing_is ∙ ap (λ (n : ℕ). sets wing₀ 0 (map wing_of (uses_upto cs n))) e);
             }
-
--- the columns stay as long as they were
-module _ {cs lower₀ higher₀ wing₀ lower higher wing : List ℕ} {k : ℕ} (r : Filling cs lower₀ higher₀ wing₀ lower higher wing k) where
-  pub lower_kept : length lower ≡ length lower₀
-  lower_kept = as_long cs lower_of lower₀ lower k r.lower_is
-
-  pub higher_kept : length higher ≡ length higher₀
-  higher_kept = as_long cs higher_of higher₀ higher k r.higher_is
-
-  pub wing_kept : length wing ≡ length wing₀
-  wing_kept = as_long cs wing_of wing₀ wing k r.wing_is

@@ -143,7 +143,3 @@ module _ (lower higher firsts : List ℕ) (e : EdgeColumns lower higher firsts) 
     alike_is = λ x h. alike_at (length lower) corner_limit x e.few h;
     order_long = length_front 0 (length lower) corner_limit e.few;
   }
-
-pub front_long :
-    (b : ℕ) (lower higher firsts : List ℕ) → EdgeColumns lower higher firsts → length (take (length lower) (replicate corner_limit b)) ≡ length lower
-front_long b lower higher firsts e = length_front b (length lower) corner_limit e.few

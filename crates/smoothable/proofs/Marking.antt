@@ -35,13 +35,6 @@ pub record Marking (cs used used' : List ℕ) (k : ℕ) : Type 0 where
   pub long : length used' ≡ length used
   pub marks : (p : ℕ) → p < length used → eqb (get_or used' p 0) 1 ≡ has p (take k (at cs))
 
-pub marking_begins : (cs used : List ℕ) → Markable cs used → Marking cs used used 0
-marking_begins cs used m = record {
-  within = omega arith;
-  long = refl;
-  marks = λ p h. ap (λ (n : ℕ). eqb n 1) (m.fresh p h);
-}
-
 length_at : (cs : List ℕ) → length (at cs) ≡ length cs / width
 length_at cs = length-map (corners_in cs) position ∙ length-corners_in cs
 

@@ -11,7 +11,7 @@ use Rattle.numbering.specs.Numbering.{Rows, rows}
 use Rattle.moved.proofs.Conditions.{degrees_long}
 use Rattle.fourfold.proofs.Fours.{sizes_are}
 use Rattle.smoothing.specs.declared.Smoothed.{Smoothed}
-use Rattle.smoothing.specs.Working.{count, refused_by, Few, late_number, Checked, Done, Writable, Filled}
+use Rattle.smoothing.specs.Working.{count, refused_by, late_number, Checked, Done, Writable, Filled}
 use Rattle.smoothing.proofs.Rows.{LatePassed, late_passed}
 use Rattle.smoothing.proofs.Gathering.{Fronts}
 
@@ -21,9 +21,6 @@ module _
   where
     long : length ds ≡ count ps
     long = ap length d ∙ degrees_long (triangles cs) (count ps)
-
-    pub within : Few (length ds) (length cs) (length s)
-    within = record { positions = omega (arith, long, c.triangular.entries); corners = c.triangular.few; faces = c.few }
 
     -- the number of the rows that are left
     number_is :

@@ -1,10 +1,9 @@
 -- Of the rows in which edges were numbered the fronts are those of the rules, and so are the counts of neighbours. Assumes nothing.
-use Rattle.std.proofs.Common.{◌≡◌, sym, ap, ◌∙◌, List, ℕ, ◌/◌, ◌≤◌, arith, length, take, replicate, length-take-le, Float}
+use Rattle.std.proofs.Common.{◌≡◌, sym, ap, ◌∙◌, List, ℕ, ◌/◌, ◌≤◌, arith, length, take, length-take-le}
 use lib.ListN.{length-map}
 use lib.Seq.{sets, length-sets}
-use Rattle.lists.proofs.Buckets.{length_front}
 use Rattle.lists.proofs.Copies.{take_written}
-use Rattle.mesh.specs.Limits.{width, entry_limit, corner_limit}
+use Rattle.mesh.specs.Limits.{width}
 use Rattle.mesh.specs.Mesh.{Ring}
 use Rattle.verdicts.specs.Edges.{Edge}
 use Rattle.smoothed.specs.Smoothed.{edges_by_use, Smoothable}
@@ -12,28 +11,13 @@ use Rattle.smoothed.specs.Around.{wings, first_wing, second_wing}
 use Rattle.smoothed.specs.Columns.{triangles, Triangular, edge_numbers, edge_lowers, edge_highers, edge_firsts, edge_seconds, edge_wings, degrees}
 use Rattle.smoothed.proofs.Limits.{edges_few}
 use Rattle.smoothed.proofs.Triangles.{length_triangles}
-use Rattle.numbering.specs.Numbering.{Rows, rows, Long, Numberable, Numbered}
+use Rattle.numbering.specs.Numbering.{Rows, Long, Numbered}
 use Rattle.around.specs.Rows.{edges_in, degrees_in, EdgeRows}
 use Rattle.around.proofs.Rules.{degree_rows, degrees_come}
-use Rattle.smoothing.specs.Working.{count, Checked, Room}
 
 -- the triangles have no more edges than corners
 pub edges_most : (cs : List ℕ) → length (edges_by_use (triangles cs)) ≤ length cs / width
 edges_most cs = omega (arith, edges_few (triangles cs), length_triangles cs)
-
--- more positions: what was below them is
-wider : (cs : List ℕ) (n : ℕ) → Triangular cs n → Triangular cs entry_limit
-wider cs n t = record {
-  whole = t.whole;
-  few = t.few;
-  entries = omega arith;
-  below = λ k h. omega (arith, t.below k h, t.entries);
-}
-
-pub numberable :
-    (ps : List Float) (cs s : List ℕ) (ones twos : List Float) (r : Rows) (ds : List ℕ)
-    → Checked ps cs s ones twos → Room ps cs r ds → Numberable cs r
-numberable ps cs s ones twos r ds c w = record { triangular = wider cs (count ps) c.triangular; long = w.long }
 
 -- what stands at the front of the rows
 pub record Fronts (fs : List Ring) (r : Rows) (k : ℕ) : Type 0 where
@@ -98,31 +82,3 @@ module _ (cs : List ℕ) (n : ℕ) (r : Rows) (k : ℕ) (t : Triangular cs n) (s
       (ds ds' : List ℕ) → length ds ≡ n → ds' ≡ degrees_in (edges_in (take k r.lowers) (take k r.highers)) (length ds)
       → ds' ≡ degrees (triangles cs) n
   counted ds ds' e h = degrees_come n (triangles cs) f.lowers f.highers ds' (length ds) e h
-
--- ---- rows that are cut from rows at the limits
-
-module _ (ps : List Float) (cs s : List ℕ) (ones twos : List Float) (c : Checked ps cs s ones twos) where
-  pub few_corners : length cs / width ≤ corner_limit
-  few_corners = omega (arith, c.triangular.few)
-
-  pub corner_row : length cs / width ≡ length (take (length cs / width) (replicate {A = ℕ} corner_limit 0))
-  corner_row = sym (length_front 0 (length cs / width) corner_limit few_corners)
-
-  pub entry_row : count ps ≡ length (take (count ps) (replicate {A = ℕ} entry_limit 0))
-  entry_row = sym (length_front 0 (count ps) entry_limit c.triangular.entries)
-
-  pub rooms :
-      (let row = take (length cs / width) (replicate {A = ℕ} corner_limit 0) in
-      Room ps cs (rows row row row row row row) (take (count ps) (replicate {A = ℕ} entry_limit 0)))
-  rooms = record {
-    long =
-        record {
-          numbers = sym corner_row;
-          lowers = sym corner_row;
-          highers = sym corner_row;
-          firsts = sym corner_row;
-          seconds = sym corner_row;
-          wings = sym corner_row;
-        };
-    degrees_long = sym entry_row;
-  }
