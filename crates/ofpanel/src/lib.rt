@@ -76,13 +76,10 @@ fn write_panels(firsts: &[u32], faces: &[u32], labels: &[u32], out: &mut [u32])
     ensures { out.new ≡ sets out.old 0 (panels_by firsts.now faces.now labels.now) }
 {
     let u = faces.len();
-    let h = firsts.len() - u;
-    let mut k: usize = 0;
-    while k < h {
-        let first = lists::wide(firsts[u + k]);
-        let face = lists::wide(faces[first]);
+    for k in 0..firsts.len() - u {
+        let first = firsts[u + k] as usize;
+        let face = faces[first] as usize;
         out[k] = labels[face];
-        k += 1;
     }
 }
 
@@ -152,12 +149,10 @@ fn put_hem_ends(flat: &[u32], edges: &[u32], which: u32, out: &mut [u32])
     ensures { out.new ≡ map (hem_end which) (parts edges.now flat.now) }
 {
     let mut from: usize = 0;
-    let mut k: usize = 0;
-    while k < edges.len() {
-        let end = from + lists::wide(edges[k]);
+    for (k, n) in edges.iter().enumerate() {
+        let end = from + *n as usize;
         out[k] = hem_end(&flat[from..end], which);
         from = end;
-        k += 1;
     }
 }
 
