@@ -5,9 +5,9 @@ use Rattle.mesh.specs.Limits.{width}
 use Rattle.mesh.specs.Mesh.{Mesh}
 use Rattle.mesh.specs.Table.{shape_number}
 use Rattle.mesh.specs.Face.{offset_of, face_part}
-use Rattle.faces.specs.declared.Pushed.{Pushed}
+use Rattle.faces.specs.Faces.{Pushed}
 use Rattle.unused.specs.declared.Compacted.{Compacted}
-use Rattle.removal.specs.declared.Removed.{Removed}
+use Rattle.removal.specs.Folded.{Removed}
 use Rattle.together.specs.declared.Merged.{Merged}
 use Rattle.smoothing.specs.declared.Smoothed.{Smoothed}
 use Rattle.edges.specs.Edges.{Verdict}

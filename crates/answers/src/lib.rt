@@ -7,13 +7,15 @@
 ghost use Rattle.std.specs.Prelude.{◌≡◌};
 ghost use Rattle.mesh.specs.Mesh.{mesh_of};
 ghost use Rattle.edges.specs.Answers.{verdict_of};
+ghost use Rattle.faces.specs.Faces.{pushed_of};
+ghost use Rattle.removal.specs.Folded.{removed_of};
 ghost use Rattle.answers.specs.Answers as want;
 
 use edges::{HemEdges, ShellCondition};
-use faces::Pushed;
+use grouping::Filled;
 use hemlist::Listed;
 use merging::Merged;
-use removal::Removed;
+use mesh::Refusal;
 use smoothing::Smoothed;
 use tracing::Wires;
 use unused::Compacted;
@@ -42,13 +44,27 @@ pub fn part(
     }
 }
 
-// Faces that are grouped: corners and faces.
-pub fn pushed(grouped: Pushed, corners: &mut usize, faces: &mut usize) -> u32
-    ensures { want.pushed_by result corners.new faces.new ≡ grouped }
+// Faces that are grouped, or that are left where folded ones are removed: corners and faces.
+pub fn filled(
+    answer: Result<Filled, Refusal>,
+    corners: &mut usize,
+    faces: &mut usize,
+) -> u32
+    ensures pushed { want.pushed_by result corners.new faces.new ≡ pushed_of answer }
+    ensures removed { want.removed_by result corners.new faces.new ≡ removed_of answer }
 {
-    *corners = grouped.corners;
-    *faces = grouped.faces;
-    grouped.number
+    match answer {
+        Ok(filled) => {
+            *corners = filled.corners;
+            *faces = filled.faces;
+            0
+        }
+        Err(refusal) => {
+            *corners = 0;
+            *faces = 0;
+            refusal.number()
+        }
+    }
 }
 
 // Compaction: positions, texture points and normals.
@@ -64,15 +80,6 @@ pub fn compacted(
     *textures = made.textures;
     *normals = made.normals;
     made.number
-}
-
-// Removal of folded faces: corners and faces.
-pub fn removed(left: Removed, corners: &mut usize, faces: &mut usize) -> u32
-    ensures { want.removed_by result corners.new faces.new ≡ left }
-{
-    *corners = left.corners;
-    *faces = left.faces;
-    left.number
 }
 
 // Merging: the pairs compared among positions, texture points and normals.

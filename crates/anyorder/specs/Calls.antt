@@ -6,7 +6,6 @@ use Rattle.lists.specs.Lists.{every}
 use Rattle.mesh.specs.Limits.{point_width, texel_width}
 use Rattle.mesh.specs.Mesh.{Mesh, mesh_of}
 use Rattle.mesh.specs.Table.{mesh_number}
-use Rattle.removal.specs.declared.Removed.{Removed}
 use Rattle.removal.specs.Folded as removal
 use Rattle.unused.specs.declared.Compacted.{Compacted}
 use Rattle.unused.specs.Compaction as compaction
@@ -18,7 +17,7 @@ use Rattle.anyorder.specs.Orders.{Step, Remove, Compact, sensible}
 pub record RemovalCall (m : Mesh) : Type 0 where
   pub before : removal.Result
   pub afterwards : removal.Result
-  pub answer : Removed
+  pub answer : removal.Removed
   pub contract : removal.Removal m before afterwards answer
   pub room : removal.too_short m before ≡ false
 

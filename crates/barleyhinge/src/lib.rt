@@ -33,6 +33,7 @@ ghost use Rattle.fileanswers.specs.Answers as fileanswer;
 ghost use Rattle.barleyhinge.specs.Calls as call;
 
 use edges::Judged;
+use mesh::Mesh;
 
 // The number that a mesh earns, 0 to 5.
 #[unsafe(no_mangle)]
@@ -85,7 +86,7 @@ pub extern "C" fn bh_push(
         (answer.pushed_by result cornercount.new facecount.new) }
 {
     let pushed = faces::push(corners, sizes, newcorners, newsizes);
-    answers::pushed(pushed, cornercount, facecount)
+    answers::filled(pushed, cornercount, facecount)
 }
 
 // Compaction.
@@ -167,10 +168,15 @@ pub extern "C" fn bh_remove_degenerate_faces(
         (folding.result_of newcorners.new newsizes.new origins.new)
         (answer.removed_by result cornercount.new facecount.new) }
 {
-    let left = folded::remove_degenerate_faces(
-        positions, textures, normals, corners, sizes, newcorners, newsizes, origins,
-    );
-    answers::removed(left, cornercount, facecount)
+    let mesh = Mesh {
+        positions,
+        textures,
+        normals,
+        corners,
+        sizes,
+    };
+    let left = folded::remove_degenerate_faces(&mesh, newcorners, newsizes, origins);
+    answers::filled(left, cornercount, facecount)
 }
 
 // Merging: the new corners, and how many pairs were compared among positions, texture points and normals.

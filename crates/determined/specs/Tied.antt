@@ -5,7 +5,8 @@ use Rattle.std.specs.Prelude.{ℕ, ◌≡◌, List, Float, ℤ}
 use Rattle.std.specs.Borrow.{Bor, MutBor}
 use Rattle.mesh.specs.Mesh.{Mesh, mesh_of}
 use Rattle.mesh.specs.Listed.{Listed, listed_of}
-use Rattle.faces.specs.Faces.{FaceLists, faces_of}
+use Rattle.mesh.specs.Seen.{seen}
+use Rattle.faces.specs.Faces.{FaceLists, faces_of, pushed_of}
 use Rattle.unused.specs.Compaction as compaction
 use Rattle.removal.specs.Folded as removal
 use Rattle.smoothed.specs.Refusals as smoothed
@@ -129,12 +130,12 @@ OneResult {K} {A} {R} {E} Post result =
 pub record AllTied : Type 0 where
   pub number_tied : Tied mesh-number.Post number mesh_in (λ r e. r)
   pub face_tied : Tied mesh-face.Post face (λ a. (mesh_in a, (rest a).0)) (λ r e. r.now)
-  pub push_tied : Tied push.Post push_call (λ a. (face_lists a, face_lists_mut a.1.1)) (λ r e. (r, face_lists_mut e.1.1))
+  pub push_tied : Tied push.Post push_call (λ a. (face_lists a, face_lists_mut a.1.1)) (λ r e. (pushed_of r, face_lists_mut e.1.1))
   pub compaction_tied :
       Tied remove-unused-attrs.Post compaction_call (λ a. (mesh_in a, compacted_lists (rest a))) (λ r e. (r, compacted_lists (rest e)))
   pub in_place_tied : Tied compact-in-place.Post in_place_call (λ a. (sizes_in a, placed_lists a)) (λ r e. (r, placed_lists e))
   pub removal_tied :
-      Tied remove-degenerate-faces.Post removal_call (λ a. (mesh_in a, removed_lists (rest a))) (λ r e. (r, removed_lists (rest e)))
+      Tied remove-degenerate-faces.Post removal_call (λ a. (seen a.0.now, removed_lists a.1)) (λ r e. (removal.removed_of r, removed_lists e.1))
   pub merging_tied :
       Tied put-together-same-attrs.Post merging_call (λ a. ((mesh_in a, (rest a).0), list_mut (rest a).1)) (λ r e. (r, list_mut (rest e).1))
   pub by_cell_tied :
