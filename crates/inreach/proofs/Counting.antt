@@ -49,9 +49,6 @@ pub record Behind (b : ℕ → Bool) (n : ℕ) (order : List ℕ) (p found q : �
   pub few : found + p < q
 
 module _ {b : ℕ → Bool} {n : ℕ} {order : List ℕ} {p : ℕ} (long : length order ≡ n) where
-  pub behind_begins : p < n → Behind b n order p 0 (p + 1)
-  behind_begins h = record { from = omega arith; within = omega arith; is = omega arith; few = omega arith }
-
   pub behind_none :
       {found q : ℕ} (r : ℕ) → q ≤ r → r ≤ n → ((k : ℕ) → q ≤ k → k < r → b (get_or order k 0) ≡ false) → Behind b n order p found q → Behind b n order p found r
   behind_none {found} {q} r h l f g =
@@ -100,9 +97,6 @@ pub record Paired (r : ℕ → ℕ → Bool) (n : ℕ) (order : List ℕ) (found
   pub few : found ≤ entry_limit * p
 
 module _ {r : ℕ → ℕ → Bool} {n : ℕ} {order : List ℕ} (long : length order ≡ n) where
-  pub paired_begins : Paired r n order 0 0
-  paired_begins = record { within = omega arith; is = omega arith; few = omega arith }
-
   pub paired_turns :
       {found p : ℕ} (c : ℕ) → n ≤ entry_limit → p < n → c ≡ count (r (get_or order p 0)) (drop (p + 1) order) → c ≤ n
       → Paired r n order found p → Paired r n order (found + c) (p + 1)

@@ -2,21 +2,15 @@
 use mathlib.Core.Path.{◌≡◌, refl, sym, ap, ◌∙◌}
 use mathlib.Core.Bool.{Bool, true, false, not, ◌&&◌, and-true}
 use mathlib.Core.List.{List}
-use Prim.Native.Nat.{ℕ, ◌+◌, ◌*◌, ◌≤◌, ◌<◌}
-use native.Mathlib.Omega.{arith}
-use lib.ListN.{length, get_or}
+use Prim.Native.Nat.{ℕ, ◌≤◌, ◌<◌}
+use lib.ListN.{get_or}
 use lib.Ieee.{Float, binary64, mul, lt}
 use borrow.Author.Tests.{not-true, not-false}
 use Rattle.lists.proofs.Bools.{by_cases, and_left, and_right, and_false_right}
 use Rattle.floating.specs.Points.{leading, row}
 use Rattle.floating.specs.Near.{squared, below}
 use Rattle.floating.specs.declared.Point.{Point}
-use Rattle.nearby.specs.Engine.{beside_at, near_by, fresh, Listed}
-use Rattle.nearby.proofs.Beside.{spot}
-
--- point i of n lies in the list of coordinates
-pub spot_in : (w n : ℕ) (s : List Float) (cells : List ℕ) → Listed w n s cells → (i : ℕ) → i < n → w * i + w ≤ length s
-spot_in w n s cells g i h = let e : w * i + w ≤ length cells = spot w n cells g.points i h in omega (arith, g.same)
+use Rattle.nearby.specs.Engine.{beside_at, near_by, fresh}
 
 module _ (t : Float) (w : ℕ) (s : List Float) (cells : List ℕ) (seen : List Bool) (i j : ℕ) where
   abbrev close : Bool

@@ -1,14 +1,14 @@
 -- Looking through the runs of a point finds its next near point: what is in no run is not compared, so it is not near. Assumes nothing.
 use mathlib.Core.Path.{◌≡◌, refl, sym, ap, ◌∙◌, subst}
-use mathlib.Core.Logic.{◌⊎◌, inl, inr, ⊎_elim}
+use mathlib.Core.Logic.{inl, inr, ⊎_elim}
 use mathlib.Core.Bool.{Bool, true, false, ◌&&◌}
 use mathlib.Core.List.{List}
 use Prim.Native.Nat.{ℕ, ◌+◌, ◌-◌, ◌≤◌, ◌<◌}
 use native.Mathlib.Omega.{arith}
-use lib.Dec.{eqb, leb, ltb}
+use lib.Dec.{leb, ltb}
 use lib.ListN.{get_or}
 use lib.Ieee.{Float}
-use borrow.Author.Tests.{eqb-true, eqb-false, le-leb, lt-leb, lt-ltb, le-ltb, leb-true, ltb-true}
+use borrow.Author.Tests.{le-leb, lt-leb, lt-ltb, le-ltb, leb-true, ltb-true}
 use Rattle.lists.proofs.Bools.{by_cases, and_left, and_right, and_false_right, true_false}
 use Rattle.lists.proofs.Buckets.{lt_or_ge}
 use Rattle.nearby.specs.Engine.{beside_at, near_by, fresh, Next}
@@ -16,7 +16,7 @@ use Rattle.nearby.proofs.Fresh.{not_beside}
 use Rattle.cellwise.proofs.Starts.{place_of}
 use Rattle.cellwise.specs.Blocks.{Low}
 use Rattle.inreach.specs.Reach.{Skipped}
-use Rattle.nextnear.specs.Looking.{wanted, Better, Best, Placed}
+use Rattle.nextnear.specs.Looking.{wanted, Better, Placed}
 use Rattle.paired.proofs.Both.{too_low}
 use Rattle.inreach.proofs.Skipping.{apart}
 
@@ -60,9 +60,6 @@ module _ (t : Float) (w : ℕ) (s : List Float) (cells : List ℕ) (seen : List 
 -- ---- one point
 
 module _ {p : ℕ → Bool} {j best : ℕ} where
-  pub better_less : j < best → Better p j best best
-  better_less h = record { grown = omega arith; after = λ l. absurd (let z : best ≤ j = l in omega arith); here = inl refl }
-
   pub better_none : p j ≡ false → Better p j best best
   better_none e = record { grown = omega arith; after = λ l. e; here = inl refl }
 
@@ -74,8 +71,6 @@ module _ {p : ℕ → Bool} {j best : ℕ} where
   }
 
 -- ---- one run, from its end on
-
-module _ {p : ℕ → Bool} {order : List ℕ} {best rear : ℕ} where
 
 -- ---- all runs
 
@@ -111,13 +106,6 @@ module _ {w n : ℕ} {s : List Float} {cells order slabs rows runs starts : List
     within = d.inside;
     after = λ k l x. ⊎_elim (λ u. a.after k u x) (λ u. apart_not (get_or order k 0) (d.none k u l)) (lt_or_ge k q);
     here = a.here;
-  }
-
-  pub looked_run : {best q rear r : ℕ} → rear ≤ n → Best test order q rear best r → Looked test n order best q → Looked test n order r rear
-  looked_run {best} {q} {rear} {r} v d a = record {
-    within = v;
-    after = λ k l x. let y : r ≤ get_or order k 0 = x in ⊎_elim (λ u. a.after k u (omega (arith, d.grown))) (λ u. d.after k u l x) (lt_or_ge k q);
-    here = λ z. ⊎_elim (λ e. subst (λ (k : ℕ). 0 < k → test (k - 1) ≡ true) (sym e) a.here z) (λ e. e.1) d.here;
   }
 
   pub looked_ends : {best q : ℕ} → from ≤ n → n ≤ q → Looked test n order best q → Next (fresh (near_by t w s cells) seen i) low from best

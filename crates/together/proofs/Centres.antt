@@ -2,11 +2,11 @@
 use mathlib.Core.Path.{◌≡◌, refl, sym, ap, ◌∙◌, subst}
 use mathlib.Core.Bool.{Bool, true, false, cond}
 use mathlib.Core.List.{List, [], ◌∷◌, map}
-use Prim.Native.Nat.{ℕ, zero, suc, ◌+◌, ◌-◌, ◌*◌, ◌≤◌, ◌<◌}
+use Prim.Native.Nat.{ℕ, zero, suc, ◌+◌, ◌-◌, ◌≤◌, ◌<◌}
 use native.Mathlib.Omega.{arith}
 use native.Mathlib.Numerals.{add-one}
 use lib.IntN.{pos}
-use lib.ListN.{length, get_or, replicate}
+use lib.ListN.{get_or, replicate}
 use lib.Seq.{slice, slice_empty, slice-cons, length-slice}
 use lib.Ieee.{Float, binary64, add, div, lt, of_bits, of_int}
 use Rattle.floating.specs.Points.{point, leading, row}
@@ -14,7 +14,6 @@ use Rattle.floating.specs.Scaling.{axes1, axes2}
 use Rattle.floating.specs.Near.{nought, squared}
 use Rattle.floating.specs.declared.Point.{Point}
 use Rattle.floating.proofs.Literals.{nought_is}
-use Rattle.floating.proofs.Rows.{row_fits}
 use Rattle.together.specs.Centre.{added, sum_from, counted, centre_of, Best, best, closer, closest, representative}
 use Rattle.together.specs.Working.{Grouped}
 
@@ -53,9 +52,6 @@ module _ (w n : ℕ) (s : List Float) (order : List ℕ) (from to : ℕ) (g : Gr
 
   abbrev here : ℕ → ℕ
   here k = get_or order k 0
-
-  pub point_in : (k : ℕ) → k < to → w * here k + w ≤ length s
-  point_in k h = let e : w * here k + w ≤ w * n = row_fits w (here k) n (g.within k h) in omega (arith, g.long)
 
   pub next : (k : ℕ) → k < to → slice k to order ≡ here k ∷ slice (k + 1) to order
   next k h = slice-cons k to order 0 h g.room ∙ ap (λ (j : ℕ). here k ∷ slice j to order) (sym (add-one k))

@@ -1,5 +1,5 @@
 -- Each point of a group is sent to the representative, one after the other. Assumes nothing.
-use mathlib.Core.Path.{◌≡◌, refl, sym, ap, ◌∙◌, subst}
+use mathlib.Core.Path.{◌≡◌, sym, ap, ◌∙◌}
 use mathlib.Core.Bool.{Bool, true, false, ◌||◌, or-false}
 use mathlib.Core.List.{List, [], ◌∷◌, ◌++◌}
 use Prim.Native.Nat.{ℕ, ◌+◌, ◌≤◌, ◌<◌}
@@ -7,14 +7,13 @@ use native.Mathlib.Omega.{arith}
 use native.Mathlib.Numerals.{add-one}
 use lib.Dec.{eqb}
 use lib.ListN.{length, get_or, set, take, drop, length-set}
-use lib.Seq.{slice, slice_empty, take-suc, drop-append-le, length-take-le, get_or-set_same, get_or-set_other}
+use lib.Seq.{slice, take-suc, drop-append-le, length-take-le, get_or-set_same, get_or-set_other}
 use lib.Ieee.{Float}
 use borrow.Author.Tests.{eqb-true, eqb-false}
 use Rattle.lists.specs.Lists.{has}
-use Rattle.lists.proofs.Bools.{by_cases, true_false, or_false_left, or_false_right}
+use Rattle.lists.proofs.Bools.{by_cases, or_false_left, or_false_right}
 use Rattle.lists.proofs.Parts.{some_append}
-use Rattle.together.specs.Centre.{representative}
-use Rattle.together.specs.Working.{Grouped, Sent}
+use Rattle.together.specs.Working.{Grouped}
 
 slice_snoc : (l : List ℕ) (f k : ℕ) → f ≤ k → k < length l → slice f (k + 1) l ≡ slice f k l ++ (get_or l k 0 ∷ [])
 slice_snoc l f k a b =
@@ -30,15 +29,6 @@ pub record Sending (n : ℕ) (order : List ℕ) (from to rep : ℕ) (map map' : 
   pub others : (j : ℕ) → has j (slice from k order) ≡ false → get_or map' j 0 ≡ get_or map j 0
 
 module _ (w n : ℕ) (s : List Float) (order : List ℕ) (from to : ℕ) (g : Grouped w n s order from to) (rep : ℕ) (map : List ℕ) (room : n ≤ length map) where
-  pub send_begins : Sending n order from to rep map map from
-  send_begins = record {
-    least = omega arith;
-    upto = omega (arith, g.some);
-    long = refl;
-    own = λ j h e. true_false (sym e ∙ ap (has j) (slice_empty from order));
-    others = λ j e. refl;
-  }
-
   module _ (map' : List ℕ) (k : ℕ) (h : k < to) (i : Sending n order from to rep map map' k) where
     abbrev here : ℕ
     here = get_or order k 0
@@ -72,15 +62,3 @@ module _ (w n : ℕ) (s : List Float) (order : List ℕ) (from to : ℕ) (g : Gr
       own = own_more;
       others = others_more;
     }
-
-  pub send_ends :
-      (map' : List ℕ) (k : ℕ) → to ≤ k → rep ≡ representative w s (slice from to order) → rep < n → Sending n order from to rep map map' k
-      → Sent w n s (slice from to order) map map'
-  send_ends map' k h e l i =
-      let f : k ≡ to = omega (arith, i.upto) in
-      record {
-        long = i.long;
-        own = λ j l o. i.own j l (ap (λ (x : ℕ). has j (slice from x order)) f ∙ o) ∙ e;
-        others = λ j o. i.others j (ap (λ (x : ℕ). has j (slice from x order)) f ∙ o);
-        small = subst (λ (x : ℕ). x < n) e l;
-      }

@@ -1,8 +1,7 @@
 -- `nextnear::better` meets its contract, by the laws of `Looking`. Assumes nothing.
 use mathlib.Core.Path.{sym, ◌∙◌}
-use Rattle.nearby.proofs.Fresh.{spot_in, not_new, by_distance}
-use Rattle.nextnear.proofs.Looking.{not_fresh, below_low, from_on, is_wanted, better_less, better_none, better_one}
-use native.Mathlib.Omega.{arith}
+use Rattle.nearby.proofs.Fresh.{not_new, by_distance}
+use Rattle.nextnear.proofs.Looking.{not_fresh, below_low, from_on, is_wanted, better_none, better_one}
 use Rattle.nextnear.proofs.better.Goals as goal
 use Rattle.nextnear.proofs.better.Goals.{then-seen-j-via-then-seen-j, then-seen-j-via-else-seen-j+then-j-low, then-seen-j-via-else-seen-j+else-j-low+then-from-j}
 
@@ -15,6 +14,7 @@ returns-then-seen-j c =
       | then-seen-j-via-else-seen-j+then-j-low w ↦ below_low args.t _ _ _ _ _ args.low args.from _ w.if-j-low.true
       | then-seen-j-via-else-seen-j+else-j-low+then-from-j w ↦ from_on args.t _ _ _ _ _ args.low args.from _ w.if-from-j.true
     ])
+
 pub returns-then-distance2-t : goal.returns-then-distance2-t
 returns-then-distance2-t c =
     let if1 = c.if-j-best in
@@ -31,6 +31,7 @@ returns-then-distance2-t c =
     (is_wanted args.t args.w args.s.now args.cells.now args.seen.now args.i args.low args.from args.j if3.false if4.false
     (sym (by_distance args.t args.w args.s.now args.cells.now args.seen.now args.i args.j pre.4 if2.false
     attr-at.result attr-at2.result distance2.result attr-at.ensures attr-at2.ensures distance2.ensures) ∙ if5.true))
+
 pub returns-else-distance2-t : goal.returns-else-distance2-t
 returns-else-distance2-t c =
     let args = c.args in
