@@ -4,33 +4,22 @@ use native.Mathlib.Omega.{arith}
 use borrow.Author.Rules.{rules}
 use Rattle.hemtext.proofs.Texts.{sheeted_as}
 use Rattle.hemfile.proofs.Printing.{textable, placed_text}
-use Rattle.hemfile.proofs.put_placed.Statement.{statement}
-use Rattle.hemfile.proofs.put_placed.Tie as tie
+use Rattle.hemfile.proofs.put_placed.Goals as goal
 
-put-coordinates-requires : tie.Need-put_coordinates-requires
-put-coordinates-requires c κs =
+pub put_coordinates-requires : goal.put_coordinates-requires
+put_coordinates-requires c =
     let pre = c.requires in
     omega (arith, pre.whole, pre.long)
 
-put-sheet-requires : tie.Need-put_sheet-requires
-put-sheet-requires c κs =
+pub put_sheet-requires : goal.put_sheet-requires
+put_sheet-requires c =
     let coordinates = c in
     let pre = coordinates.requires in
     textable _ _ pre.whole pre coordinates.put_coordinates.ensures
 
-same_length : tie.Need-shape_of-coordinates
-same_length c = search rules
-
-same-length-2 : tie.Need-shape_of-out
-same-length-2 c = search rules
-
-returns : tie.Need-returns
+pub returns : goal.returns
 returns c =
     let sheet = c in
     let coordinates = c in
     let pre = coordinates.requires in
     sheeted_as (placed_text _ _ pre.whole pre coordinates.put_coordinates.ensures _) sheet.put_sheet.ensures
-
-pub put_placed_spec : {M : Type 1} → statement M
-put_placed_spec =
-    tie.close (tie.spec put-coordinates-requires put-sheet-requires same_length same-length-2 returns)
