@@ -21,19 +21,25 @@ pub fn list_panels(
         (walk.panels_below (length ends.now) (length ends.now) joins.now) flat.old lengths.old
         flat.new lengths.new result.faces result.panels }
 {
-    let mut n: usize = 0;
-    let mut k: usize = 0;
-    let mut i: usize = 0;
-    while i < ends.len() {
-        let counts = list_panel(joins, order, ends, i, seen, stack, flat, lengths, n, k);
-        n = counts.faces;
-        k = counts.panels;
-        i += 1;
+    let mut counts = crate::Counts {
+        faces: 0,
+        panels: 0,
+    };
+    for i in 0..ends.len() {
+        counts = list_panel(
+            joins,
+            order,
+            ends,
+            i,
+            seen,
+            stack,
+            flat,
+            lengths,
+            counts.faces,
+            counts.panels,
+        );
     }
-    crate::Counts {
-        faces: n,
-        panels: k,
-    }
+    counts
 }
 
 // The panel of face `i`, if that is in none yet, behind `k` panels of `n` faces.
@@ -92,15 +98,11 @@ fn search(
         (search_from (length ends.now) (joins_of joins.now) (take n flat.old) (face ∷ []) (face ∷ []))
         flat.old n seen.new stack.new flat.new result }
 {
-    let first = visit(face, seen, stack, flat, 0, n);
-    let mut top = first.top;
-    let mut listed = first.n;
-    while 0 < top {
-        let marks = pop(joins, order, ends, seen, stack, flat, top, listed);
-        top = marks.top;
-        listed = marks.n;
+    let mut marks = visit(face, seen, stack, flat, 0, n);
+    while 0 < marks.top {
+        marks = pop(joins, order, ends, seen, stack, flat, marks.top, marks.n);
     }
-    listed
+    marks.n
 }
 
 // The face on top of the stack goes, and its neighbours are looked through.
@@ -121,9 +123,9 @@ fn pop(
         flat.old n seen.new stack.new flat.new result.top result.n }
 {
     let left = top - 1;
-    let x = lists::wide(stack[left]);
+    let x = stack[left] as usize;
     let from = begin_of(ends, x);
-    let to = lists::wide(ends[x]);
+    let to = ends[x] as usize;
     look(joins, order, from, to, seen, stack, flat, left, n)
 }
 
@@ -145,20 +147,12 @@ fn look(
         (look [] (walk.near_between joins.now order.now from to) (walk.state_of stack.old top flat.old n))
         flat.old n seen.new stack.new flat.new result.top result.n }
 {
-    let mut height = top;
-    let mut listed = n;
-    let mut p = from;
-    while p < to {
-        let x = other_end(joins, lists::wide(order[p]));
-        let marks = visit(x, seen, stack, flat, height, listed);
-        height = marks.top;
-        listed = marks.n;
-        p += 1;
+    let mut marks = Marks { top, n };
+    for p in from..to {
+        let x = other_end(joins, order[p] as usize);
+        marks = visit(x, seen, stack, flat, marks.top, marks.n);
     }
-    Marks {
-        top: height,
-        n: listed,
-    }
+    marks
 }
 
 // Face `x` is listed and pushed, if it is not listed yet.
@@ -175,9 +169,9 @@ fn visit(
         (length seen.old) (look [] (x ∷ []) (walk.state_of stack.old top flat.old n)) flat.old n
         seen.new stack.new flat.new result.top result.n }
 {
-    let i = lists::wide(x);
+    let i = x as usize;
     if seen[i] != 0 {
-        return Marks { top: top, n: n };
+        return Marks { top, n };
     }
     seen[i] = 1;
     stack[top] = x;
@@ -205,8 +199,5 @@ fn begin_of(ends: &[u32], x: usize) -> usize
     requires { x < length ends.now }
     ensures { result ≡ walk.begin_of ends.now x }
 {
-    if x == 0 {
-        return 0;
-    }
-    lists::wide(ends[x - 1])
+    if x == 0 { 0 } else { ends[x - 1] as usize }
 }
