@@ -12,7 +12,7 @@ use Rattle.mesh.specs.Limits.{face_limit}
 use Rattle.sorting.specs.Sorting.{sorted_by, ends_by, All, Sortable, Sorted}
 use Rattle.sorting.proofs.Laws.{sorted_length}
 use Rattle.connected.specs.Joins.{join_numbers}
-use Rattle.connected.specs.Walk.{panels_below, Partable, Parted}
+use Rattle.connected.specs.Walk.{Partable}
 use Rattle.connected.specs.Rows.{Divisible}
 
 -- ---- the entries by face
@@ -68,11 +68,6 @@ module _ (joins : List ℕ) (f : ℕ) (flat lengths : List ℕ) (p : Divisible j
         faces_room = let b : f ≤ length flat = p.faces_room in omega arith;
         panels_room = let b : f ≤ length lengths = p.panels_room in omega arith;
       }
-
-pub parted_at :
-    (joins flat lengths flat' lengths' : List ℕ) (f g n k : ℕ) → g ≡ f → Parted (panels_below g g joins) flat lengths flat' lengths' n k
-    → Parted (panels_below f f joins) flat lengths flat' lengths' n k
-parted_at joins flat lengths flat' lengths' f g n k e r = subst (λ (h : ℕ). Parted (panels_below h h joins) flat lengths flat' lengths' n k) e r
 
 -- the front of a row that is one number all along is such a row
 pub front_row : (n m : ℕ) → n ≤ m → take {A = ℕ} n (replicate m 0) ≡ replicate n 0

@@ -4,11 +4,11 @@ use mathlib.Core.Path.{◌≡◌, refl, sym, ap, ap₂, ◌∙◌, subst}
 use mathlib.Core.Logic.{⊎_elim}
 use mathlib.Core.Bool.{Bool, true, false, cond, ◌||◌}
 use mathlib.Core.List.{List, [], ◌∷◌, ◌++◌, map}
-use Prim.Native.Nat.{ℕ, zero, suc, ◌+◌, ◌-◌, ◌%◌, min, ◌≤◌, ◌<◌}
+use Prim.Native.Nat.{ℕ, zero, suc, ◌+◌, ◌-◌, ◌%◌, ◌≤◌, ◌<◌}
 use native.Mathlib.Numerals.{add-one}
 use native.Mathlib.Omega.{arith}
 use lib.Dec.{eqb}
-use lib.ListN.{length, get_or, take, drop, set, length-set, length-take, drop_of_length-le}
+use lib.ListN.{length, get_or, take, drop, set, length-set}
 use lib.Seq.{slice-cons, length-take-le, take-suc-set, drop-set-lt, drop-drop, get_or-set_same, get_or-set_other}
 use borrow.Author.Tests.{eq-eqb, ne_eqb, eqb-true, eqb-false}
 use Rattle.lists.specs.Lists.{count, has}
@@ -50,20 +50,8 @@ module _ (f x : ℕ) (seen stack flat : List ℕ) (top n : ℕ) (l : Listing f s
   marked_seen : (b : Bool) → has x (take n flat) ≡ b → get_or seen x 0 ≡ mark_of b
   marked_seen b e = l.marked x h ∙ ap mark_of e
 
-  is_seen : (get_or seen x 0 ≡ 0 → ⊥) → has x (take n flat) ≡ true
-  is_seen ne = by_cases (has x (take n flat)) (λ t. t) (λ t. absurd (ne (marked_seen false t)))
-
   pub not_seen : get_or seen x 0 ≡ 0 → has x (take n flat) ≡ false
   not_seen e = by_cases (has x (take n flat)) (λ t. absurd (let z : get_or seen x 0 ≡ 1 = marked_seen true t in omega arith)) (λ t. t)
-
-  -- a face that is listed changes nothing
-  pub visit_skips : (get_or seen x 0 ≡ 0 → ⊥) → Stepped f (look [] (x ∷ []) (state_of stack top flat n)) flat n seen stack flat top n
-  visit_skips ne = record {
-    state = rw (is_seen ne);
-    listing = l;
-    more = omega arith;
-    rest = refl;
-  }
 
   listed_long : length (take n flat) ≡ n
   listed_long = length-take-le n flat (let a : n ≤ f = l.few in let b : f ≤ length flat = l.room in omega arith)
@@ -130,10 +118,6 @@ module _ (f x : ℕ) (seen stack flat : List ℕ) (top n : ℕ) (l : Listing f s
       rest = drop-set-lt (n + 1) flat n x (omega arith);
     }
 
-  -- the same, with the face as an index
-  pub skips_at : (i : ℕ) → i ≡ x → (get_or seen i 0 ≡ 0 → ⊥) → Stepped f (look [] (x ∷ []) (state_of stack top flat n)) flat n seen stack flat top n
-  skips_at i q ne = visit_skips (λ e. ne (ap (λ (j : ℕ). get_or seen j 0) q ∙ e))
-
   pub fits_at : (i : ℕ) → i ≡ x → get_or seen i 0 ≡ 0 → (n < length flat) × (top < length stack)
   fits_at i q e = visit_fits (ap (λ (j : ℕ). get_or seen j 0) (sym q) ∙ e)
 
@@ -179,10 +163,6 @@ other_below f joins e w b h =
     let z : e % 2 ≡ 0 → ⊥ = eqb-false (e % 2) 0 t in
     subst (λ (x : ℕ). x < f) (other_odd joins e z) (b (e - 1) (omega arith)))
 
-near_none : (joins order : List ℕ) (p to : ℕ) → to ≤ p → near_between joins order p to ≡ []
-near_none joins order p to h =
-    ap (map (other_end joins)) (drop_of_length-le (take to order) {i = p} (let l : length (take to order) ≡ min to (length order) = length-take to order in omega arith))
-
 near_cons : (joins order : List ℕ) (p to : ℕ) → p < to → to ≤ length order → near_between joins order p to ≡ other_end joins (get_or order p 0) ∷ near_between joins order (p + 1) to
 near_cons joins order p to h l =
     ap (map (other_end joins)) (slice-cons p to order 0 h l)
@@ -197,9 +177,6 @@ pub record LookingOn (f : ℕ) (joins order : List ℕ) (from to : ℕ) (s : Sea
   pub long : length flat ≡ length flat₀
 
 module _ (f : ℕ) (joins order : List ℕ) (from to : ℕ) where
-  pub look_begins : (seen stack flat : List ℕ) (top n : ℕ) → Listing f seen stack flat top n → LookingOn f joins order from to (state_of stack top flat n) flat n seen stack flat top n from
-  look_begins seen stack flat top n l = record { listing = l; left = refl; more = omega arith; rest = refl; long = refl }
-
   module _ (s : Search) (flat₀ : List ℕ) (n₀ : ℕ) (seen stack flat : List ℕ) (top n p : ℕ) (r : LookingOn f joins order from to s flat₀ n₀ seen stack flat top n p) where
     pub look_turns :
         (x : ℕ) (seen' stack' flat' : List ℕ) (top' n' : ℕ) → p < to → to ≤ length order → x ≡ other_end joins (get_or order p 0)
@@ -219,11 +196,3 @@ module _ (f : ℕ) (joins order : List ℕ) (from to : ℕ) where
           rest = w.rest ∙ drop_further flat flat₀ n n' w.more r.rest;
           long = g ∙ r.long;
         }
-
-    pub look_ends : to ≤ p → Stepped f (look [] (near_between joins order from to) s) flat₀ n₀ seen stack flat top n
-    look_ends h = record {
-      state = sym (ap (λ (t : List ℕ). look [] t (state_of stack top flat n)) (near_none joins order p to h)) ∙ r.left;
-      listing = r.listing;
-      more = r.more;
-      rest = r.rest;
-    }
