@@ -4,7 +4,7 @@
 // `centring`; what is done for each of the three lists is here. The crate `bycell` is a second engine in the place of `nearby`.
 #![tactic(auto)]
 
-ghost use Rattle.std.specs.Prelude.{◌≡◌, true, false, ◌||◌, map, ℕ, ◌/◌, ◌≤◌, ◌<◌, length, get_or};
+ghost use Rattle.std.specs.Prelude.{◌≡◌, ◌||◌, map, ◌/◌, ◌≤◌, ◌<◌, length, get_or};
 ghost use Rattle.std.proofs.lemmas.List.Edits.{sets};
 ghost use Rattle.lists.specs.Lists.{some, joined};
 ghost use Rattle.mesh.specs.Mesh.{mesh_of, missing, corners_in};
@@ -12,11 +12,12 @@ ghost use Rattle.floating.specs.Limits.{boundless, distant};
 ghost use Rattle.floating.specs.Scaling.{scaled_list};
 ghost use Rattle.nearby.specs.Pairs.{pairs, compared_pairs};
 ghost use Rattle.nearby.specs.Walk.{groups};
-ghost use Rattle.nearby.specs.Engine.{beside_at, near_by, Listed};
+ghost use Rattle.nearby.specs.Engine.{beside_at, near_by, Listed, Roomy, Components};
 ghost use Rattle.together.specs.Centre as centre;
 ghost use Rattle.together.specs.Merging.{merge_number, merged_to, unless_missing, PutTogether};
 ghost use Rattle.together.specs.Working.{Mergeable, Settled, Scalable, Indexed, sent_corner};
 
+use bycell::Found;
 use mesh::MISSING;
 pub use together::Merged;
 
@@ -37,31 +38,83 @@ pub fn put_together_same_attrs(
         (mesh_of positions.now textures.now normals.now corners.now sizes.now)
         tolerance out.old out.new result }
 {
-    let number = number(
-        positions,
-        textures,
-        normals,
-        corners,
-        sizes,
-        tolerance,
-        out.len(),
-    );
-    if number != 0 {
-        return Merged {
-            number: number,
-            positions: 0,
-            textures: 0,
-            normals: 0,
-        };
-    }
-    merge(
-        positions, textures, normals, corners, sizes, tolerance, out, false,
-    )
+    put_together::<EachPair>(positions, textures, normals, corners, sizes, tolerance, out)
 }
 
 // The same, for scans: the points are ordered by cell, and only those in cells within two on each axis are compared. It has the very
 // contract of `put_together_same_attrs`, so it answers the same.
 pub fn put_together_by_cell(
+    positions: &[f64],
+    textures: &[f64],
+    normals: &[f64],
+    corners: &[u32],
+    sizes: &[u32],
+    tolerance: f64,
+    out: &mut [u32],
+) -> Merged
+    ensures { PutTogether
+        (mesh_of positions.now textures.now normals.now corners.now sizes.now)
+        tolerance out.old out.new result }
+{
+    put_together::<ByCell>(positions, textures, normals, corners, sizes, tolerance, out)
+}
+
+// ---- the engines
+
+// What finds the groups of near points, and counts the pairs that are compared.
+trait Engine {
+    fn find(
+        s: &[f64],
+        w: usize,
+        t: f64,
+        cells: &[u64],
+        n: usize,
+        order: &mut [usize],
+        ends: &mut [usize],
+    ) -> Found
+        requires { (Listed w n s.now cells.now) × (Roomy n order.old ends.old) }
+        ensures { (Components (near_by t w s.now cells.now) n order.new ends.new result.groups)
+            × (result.pairs ≡ pairs (beside_at w cells.now) n) };
+}
+
+// Each point is held to each other one; or the points are gone through by their cells.
+struct EachPair;
+
+struct ByCell;
+
+impl Engine for EachPair {
+    fn find(
+        s: &[f64],
+        w: usize,
+        t: f64,
+        cells: &[u64],
+        n: usize,
+        order: &mut [usize],
+        ends: &mut [usize],
+    ) -> Found {
+        Found {
+            groups: nearby::create_components(s, w, t, cells, n, order, ends),
+            pairs: nearby::count_pairs(cells, w, n),
+        }
+    }
+}
+
+impl Engine for ByCell {
+    fn find(
+        s: &[f64],
+        w: usize,
+        t: f64,
+        cells: &[u64],
+        n: usize,
+        order: &mut [usize],
+        ends: &mut [usize],
+    ) -> Found {
+        bycell::create_components(s, w, t, cells, n, order, ends)
+    }
+}
+
+// The call by an engine; what is promised does not depend on it.
+fn put_together<E: Engine>(
     positions: &[f64],
     textures: &[f64],
     normals: &[f64],
@@ -85,15 +138,13 @@ pub fn put_together_by_cell(
     );
     if number != 0 {
         return Merged {
-            number: number,
+            number,
             positions: 0,
             textures: 0,
             normals: 0,
         };
     }
-    merge(
-        positions, textures, normals, corners, sizes, tolerance, out, true,
-    )
+    merge::<E>(positions, textures, normals, corners, sizes, tolerance, out)
 }
 
 // ---- the number
@@ -135,55 +186,31 @@ fn number(
 fn any_boundless(positions: &[f64], textures: &[f64], normals: &[f64]) -> bool
     ensures { result ≡ (some boundless positions.now || some boundless textures.now || some boundless normals.now) }
 {
-    if has_boundless(positions) {
-        return true;
-    }
-    if has_boundless(textures) {
-        return true;
-    }
-    has_boundless(normals)
+    has_boundless(positions) || has_boundless(textures) || has_boundless(normals)
 }
 
 fn has_boundless(s: &[f64]) -> bool
     ensures { result ≡ some boundless s.now }
 {
-    let mut k: usize = 0;
-    while k < s.len() {
-        if floating::is_boundless(s[k]) {
-            return true;
-        }
-        k += 1;
-    }
-    false
+    s.iter().any(|x| floating::is_boundless(*x))
 }
 
 // Row 8, of texture points and normals; no scaled position reaches it.
 fn any_distant(textures: &[f64], normals: &[f64], t: f64) -> bool
     ensures { result ≡ (some (distant t) textures.now || some (distant t) normals.now) }
 {
-    if has_distant(textures, t) {
-        return true;
-    }
-    has_distant(normals, t)
+    has_distant(textures, t) || has_distant(normals, t)
 }
 
 fn has_distant(s: &[f64], t: f64) -> bool
     ensures { result ≡ some (distant t) s.now }
 {
-    let mut k: usize = 0;
-    while k < s.len() {
-        if floating::is_distant(t, s[k]) {
-            return true;
-        }
-        k += 1;
-    }
-    false
+    s.iter().any(|x| floating::is_distant(t, *x))
 }
 
 // ---- the three lists of a mesh that earns 0
 
-// `by_cell` says by which engine; what is promised does not depend on it.
-fn merge(
+fn merge<E: Engine>(
     positions: &[f64],
     textures: &[f64],
     normals: &[f64],
@@ -191,7 +218,6 @@ fn merge(
     sizes: &[u32],
     t: f64,
     out: &mut [u32],
-    by_cell: bool,
 ) -> Merged
     requires { merge_number (mesh_of positions.now textures.now normals.now corners.now sizes.now) t (length out.old) ≡ 0 }
     ensures { PutTogether
@@ -201,9 +227,9 @@ fn merge(
     let mut pmap = [0u32; mesh::ENTRIES];
     let mut tmap = [0u32; mesh::ENTRIES];
     let mut nmap = [0u32; mesh::ENTRIES];
-    let p = merge_positions(positions, t, &mut pmap, by_cell);
-    let u = merge_list(textures, 2, t, textures.len() / 2, &mut tmap, by_cell);
-    let n = merge_list(normals, 3, t, normals.len() / 3, &mut nmap, by_cell);
+    let p = merge_positions::<E>(positions, t, &mut pmap);
+    let u = merge_list::<E>(textures, 2, t, textures.len() / 2, &mut tmap);
+    let n = merge_list::<E>(normals, 3, t, normals.len() / 3, &mut nmap);
     send_corners(corners, &pmap, &tmap, &nmap, out);
     Merged {
         number: 0,
@@ -214,19 +240,19 @@ fn merge(
 }
 
 // Positions are first scaled; with no positions nothing is scaled.
-fn merge_positions(positions: &[f64], t: f64, map: &mut [u32], by_cell: bool) -> usize
+fn merge_positions<E: Engine>(positions: &[f64], t: f64, map: &mut [u32]) -> usize
     requires { (Scalable positions.now t) × (length positions.now / 3 ≤ length map.old) }
     ensures { (result ≡ compared_pairs t 3 (scaled_list positions.now))
         × (Settled (length positions.now / 3) (merged_to t 3 (scaled_list positions.now)) map.old map.new) }
 {
-    if positions.len() == 0 {
+    if positions.is_empty() {
         return 0;
     }
     let mut room = [0.0f64; mesh::POINT_NUMBERS];
     floating::scale(positions, &mut room);
     let end = positions.len();
     let scaled = &room[..end];
-    merge_list(scaled, 3, t, end / 3, map, by_cell)
+    merge_list::<E>(scaled, 3, t, end / 3, map)
 }
 
 // ---- corners
@@ -237,14 +263,12 @@ fn send_corners(corners: &[u32], pmap: &[u32], tmap: &[u32], nmap: &[u32], out: 
     ensures { out.new ≡ sets out.old 0 (joined (map (sent_corner pmap.now tmap.now nmap.now) (corners_in corners.now))) }
 {
     let count = corners.len() / mesh::WIDTH;
-    let mut k: usize = 0;
-    while k < count {
+    for k in 0..count {
         let at = mesh::WIDTH * k;
         out[at] = pmap[corners[at] as usize];
         out[at + 1] = sent(tmap, corners[at + 1]);
         out[at + 2] = sent(nmap, corners[at + 2]);
         out[at + 3] = corners[at + 3];
-        k += 1;
     }
 }
 
@@ -253,50 +277,37 @@ fn sent(map: &[u32], i: u32) -> u32
     requires { (i ≡ missing → ⊥) → i < length map.now }
     ensures { result ≡ unless_missing (λ j. get_or map.now j 0) i }
 {
-    if i == MISSING {
-        return i;
-    }
-    map[i as usize]
+    if i == MISSING { i } else { map[i as usize] }
 }
 
 // ---- one list
 
-// The groups of n points are those that the engine finds.
-fn merge_groups(s: &[f64], w: usize, t: f64, cells: &[u64], n: usize, map: &mut [u32])
-    requires { (Listed w n s.now cells.now) × (n ≤ length map.old) }
-    ensures { Settled n (centre.sent_to w s.now (groups (near_by t w s.now cells.now) n)) map.old map.new }
-{
-    let mut order = [0usize; mesh::ENTRIES];
-    let mut ends = [0usize; mesh::ENTRIES];
-    let count = nearby::create_components(s, w, t, cells, n, &mut order, &mut ends);
-    centring::centralize_groups(s, w, n, &order, &ends, count, map);
-}
-
-// The same by the points in the order of their cells, with how many pairs were compared.
-fn merge_by_cell(s: &[f64], w: usize, t: f64, cells: &[u64], n: usize, map: &mut [u32]) -> usize
+// The groups of n points are those that the engine finds; and how many pairs were compared.
+fn merge_groups<E: Engine>(
+    s: &[f64],
+    w: usize,
+    t: f64,
+    cells: &[u64],
+    n: usize,
+    map: &mut [u32],
+) -> usize
     requires { (Listed w n s.now cells.now) × (n ≤ length map.old) }
     ensures { (result ≡ pairs (beside_at w cells.now) n)
         × (Settled n (centre.sent_to w s.now (groups (near_by t w s.now cells.now) n)) map.old map.new) }
 {
     let mut order = [0usize; mesh::ENTRIES];
     let mut ends = [0usize; mesh::ENTRIES];
-    let found = bycell::create_components(s, w, t, cells, n, &mut order, &mut ends);
+    let found = E::find(s, w, t, cells, n, &mut order, &mut ends);
     centring::centralize_groups(s, w, n, &order, &ends, found.groups, map);
     found.pairs
 }
 
 // The Rust's `sub_put_together_same_attrs`: where each of the n points of one list goes, to `map`, and how many pairs were compared.
-fn merge_list(s: &[f64], w: usize, t: f64, n: usize, map: &mut [u32], by_cell: bool) -> usize
+fn merge_list<E: Engine>(s: &[f64], w: usize, t: f64, n: usize, map: &mut [u32]) -> usize
     requires { Mergeable t w n s.now map.old }
     ensures { (result ≡ compared_pairs t w s.now) × (Settled n (merged_to t w s.now) map.old map.new) }
 {
     let mut room = [0u64; mesh::POINT_NUMBERS];
     nearby::fill_cells(s, t, &mut room);
-    let end = s.len();
-    let cells = &room[..end];
-    if by_cell {
-        return merge_by_cell(s, w, t, cells, n, map);
-    }
-    merge_groups(s, w, t, cells, n, map);
-    nearby::count_pairs(cells, w, n)
+    merge_groups::<E>(s, w, t, &room[..s.len()], n, map)
 }
