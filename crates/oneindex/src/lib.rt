@@ -8,7 +8,7 @@ ghost use Rattle.std.proofs.lemmas.List.Edits.{sets};
 ghost use Rattle.unused.specs.Compaction as want;
 ghost use Rattle.oneindex.specs.Working.{Entry, Before, Taken};
 
-use mesh::{MISSING, POINT_WIDTH};
+use mesh::{MISSING, POINT_WIDTH, TEXEL_WIDTH};
 
 // One column of one corner: the index that corner k has in column q gets its new number, and where this is its first use, its
 // entry goes behind those that were used before. Answers how many entries are used now.
@@ -44,7 +44,8 @@ pub fn take_in(
     used + 1
 }
 
-// The entry i of one list becomes the entry j of another, w numbers wide, bit for bit.
+// The entry i of one list becomes the entry j of another, w numbers wide, bit for bit. Each width is copied by its constant, which is a few
+// moves and no loop.
 fn put_entry(from: &[f64], w: usize, i: usize, to: &mut [f64], j: usize)
     requires entry { Entry from.now w i }
     requires entry_2 { Entry to.old w j }
@@ -52,9 +53,9 @@ fn put_entry(from: &[f64], w: usize, i: usize, to: &mut [f64], j: usize)
 {
     let a = i * w;
     let b = j * w;
-    to[b] = from[a];
-    to[b + 1] = from[a + 1];
     if w == POINT_WIDTH {
-        to[b + 2] = from[a + 2];
+        lists::put(&from[a..a + POINT_WIDTH], to, b);
+    } else {
+        lists::put(&from[a..a + TEXEL_WIDTH], to, b);
     }
 }

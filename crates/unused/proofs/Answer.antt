@@ -1,9 +1,10 @@
 -- The call: what it answers on a refusal and on 0. Assumes nothing.
-use mathlib.Core.Path.{◌≡◌, sym, ◌∙◌}
+use mathlib.Core.Path.{◌≡◌, refl, sym, ◌∙◌}
 use mathlib.Core.Bool.{true}
 use mathlib.Core.List.{[], ◌∷◌}
 use Prim.Native.Nat.{ℕ, ◌*◌, ◌≤◌, ◌<◌}
 use native.Mathlib.Omega.{arith}
+use Rattle.std.specs.Prelude.{Err}
 use lib.ListN.{length}
 use lib.Seq.{sets}
 use borrow.Author.Tests.{lt-ltb, le-ltb}
@@ -13,10 +14,15 @@ use Rattle.mesh.specs.Table.{mesh_number, when, short}
 use Rattle.mesh.proofs.Accepted.{accepted}
 use Rattle.mesh.proofs.After.{after_refused, after_done}
 use Rattle.mesh.proofs.Numbers.{first_is, first_on, row_given}
-use Rattle.unused.specs.declared.Compacted.{Compacted}
-use Rattle.unused.specs.Compaction.{uses_of, entries, used_positions, used_textures, used_normals, renumbered, compacted, Result, too_short, compaction_number, Compaction}
+use Rattle.mesh.specs.Refusals.{number_of}
+use Rattle.mesh.specs.declared.refusal.Refusal.{Refusal}
+use Rattle.unused.specs.Compaction.{Compacted, compacted_of, uses_of, entries, used_positions, used_textures, used_normals, renumbered, compacted, Result, too_short, compaction_number, Compaction}
 use Rattle.unused.specs.Working.{column, Ready, Done, Refused}
 use Rattle.unused.proofs.Accepting.{pointed_positions, pointed_textures, pointed_normals, length_kept}
+
+-- a refusal answers its number, and counts of 0
+pub refused_of : (r : Refusal) → Refused (compacted_of (Err r)) (number_of r)
+refused_of r = record { is = refl; positions = refl; textures = refl; normals = refl }
 
 module _ (m : Mesh) (before : Result) (answer : Compacted) where
   refused_is : (n : ℕ) → (n ≡ 0 → ⊥) → n ≡ compaction_number m before → Refused answer n → Compaction m before before answer

@@ -5,33 +5,19 @@ use mathlib.Core.List.{List, [], ◌∷◌, ◌++◌, map, append-nil}
 use Prim.Native.Nat.{ℕ, zero, suc, ◌+◌, ◌*◌, ◌≤◌, ◌<◌}
 use native.Mathlib.Nat.{not-suc-le-zero, le_of_suc-le-suc, suc-mul, mul-le-mul_right, zero-mul}
 use native.Mathlib.Omega.{arith}
-use lib.ListN.{length, get_or, take, drop, set, length-append, length-take, length-drop}
-use lib.Seq.{sets, take_at, drop-append-add}
+use lib.ListN.{length, get_or, take, drop, length-append, length-take, length-drop}
+use lib.Seq.{take_at, drop-append-add}
 use lib.Dec.{ltb}
-use lib.Ieee.{Float, nan}
+use lib.Ieee.{Float}
 use borrow.Author.Tests.{ltb-true}
 use Rattle.lists.specs.Lists.{every, each, has}
 use Rattle.lists.specs.FirstUses.{place}
 use Rattle.lists.proofs.Bools.{and_left, and_right}
 use Rattle.lists.proofs.Parts.{each_append}
-use Rattle.lists.proofs.Stores.{copy_two, copy_three}
 use Rattle.lists.proofs.Members.{in_head, in_tail}
 use Rattle.lists.proofs.Others.{every_has}
 use Rattle.lists.proofs.Places.{place_below, get_or-place}
-use Rattle.mesh.specs.Limits.{point_width, texel_width}
 use Rattle.unused.specs.Compaction.{entry_at, entries}
-
--- ---- an entry is copied by two or three stores
-
-module _ (from to : List Float) (b w i : ℕ) (h : i * w + w ≤ length from) where
-  pub entry_two : w ≡ texel_width → set (set to b (get_or from (i * w) nan)) (b + 1) (get_or from (i * w + 1) nan) ≡ sets to b (entry_at w from i)
-  entry_two e = copy_two nan from to (i * w) b (omega arith) ∙ ap (λ (n : ℕ). sets to b (take n (drop (i * w) from))) (sym e)
-
-  pub entry_three :
-      w ≡ point_width
-      → set (set (set to b (get_or from (i * w) nan)) (b + 1) (get_or from (i * w + 1) nan)) (b + 2)
-      (get_or from (i * w + 2) nan) ≡ sets to b (entry_at w from i)
-  entry_three e = copy_three nan from to (i * w) b (omega arith) ∙ ap (λ (n : ℕ). sets to b (take n (drop (i * w) from))) (sym e)
 
 -- ---- entries that lie within a list
 

@@ -16,8 +16,7 @@ use Rattle.mesh.specs.Mesh.{Mesh, position_count, texture_count, normal_count}
 use Rattle.mesh.specs.Table.{mesh_number, when, short}
 use Rattle.mesh.proofs.Numbers.{first_head, first_tail, when_not}
 use Rattle.mesh.proofs.Accepted.{accepted}
-use Rattle.unused.specs.declared.Compacted.{Compacted}
-use Rattle.unused.specs.Compaction.{compacted, Result, too_short, compaction_number, Compaction}
+use Rattle.unused.specs.Compaction.{Compacted, compacted, Result, too_short, compaction_number, Compaction}
 use Rattle.mesh.proofs.After.{after_done}
 use Rattle.unused.proofs.Laws.{positions_long, textures_long, normals_long, positions_counted, textures_counted, normals_counted}
 use Rattle.unused.proofs.Laws.{positions_fewer, textures_fewer, normals_fewer, corners_kept}

@@ -1,12 +1,14 @@
 -- Compaction, as document 01 has it: first uses, the new numbers, the new lists. Assumes nothing.
-use Rattle.std.specs.Prelude.{ℕ, ◌*◌, ◌≡◌, Bool, cond, not, List, [], ◌∷◌, map, length, take, drop, eqb, Float}
+use Rattle.std.specs.Prelude.{ℕ, ◌*◌, ◌≡◌, Bool, cond, not, List, [], ◌∷◌, map, length, take, drop, eqb, Float, Result as Outcome, Ok, Err}
 use Rattle.std.proofs.lemmas.List.Edits.{sets}
 use Rattle.lists.specs.Lists.{only, joined, each}
 use Rattle.lists.specs.FirstUses.{first_uses, place}
 use Rattle.mesh.specs.Limits.{point_width, texel_width}
 use Rattle.mesh.specs.Mesh.{Mesh, mesh_of, Corner, position, texture, normal, mark, missing, corners_in, position_count, texture_count, normal_count}
 use Rattle.mesh.specs.Table.{mesh_number, first_of, when, lent, short, after}
-use Rattle.unused.specs.declared.Compacted.{Compacted}
+use Rattle.mesh.specs.Refusals.{number_of}
+use Rattle.mesh.specs.declared.Entries.{Entries}
+use Rattle.mesh.specs.declared.refusal.Refusal.{Refusal}
 
 -- a missing index is no use
 abbrev pub present : ℕ → Bool
@@ -80,6 +82,18 @@ too_short m r =
 -- the number returned: 1 to 5 of the mesh, else 9, else 0
 unfoldable pub compaction_number : Mesh → Result → ℕ
 compaction_number m r = first_of (mesh_number m ∷ when (too_short m r) 9 ∷ [])
+
+-- the number returned, and how many positions, texture points and normals the new lists hold
+pub record Compacted : Type 0 where
+  pub number : ℕ
+  pub positions : ℕ
+  pub textures : ℕ
+  pub normals : ℕ
+
+-- what the call's result says: 0 and the counts, or a refusal with each count 0
+abbrev pub compacted_of : Outcome Entries Refusal → Compacted
+compacted_of (Ok kept) = record { number = 0; positions = kept.positions; textures = kept.textures; normals = kept.normals }
+compacted_of (Err refusal) = record { number = number_of refusal; positions = 0; textures = 0; normals = 0 }
 
 -- what the call answers, and what the lent lists hold before and after it: on 0 the compacted mesh from their beginning on, room
 -- past it unchanged, and the counts of its entries; on any other number nothing is written, and each count is 0

@@ -5,8 +5,7 @@ use Rattle.lists.specs.Lists.{some, joined}
 use Rattle.mesh.specs.Limits.{point_width, texel_width, width, entry_limit}
 use Rattle.mesh.specs.Mesh.{Corner, mark, corners_in}
 use Rattle.mesh.specs.Table.{beyond_unless_missing}
-use Rattle.unused.specs.Compaction.{uses_of, renumber, entries, Result}
-use Rattle.unused.specs.declared.Compacted.{Compacted}
+use Rattle.unused.specs.Compaction.{uses_of, renumber, entries, Result, Compacted}
 
 -- column q of the corners: the positions for 0, the texture points for 1, the normals for 2
 abbrev pub column : ℕ → List ℕ → List ℕ
