@@ -11,7 +11,7 @@ use Rattle.removal.specs.Folded.{Removed}
 use Rattle.removal.specs.Origins.{origins_of}
 use Rattle.removal.specs.Folded as removal
 use Rattle.removal.proofs.Accepted.{removed_accepted}
-use Rattle.unused.specs.declared.Compacted.{Compacted}
+use Rattle.unused.specs.Compaction.{Compacted}
 use Rattle.unused.specs.Compaction as compaction
 use Rattle.cleaning.specs.Promises.{handed_on, CanComeInARow}
 use Rattle.cleaning.proofs.InARow.{handed_on_lem}

@@ -27,7 +27,7 @@ use Rattle.removal.specs.Folded as removal
 use Rattle.removal.proofs.Result.{removed_count, removed_length}
 use Rattle.removal.proofs.Accepted.{faces_unfolded, flat_removed, removed_accepted}
 use Rattle.removal.proofs.CameFrom.{as_many_origins, each_has_its_origin}
-use Rattle.unused.specs.declared.Compacted.{Compacted}
+use Rattle.unused.specs.Compaction.{Compacted}
 use Rattle.unused.specs.Compaction as compaction
 use Rattle.unused.proofs.Laws.{corners_kept, faces_compacted}
 use Rattle.cleaning.specs.Promises.{handed_on, faces_after, InARow, Came, OriginsHold}

@@ -8,7 +8,7 @@ use Rattle.folding.specs.Folding.{pieces}
 use Rattle.removal.specs.Folded.{Removed}
 use Rattle.removal.specs.Folded as removal
 use Rattle.removal.specs.Promises.{face_at}
-use Rattle.unused.specs.declared.Compacted.{Compacted}
+use Rattle.unused.specs.Compaction.{Compacted}
 use Rattle.unused.specs.Compaction as compaction
 use Rattle.cleaning.specs.Cleaning.{cleaned}
 

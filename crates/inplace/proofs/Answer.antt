@@ -19,8 +19,7 @@ use Rattle.mesh.proofs.After.{after_refused, after_done}
 use Rattle.mesh.proofs.Numbers.{first_is}
 use Rattle.mesh.proofs.Accepted.{accepted}
 use Rattle.mesh.proofs.Corners.{length-corners_in, get_or-corners_in, joined-corners_in}
-use Rattle.unused.specs.declared.Compacted.{Compacted}
-use Rattle.unused.specs.Compaction.{uses_of, renumber, entries, used_positions, used_textures, used_normals, renumbered, compacted}
+use Rattle.unused.specs.Compaction.{Compacted, uses_of, renumber, entries, used_positions, used_textures, used_normals, renumbered, compacted}
 use Rattle.unused.specs.Working.{column, new_corner, Pointed, Refused}
 use Rattle.oneindex.specs.Working.{index_at}
 use Rattle.oneindex.proofs.Turn.{length_column, get_or-column}

@@ -18,8 +18,7 @@ use Rattle.lists.proofs.Counting.{clash}
 use Rattle.lists.proofs.Writing.{sets_front}
 use Rattle.mesh.proofs.Numbers.{first_is, first_head, first_tail, when_not}
 use Rattle.mesh.proofs.Accepted.{accepted}
-use Rattle.unused.specs.declared.Compacted.{Compacted}
-use Rattle.unused.specs.Compaction.{compacted}
+use Rattle.unused.specs.Compaction.{Compacted, compacted}
 use Rattle.unused.proofs.Laws.{positions_long, positions_counted, positions_fewer, textures_long, textures_counted, textures_fewer, normals_long, normals_counted, normals_fewer, corners_kept}
 use Rattle.unused.proofs.Using.{Given, given}
 use Rattle.inplace.specs.InPlace.{zero_bits, in_room_of, longest, in_place_number, InPlace}

@@ -5,8 +5,7 @@ use Rattle.std.specs.Float.Ieee.{of_bits}
 use Rattle.std.specs.Float.{binary64}
 use Rattle.mesh.specs.Mesh.{Mesh, position_count, texture_count, normal_count}
 use Rattle.mesh.specs.Table.{mesh_number, first_of, when, lent, short, after}
-use Rattle.unused.specs.Compaction.{compacted}
-use Rattle.unused.specs.declared.Compacted.{Compacted}
+use Rattle.unused.specs.Compaction.{Compacted, compacted}
 
 -- zero bits
 abbrev pub zero_bits : Float

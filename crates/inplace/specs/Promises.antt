@@ -5,8 +5,7 @@ use Rattle.std.specs.Float.{binary64}
 use Rattle.mesh.specs.Limits.{point_width, texel_width}
 use Rattle.mesh.specs.Mesh.{Mesh}
 use Rattle.mesh.specs.Table.{mesh_number}
-use Rattle.unused.specs.declared.Compacted.{Compacted}
-use Rattle.unused.specs.Compaction.{compacted, Result, Compaction}
+use Rattle.unused.specs.Compaction.{Compacted, compacted, Result, Compaction}
 use Rattle.inplace.specs.InPlace.{zero_bits, longest, in_place_number, InPlace}
 
 -- whatever room the number list has, a mesh that is refused is answered by its own number, 1 to 5

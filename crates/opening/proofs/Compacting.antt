@@ -11,7 +11,7 @@ use Rattle.lists.specs.Putting.{Front}
 use Rattle.mesh.specs.Limits.{point_width, texel_width, width}
 use Rattle.mesh.specs.Mesh.{Mesh, mesh_of}
 use Rattle.mesh.proofs.Accepted.{Accepted, accepted}
-use Rattle.unused.specs.declared.Compacted.{Compacted}
+use Rattle.unused.specs.Compaction.{Compacted}
 use Rattle.unused.specs.Compaction.{compacted}
 use Rattle.unused.proofs.Laws.{accepted_compacted}
 use Rattle.inplace.specs.InPlace.{Roomy, InPlace}
