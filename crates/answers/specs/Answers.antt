@@ -6,7 +6,7 @@ use Rattle.mesh.specs.Mesh.{Mesh}
 use Rattle.mesh.specs.Table.{shape_number}
 use Rattle.mesh.specs.Face.{offset_of, face_part}
 use Rattle.faces.specs.Faces.{Pushed}
-use Rattle.unused.specs.declared.Compacted.{Compacted}
+use Rattle.unused.specs.Compaction.{Compacted}
 use Rattle.removal.specs.Folded.{Removed}
 use Rattle.together.specs.declared.Merged.{Merged}
 use Rattle.smoothing.specs.declared.Smoothed.{Smoothed}

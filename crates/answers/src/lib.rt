@@ -8,6 +8,7 @@ ghost use Rattle.std.specs.Prelude.{◌≡◌};
 ghost use Rattle.mesh.specs.Mesh.{mesh_of};
 ghost use Rattle.edges.specs.Answers.{verdict_of};
 ghost use Rattle.faces.specs.Faces.{pushed_of};
+ghost use Rattle.unused.specs.Compaction.{compacted_of};
 ghost use Rattle.removal.specs.Folded.{removed_of};
 ghost use Rattle.answers.specs.Answers as want;
 
@@ -15,10 +16,9 @@ use edges::{HemEdges, ShellCondition};
 use grouping::Filled;
 use hemlist::Listed;
 use merging::Merged;
-use mesh::Refusal;
+use mesh::{Entries, Refusal};
 use smoothing::Smoothed;
 use tracing::Wires;
-use unused::Compacted;
 
 // The part of a face: where it starts in the list of corners, and how many numbers it is. An empty part starts at 0.
 pub fn part(
@@ -69,17 +69,27 @@ pub fn filled(
 
 // Compaction: positions, texture points and normals.
 pub fn compacted(
-    made: Compacted,
+    made: Result<Entries, Refusal>,
     positions: &mut usize,
     textures: &mut usize,
     normals: &mut usize,
 ) -> u32
-    ensures { want.compacted_by result positions.new textures.new normals.new ≡ made }
+    ensures { want.compacted_by result positions.new textures.new normals.new ≡ compacted_of made }
 {
-    *positions = made.positions;
-    *textures = made.textures;
-    *normals = made.normals;
-    made.number
+    match made {
+        Ok(kept) => {
+            *positions = kept.positions;
+            *textures = kept.textures;
+            *normals = kept.normals;
+            0
+        }
+        Err(refused) => {
+            *positions = 0;
+            *textures = 0;
+            *normals = 0;
+            refused.number()
+        }
+    }
 }
 
 // Merging: the pairs compared among positions, texture points and normals.

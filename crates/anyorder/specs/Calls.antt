@@ -7,7 +7,7 @@ use Rattle.mesh.specs.Limits.{point_width, texel_width}
 use Rattle.mesh.specs.Mesh.{Mesh, mesh_of}
 use Rattle.mesh.specs.Table.{mesh_number}
 use Rattle.removal.specs.Folded as removal
-use Rattle.unused.specs.declared.Compacted.{Compacted}
+use Rattle.unused.specs.Compaction.{Compacted}
 use Rattle.unused.specs.Compaction as compaction
 use Rattle.cleaning.specs.Promises.{handed_on}
 use Rattle.anyorder.specs.Orders.{Step, Remove, Compact, sensible}

@@ -111,17 +111,14 @@ pub extern "C" fn bh_remove_unused_attrs(
         (compacting.result_of newcorners.new newpositions.new newtextures.new newnormals.new)
         (answer.compacted_by result positioncount.new texturecount.new normalcount.new) }
 {
-    let made = compaction::remove_unused_attrs(
+    let mesh = Mesh {
         positions,
         textures,
         normals,
         corners,
         sizes,
-        newcorners,
-        newpositions,
-        newtextures,
-        newnormals,
-    );
+    };
+    let made = compaction::remove_unused_attrs(&mesh, newcorners, newpositions, newtextures, newnormals);
     answers::compacted(made, positioncount, texturecount, normalcount)
 }
 

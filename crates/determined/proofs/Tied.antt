@@ -1,6 +1,6 @@
 -- Each contract of the source is, word for word, what the list of the calls says of it. Assumes nothing.
 use mathlib.Core.Path.{subst}
-use Rattle.unused.specs.Compaction.{Compaction}
+use Rattle.unused.specs.Compaction.{Compaction, compacted_of}
 use Rattle.inplace.proofs.Laws.{as_ordinary}
 use Rattle.determined.specs.Determined.{Call, Determined, mesh_from}
 use Rattle.determined.specs.Tied.{Tied, OneResult, AllTied, EnginesAgree, InPlaceAgrees, mesh_in, mesh_placed, rest, list_mut, compacted_lists, placed_lists, sizes_in}
@@ -47,6 +47,6 @@ engines_agree κs κt a r q e f h k =
 -- compaction in place gives what the ordinary gives: both contracts are tied to their sources, and the crate has the law of the two
 pub in_place_agrees : InPlaceAgrees
 in_place_agrees κs κt a b r q e f h k same zero nought =
-    as_ordinary (mesh_placed b) (mesh_from (placed_lists f).0 (sizes_in b)) (placed_lists b).1 (placed_lists f).1 q (compacted_lists (rest a))
-    (compacted_lists (rest e)) r (all_tied.in_place_tied κt b q f k) nought
-    (subst (λ m. Compaction m (compacted_lists (rest a)) (compacted_lists (rest e)) r) same (all_tied.compaction_tied κs a r e h)) zero
+    as_ordinary (mesh_placed b) (mesh_from (placed_lists f).0 (sizes_in b)) (placed_lists b).1 (placed_lists f).1 (compacted_of q) (compacted_lists a.1)
+    (compacted_lists e.1) (compacted_of r) (all_tied.in_place_tied κt b q f k) nought
+    (subst (λ m. Compaction m (compacted_lists a.1) (compacted_lists e.1) (compacted_of r)) same (all_tied.compaction_tied κs a r e h)) zero

@@ -5,6 +5,9 @@ use Rattle.std.specs.Prelude.{ℕ, ◌≡◌, List, Float, ℤ}
 use Rattle.std.specs.Borrow.{Bor, MutBor}
 use Rattle.mesh.specs.Mesh.{Mesh, mesh_of}
 use Rattle.mesh.specs.Listed.{Listed, listed_of}
+use Rattle.std.specs.Prelude.{Result as Answer}
+use Rattle.mesh.specs.declared.Entries.{Entries}
+use Rattle.mesh.specs.declared.refusal.Refusal.{Refusal}
 use Rattle.mesh.specs.Seen.{seen}
 use Rattle.faces.specs.Faces.{FaceLists, faces_of, pushed_of}
 use Rattle.unused.specs.Compaction as compaction
@@ -12,7 +15,6 @@ use Rattle.removal.specs.Folded as removal
 use Rattle.smoothed.specs.Refusals as smoothed
 use Rattle.edges.specs.Answers.{HemLists, hems_in}
 use Rattle.hemlist.specs.Answer as hemlist
-use Rattle.unused.specs.declared.Compacted.{Compacted}
 use Rattle.inplace.specs.Promises.{AsOrdinary}
 use Rattle.determined.specs.Determined.{Call, number, face, push_call, compaction_call, mesh_from, in_place_call, removal_call, merging_call}
 use Rattle.determined.specs.Determined.{smoothing_call, verdict_call}
@@ -132,8 +134,8 @@ pub record AllTied : Type 0 where
   pub face_tied : Tied mesh-face.Post face (λ a. (mesh_in a, (rest a).0)) (λ r e. r.now)
   pub push_tied : Tied push.Post push_call (λ a. (face_lists a, face_lists_mut a.1.1)) (λ r e. (pushed_of r, face_lists_mut e.1.1))
   pub compaction_tied :
-      Tied remove-unused-attrs.Post compaction_call (λ a. (mesh_in a, compacted_lists (rest a))) (λ r e. (r, compacted_lists (rest e)))
-  pub in_place_tied : Tied compact-in-place.Post in_place_call (λ a. (sizes_in a, placed_lists a)) (λ r e. (r, placed_lists e))
+      Tied remove-unused-attrs.Post compaction_call (λ a. (seen a.0.now, compacted_lists a.1)) (λ r e. (compaction.compacted_of r, compacted_lists e.1))
+  pub in_place_tied : Tied compact-in-place.Post in_place_call (λ a. (sizes_in a, placed_lists a)) (λ r e. (compaction.compacted_of r, placed_lists e))
   pub removal_tied :
       Tied remove-degenerate-faces.Post removal_call (λ a. (seen a.0.now, removed_lists a.1)) (λ r e. (removal.removed_of r, removed_lists e.1))
   pub merging_tied :
@@ -172,16 +174,21 @@ EnginesAgree = SameResult {B = merging_call.Result} put-together-same-attrs.Post
 
 -- ---- compaction in place, and the ordinary
 
+-- what either answers
+abbrev pub Counted : Type 0
+Counted = Answer Entries Refusal
+
 -- where two sources are given one mesh and both answer 0, what the second leaves in its own lists is what the first hands over
 abbrev pub SameMesh :
-    {K A E K' A' E' : Type 0} → (K → A → Compacted → E → Type 0) → (A → Mesh) → (E → compaction.Result)
-    → (K' → A' → Compacted → E' → Type 0) → (A' → Mesh) → (A' → E' → Mesh) → Type 0
+    {K A E K' A' E' : Type 0} → (K → A → Counted → E → Type 0) → (A → Mesh) → (E → compaction.Result)
+    → (K' → A' → Counted → E' → Type 0) → (A' → Mesh) → (A' → E' → Mesh) → Type 0
 SameMesh {K} {A} {E} {K'} {A'} {E'} One given handed Other own left =
-    (κs : K) (κt : K') (a : A) (b : A') (r q : Compacted) (e : E) (f : E')
-    → One κs a r e → Other κt b q f → given a ≡ own b → r.number ≡ 0 → q.number ≡ 0 → AsOrdinary (handed e) r (left b f) q
+    (κs : K) (κt : K') (a : A) (b : A') (r q : Counted) (e : E) (f : E')
+    → One κs a r e → Other κt b q f → given a ≡ own b → (compaction.compacted_of r).number ≡ 0 → (compaction.compacted_of q).number ≡ 0
+    → AsOrdinary (handed e) (compaction.compacted_of r) (left b f) (compaction.compacted_of q)
 
 -- `remove_unused_attrs` and `compact_in_place`: counts, entries and corners
 abbrev pub InPlaceAgrees : Type 0
 InPlaceAgrees =
-    SameMesh remove-unused-attrs.Post mesh_in (λ e. compacted_lists (rest e))
+    SameMesh remove-unused-attrs.Post (λ a. seen a.0.now) (λ e. compacted_lists e.1)
     compact-in-place.Post mesh_placed (λ b f. mesh_from (placed_lists f).0 (sizes_in b))
