@@ -31,6 +31,7 @@ fn count_ends(a: usize, b: usize, degrees: &mut [u32])
 // ---- neighbours along a hem
 
 // The first and the second neighbour of each position along an edge with one wing; MISSING where there is none.
+// MISSING and no Option: the rules say `missing` of these rows, and fixed memory has no room for a flag beside each entry.
 pub fn put_hems(
     lowers: &[u32],
     highers: &[u32],

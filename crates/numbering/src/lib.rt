@@ -39,6 +39,7 @@ pub fn number_edges(
 }
 
 // One pass over the uses, of each of which `numbers` has the first use of its edge.
+// The rows stay one by one: they are a caller's lists, and a struct of lists that are lent to be written is no plainer at two calls.
 fn number_uses(
     lower: &[u32],
     higher: &[u32],
