@@ -1,20 +1,9 @@
 -- The part of the room that is lent is the cells of the list. Assumes nothing.
-use Rattle.std.proofs.Common.{ℕ, sym, replicate, arith}
+use Rattle.std.proofs.Common.{ℕ, replicate}
 use lib.ListN.{length-replicate}
-use lib.Seq.{length-take-le}
 use Rattle.mesh.specs.Limits.{point_numbers}
-use Rattle.together.proofs.OneList.{fits, cells_are, listed, pairs_are, settled_are}
+use Rattle.together.proofs.OneList.{cells_are, listed, pairs_are, settled_are}
 use Rattle.merging.proofs.merge_list.Goals as goal
-
-pub fill_cells-requires : goal.fill_cells-requires
-fill_cells-requires g c = (c.requires.near, fits c.requires)
-
-pub slice_bounds-room-end : goal.slice_bounds-room-end
-slice_bounds-room-end g c = omega (arith, fits c.requires, c.fill_cells.auto.cells, length-replicate {A = ℕ} point_numbers 0)
-
-pub slice_bounds-merge_groups-end : goal.slice_bounds-merge_groups-end
-slice_bounds-merge_groups-end g c =
-    sym (length-take-le _ _ (omega (arith, fits c.requires, c.fill_cells.auto.cells, length-replicate {A = ℕ} point_numbers 0)))
 
 pub merge_groups-requires : goal.merge_groups-requires
 merge_groups-requires g c =
