@@ -6,23 +6,16 @@ use native.Mathlib.Omega.{arith}
 use native.Mathlib.Numerals.{add-one}
 use lib.ListN.{length, get_or, set, take}
 use lib.Seq.{sets, length-sets, take-suc, take_all, length-take-le}
-use borrow.Author.Tests.{eq-eqb, ne_eqb}
 use Rattle.lists.specs.Lists.{joined}
 use Rattle.lists.proofs.Parts.{joined_append}
 use Rattle.lists.proofs.Writing.{sets_append}
-use Rattle.mesh.specs.Limits.{width, corner_numbers}
-use Rattle.mesh.specs.Mesh.{Corner, missing, corners_in, corner_at}
+use Rattle.mesh.specs.Limits.{width}
+use Rattle.mesh.specs.Mesh.{Corner, corners_in, corner_at}
 use Rattle.mesh.proofs.Corners.{length-corners_in, get_or-corners_in}
 use Rattle.together.specs.Merging.{unless_missing}
-use Rattle.together.specs.Working.{sent_corner, Indexed}
+use Rattle.together.specs.Working.{sent_corner}
 
 -- ---- one index
-
-pub sent_missing : (m : List ℕ) (i : ℕ) → i ≡ missing → i ≡ unless_missing (λ j. get_or m j 0) i
-sent_missing m i e = rw (eq-eqb i missing e) e
-
-pub sent_other : (m : List ℕ) (i : ℕ) → (i ≡ missing → ⊥) → get_or m i 0 ≡ unless_missing (λ j. get_or m j 0) i
-sent_other m i h = rw (ne_eqb i missing h)
 
 -- ---- the corners, of which the first k are written
 
@@ -36,24 +29,7 @@ pub record Writing (cs p t n out out' : List ℕ) (k : ℕ) : Type 0 where
   pub written : out' ≡ sets out 0 (joined (map (sent_corner p t n) (take k (corners_in cs))))
   pub long : length out' ≡ length out
 
--- corner k has its numbers in the list cs, and its places in the list out
-pub record Inside (cs out : List ℕ) (k : ℕ) : Type 0 where
-  pub few : length cs ≤ corner_numbers
-  pub read : width * k + width ≤ length cs
-  pub write : width * k + width ≤ length out
-
-pub write_inside :
-    (cs p t n out out' : List ℕ) (k : ℕ) → Indexed cs p t n out → k < length cs / width → Writing cs p t n out out' k → Inside cs out' k
-write_inside cs p t n out out' k i h g = record {
-  few = i.few;
-  read = omega (arith, i.even);
-  write = omega (arith, i.even, i.room, g.long);
-}
-
 module _ (cs p t n out : List ℕ) where
-  pub write_begins : Writing cs p t n out out 0
-  write_begins = record { within = omega arith; written = refl; long = refl }
-
   module _ (out' : List ℕ) (k : ℕ) (h : k < length cs / width) (g : Writing cs p t n out out' k) where
     -- the first corners, as they are written
     abbrev front : ℕ → List ℕ

@@ -112,11 +112,3 @@ module _ {w n : ℕ} {s : List Float} {order ends map₀ map : List ℕ} {c from
         each = λ j l. g.sent j l (here j l) ∙ ap (λ (x : ℕ). sent_to w s (laid_out order ends x) j) e;
         small = λ j l. g.small j l (here j l);
       }
-
--- groups that are the same send points to the same places
-pub settled_as :
-    (w : ℕ) (s : List Float) {n : ℕ} {gs hs : List (List ℕ)} {map map' : List ℕ}
-    → gs ≡ hs
-    → Settled n (sent_to w s gs) map map'
-    → Settled n (sent_to w s hs) map map'
-settled_as w s {n} {gs} {hs} {map} {map'} e x = subst (λ (g : List (List ℕ)). Settled n (sent_to w s g) map map') e x
