@@ -40,14 +40,6 @@ left_finite file =
 
 module _ {file out : List ℕ} {before afterwards : Mesh} {r : MeshRead} (room : FileRoom before out) (opened : Opened file afterwards r)
   where
-    -- a refused file
-    pub refused_answered : (r.number ≡ 0 → ⊥) → Answered (reading_number [] file) (mesh_left file) out out (refused_by r.number)
-    refused_answered h = go r.number opened.number h
-      where
-        go : (k : ℕ) → k ≡ reading_number [] file → (k ≡ 0 → ⊥) → Answered (reading_number [] file) (mesh_left file) out out (refused_by k)
-        go zero e h = absurd (h refl)
-        go (suc k) e h = record { number = e; byte_count = rw (sym e); bytes = rw (sym e) }
-
     -- one whose mesh is left at the front of the lists
     module _ (z : r.number ≡ 0) where
       reads : reading_number [] file ≡ 0
