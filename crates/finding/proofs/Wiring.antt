@@ -24,11 +24,10 @@ use Rattle.edges.specs.Edges.{Edge, edges_of, hems, verdict}
 use Rattle.edges.proofs.OfHems.{hems_within}
 use Rattle.tracing.specs.Answers.{Answered}
 use Rattle.turning.specs.Turning.{house_wires_of}
-use Rattle.house.specs.Answers.{wired, HouseOf, HouseDone}
+use Rattle.house.specs.Answers.{wired, HouseDone}
 use Rattle.house.specs.declared.Housed.{Housed}
 use Rattle.house.proofs.Given.{house_turns}
 use Rattle.panels.specs.Panels.{joins, panels}
-use Rattle.panels.specs.Rows.{PanelRoom}
 use Rattle.searching.specs.Walk.{Parted}
 use Rattle.searching.proofs.Parting.{panels_few}
 use Rattle.lines.specs.Lines.{sheet_text}
@@ -55,13 +54,6 @@ module _ {p t n : ℕ} {c s flat lengths out : List ℕ} (room : WireRoom p t n 
 
   -- ---- panels
 
-  pub panel_room : PanelRoom c s flat lengths
-  panel_room = record {
-    keyable = room.findable.keyable;
-    faces_room = omega (arith, room.findable.keyable.sound.few, room.flat_long);
-    panels_room = omega (arith, room.findable.keyable.sound.few, room.lengths_long);
-  }
-
   module _ {flat₁ lengths₁ : List ℕ} {listed panel : ℕ} (parted : Parted (panels false fs) flat lengths flat₁ lengths₁ listed panel) where
     pub parts_few : panel ≤ face_limit
     unfolding panels
@@ -75,13 +67,6 @@ module _ {p t n : ℕ} {c s flat lengths out : List ℕ} (room : WireRoom p t n 
     long_lengths = ap length parted.lengths_are ∙ length-sets lengths 0 (map length (panels false fs)) ∙ room.lengths_long
 
     -- ---- house wires
-
-    pub house_room : HouseOf c s p flat₁ lengths₁
-    house_room = record {
-      edged = room.findable.edged;
-      numbers = omega (arith, few_corners, long_flat);
-      wires = omega (arith, few_corners, long_lengths);
-    }
 
     module _ {flat₂ lengths₂ : List ℕ} {r : Housed} (housed : HouseDone fs (listed_of flat₁ lengths₁) (listed_of flat₂ lengths₂) r) where
       abbrev ws : List (List ℕ)
