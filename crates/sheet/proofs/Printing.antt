@@ -7,7 +7,7 @@ use native.Mathlib.Omega.{arith}
 use lib.ListN.{length, take}
 use lib.Seq.{sets}
 use borrow.Author.Tests.{lt-ltb, le-ltb}
-use Rattle.mesh.specs.Limits.{width, corner_numbers}
+use Rattle.mesh.specs.Limits.{width}
 use Rattle.mesh.specs.Mesh.{Mesh, rings, faces, position_count, texture_count, normal_count}
 use Rattle.mesh.specs.Table.{first_of, short, mesh_number}
 use Rattle.mesh.proofs.Accepted.{Accepted, accepted}
@@ -61,10 +61,6 @@ module _ {n : ℕ} {m : Mesh} {r : MeshRead} {c s : List ℕ} (left : Left n m r
   module _ (z : r.number ≡ 0) where
     abbrev k : Kept (cleaned m) r c s
     k = left.kept z
-
-    pub corners_few : width * r.corners ≤ corner_numbers
-    corners_few =
-        omega (arith, k.corner_front.long, ap length k.corner_front.is, (accepted (cleaned m) k.accepted).limits.corners)
 
     pub kept_findable :
         {out : List ℕ} → sheet_room ≤ length out
