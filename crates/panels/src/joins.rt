@@ -9,10 +9,8 @@ pub fn put_joins(faces: &[u32], firsts: &[u32], out: &mut [u32]) -> usize
     ensures { Written (joins_by faces.now firsts.now (length firsts.now)) out.old out.new 0 result }
 {
     let mut m: usize = 0;
-    let mut u: usize = 0;
-    while u < firsts.len() {
+    for u in 0..firsts.len() {
         m = put_join(faces, firsts, u, out, m);
-        u += 1;
     }
     m
 }
@@ -22,7 +20,7 @@ fn put_join(faces: &[u32], firsts: &[u32], u: usize, out: &mut [u32], m: usize) 
     requires { JoinableAt faces.now firsts.now u out.old m }
     ensures { Written (join_at faces.now firsts.now u) out.old out.new m result }
 {
-    let f = lists::wide(firsts[u]);
+    let f = firsts[u] as usize;
     if f == u {
         return m;
     }

@@ -54,10 +54,7 @@ pub fn components(
         return refused(number);
     }
     let room = corners.len() / mesh::WIDTH;
-    if flat.len() < room {
-        return refused(9);
-    }
-    if lengths.len() < room {
+    if flat.len() < room || lengths.len() < room {
         return refused(9);
     }
     let counts = components_of(corners, sizes, use_normal, flat, lengths);
@@ -73,7 +70,7 @@ fn refused(number: u32) -> Answer
     ensures { result ≡ refused_by number }
 {
     Answer {
-        number: number,
+        number,
         faces: 0,
         panels: 0,
     }
