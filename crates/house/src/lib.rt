@@ -45,10 +45,7 @@ pub fn house_wires(
         return tracing::refused(number);
     }
     let room = corners.len() / mesh::WIDTH;
-    if flat.len() < room {
-        return tracing::refused(9);
-    }
-    if lengths.len() < room {
+    if flat.len() < room || lengths.len() < room {
         return tracing::refused(9);
     }
     let found = house_of(
@@ -125,10 +122,7 @@ fn house_in(
         verdict, corners, sizes, positions, lowers, highers, downs, first, order, twins, flat,
         lengths,
     );
-    Housed {
-        verdict: verdict,
-        wires: wires,
-    }
+    Housed { verdict, wires }
 }
 
 // The wires of sorted uses, where their verdict allows them.
@@ -167,6 +161,7 @@ fn wires_in(
 }
 
 // House wires are for these two verdicts alone.
+#[tactic(auto, unfolding(edges::specs::Answers::verdict_of))]
 fn is_wired(verdict: ShellCondition) -> bool
     ensures { result ≡ wired (verdict_of verdict) }
 {
