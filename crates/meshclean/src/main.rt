@@ -10,13 +10,11 @@ const INPUT: usize = saving::FILE + 1;
 fn main() {
     let mut file = [0u8; INPUT];
     let mut out = [0u8; saving::FILE];
-    let n = io::read_full(0, &mut file[..]);
-    let answer = cleanfile::clean(&file[..n], &mut out[..]);
-    let number = answer.number;
-    if number != 0 {
-        telling::refuse(number);
+    let n = io::read_full(0, &mut file);
+    let answer = cleanfile::clean(&file[..n], &mut out);
+    if answer.number != 0 {
+        telling::refuse(answer.number);
         return;
     }
-    let length = answer.length;
-    telling::hand_over(&out[..length]);
+    telling::hand_over(&out[..answer.length]);
 }
