@@ -1,30 +1,10 @@
-// The first n of a list, or all of it where there are fewer.
+// The first n of a list, or all of it where there are fewer; and the same of a list that is lent for a result.
 
-pub(crate) fn floats(list: &[f64], n: usize) -> &[f64] {
-    if n <= list.len() {
-        return &list[0..n];
-    }
-    list
+pub(crate) fn front<T>(list: &[T], n: usize) -> &[T] {
+    &list[..n.min(list.len())]
 }
 
-pub(crate) fn numbers(list: &[u32], n: usize) -> &[u32] {
-    if n <= list.len() {
-        return &list[0..n];
-    }
-    list
-}
-
-// The same of a list that is lent for a result.
-pub(crate) fn lent_floats(list: &mut [f64], n: usize) -> &mut [f64] {
-    if n <= list.len() {
-        return &mut list[0..n];
-    }
-    list
-}
-
-pub(crate) fn lent_numbers(list: &mut [u32], n: usize) -> &mut [u32] {
-    if n <= list.len() {
-        return &mut list[0..n];
-    }
-    list
+pub(crate) fn front_mut<T>(list: &mut [T], n: usize) -> &mut [T] {
+    let end = n.min(list.len());
+    &mut list[..end]
 }

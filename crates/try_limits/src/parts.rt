@@ -1,5 +1,6 @@
 // The part of a face: how many numbers it has. The lists earn 0, or the number that is named.
-use crate::{fronts, show};
+use crate::fronts::front;
+use crate::show;
 
 pub(crate) fn parts() {
     of_two(b"part of face 0 of 2", 28, 3, 4, 0);
@@ -24,12 +25,12 @@ fn of_two(what: &[u8], c: usize, first: u32, second: u32, k: usize) {
 // Of c corner numbers that are all 0.
 fn part(what: &[u8], c: usize, sizes: &[u32], k: usize) {
     let corners = [0; 32];
-    part_of(what, fronts::numbers(&corners, c), sizes, k);
+    part_of(what, front(&corners, c), sizes, k);
 }
 
 // Over one position, texture point and normal.
 fn part_of(what: &[u8], corners: &[u32], sizes: &[u32], k: usize) {
     let one = [0.0; 3];
-    let face = mesh::face(&one, fronts::floats(&one, 2), &one, corners, sizes, k);
-    show::one(what, face.len() as u64);
+    let face = mesh::face(&one, front(&one, 2), &one, corners, sizes, k);
+    show::line(what, &[face.len()]);
 }

@@ -1,5 +1,6 @@
 // `faces::push` on both sides of each of its limits: its number, and how many corners and faces it writes.
-use crate::{fronts, show};
+use crate::fronts::{front, front_mut};
+use crate::show;
 
 pub(crate) fn push_limits() {
     lengths();
@@ -44,7 +45,7 @@ fn rooms() {
 // c corner numbers, and so many faces of one size.
 fn alike(what: &[u8], c: usize, size: u32, count: usize) {
     let sizes = [size; 1366];
-    faces(what, c, fronts::numbers(&sizes, count));
+    faces(what, c, front(&sizes, count));
 }
 
 // c corner numbers that are all 0, with room for any result.
@@ -54,7 +55,7 @@ fn faces(what: &[u8], c: usize, sizes: &[u32]) {
     let mut newsizes = [0; 1366];
     pushed(
         what,
-        fronts::numbers(&corners, c),
+        front(&corners, c),
         sizes,
         &mut newcorners,
         &mut newsizes,
@@ -69,12 +70,12 @@ fn lent(what: &[u8], a: usize, b: usize) {
         what,
         &[0; 12],
         &[3, 0],
-        fronts::lent_numbers(&mut newcorners, a),
-        fronts::lent_numbers(&mut newsizes, b),
+        front_mut(&mut newcorners, a),
+        front_mut(&mut newsizes, b),
     );
 }
 
 fn pushed(what: &[u8], corners: &[u32], sizes: &[u32], c: &mut [u32], s: &mut [u32]) {
     let r = faces::push(corners, sizes, c, s);
-    show::three(what, r.number as u64, r.corners as u64, r.faces as u64);
+    show::line(what, &[r.number as usize, r.corners, r.faces]);
 }

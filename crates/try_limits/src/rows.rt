@@ -1,5 +1,6 @@
 // Rows 1 to 5 of the table of numbers returned: what is tried, and the number that the mesh earns.
-use crate::{fronts, show};
+use crate::fronts::front;
+use crate::show;
 use mesh::MISSING;
 
 pub(crate) fn rows() {
@@ -91,12 +92,11 @@ fn indices_beyond() {
 // A triangle over no position, texture point or normal at all.
 fn no_position() {
     let none = [0.0; 1];
-    let empty = fronts::floats(&none, 0);
+    let empty = front(&none, 0);
     let corners = [
         0, MISSING, MISSING, 0, 0, MISSING, MISSING, 0, 0, MISSING, MISSING, 0,
     ];
-    let number = mesh::number(empty, empty, empty, &corners, &[3]);
-    show::one(b"5 position 0 of 0", number as u64);
+    earned_over(b"5 position 0 of 0", empty, empty, empty, &corners, &[3]);
 }
 
 // Lists that earn two numbers answer the lower. Index 1 is beyond each list.
@@ -105,15 +105,11 @@ fn rows_in_order() {
     let corners = [1; 1216];
     earned(
         b"2 before 3, size 2 over 12 corner numbers",
-        fronts::numbers(&corners, 12),
+        front(&corners, 12),
         &[2],
     );
     earned(b"3 before 4, sizes 301 3", &corners, &[301, 3]);
-    earned(
-        b"4 before 5, sizes 4 3",
-        fronts::numbers(&corners, 28),
-        &[4, 3],
-    );
+    earned(b"4 before 5, sizes 4 3", front(&corners, 28), &[4, 3]);
 }
 
 // ---- what is tried
@@ -122,19 +118,18 @@ fn rows_in_order() {
 fn coordinates(what: &[u8], p: usize, t: usize, n: usize) {
     let many = [0.0; 6145];
     let none = [0; 1];
-    let empty = fronts::numbers(&none, 0);
-    let positions = fronts::floats(&many, p);
-    let textures = fronts::floats(&many, t);
-    let normals = fronts::floats(&many, n);
-    let number = mesh::number(positions, textures, normals, empty, empty);
-    show::one(what, number as u64);
+    let empty = front(&none, 0);
+    let positions = front(&many, p);
+    let textures = front(&many, t);
+    let normals = front(&many, n);
+    earned_over(what, positions, textures, normals, empty, empty);
 }
 
 // c corner numbers, and s sizes of triangles, but that the one with number 1,364 is a quadrangle's: 1,365 of them have 4,096 corners.
 fn full(what: &[u8], c: usize, s: usize) {
     let mut sizes = [3; 1366];
     sizes[1364] = 4;
-    faces(what, c, fronts::numbers(&sizes, s));
+    faces(what, c, front(&sizes, s));
 }
 
 // One face, and two, and c corner numbers.
@@ -149,21 +144,32 @@ fn two(what: &[u8], first: u32, second: u32, c: usize) {
 // c corner numbers that are all 0.
 fn faces(what: &[u8], c: usize, sizes: &[u32]) {
     let corners = [0; 16385];
-    earned(what, fronts::numbers(&corners, c), sizes);
+    earned(what, front(&corners, c), sizes);
 }
 
 // Corners and sizes over one position, texture point and normal.
 fn earned(what: &[u8], corners: &[u32], sizes: &[u32]) {
     let one = [0.0; 3];
-    let number = mesh::number(&one, fronts::floats(&one, 2), &one, corners, sizes);
-    show::one(what, number as u64);
+    earned_over(what, &one, front(&one, 2), &one, corners, sizes);
+}
+
+// The number that five lists earn.
+fn earned_over(
+    what: &[u8],
+    positions: &[f64],
+    textures: &[f64],
+    normals: &[f64],
+    corners: &[u32],
+    sizes: &[u32],
+) {
+    let number = mesh::number(positions, textures, normals, corners, sizes);
+    show::line(what, &[number as usize]);
 }
 
 // A triangle whose last corner has these indices, over 4 positions, 3 texture points and 2 normals. Two corners have a mark, which is no index.
 fn corner(what: &[u8], position: u32, texture: u32, normal: u32) {
     let many = [0.0; 12];
-    let six = fronts::floats(&many, 6);
+    let six = front(&many, 6);
     let corners = [0, 0, 0, 0, 1, 1, 1, 4, position, texture, normal, MISSING];
-    let number = mesh::number(&many, six, six, &corners, &[3]);
-    show::one(what, number as u64);
+    earned_over(what, &many, six, six, &corners, &[3]);
 }

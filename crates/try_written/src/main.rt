@@ -20,19 +20,16 @@ const REST: u32 = 196;
 
 fn main() {
     let mut less = [b'.'; LESS];
-    let refused = write(0.5, 0.5, &mut less);
-    show(b"one byte short", refused, untouched(&less) as u64);
-    let broken = write(0.0 / 0.0, 0.5, &mut less);
-    show(b"one byte short, a NaN", broken, untouched(&less) as u64);
+    write(b"one byte short", 0.5, 0.5, &mut less);
+    write(b"one byte short, a NaN", f64::NAN, 0.5, &mut less);
     let mut file = [b'.'; saving::FILE];
-    let endless = write(0.5, -1.0 / 0.0, &mut file);
-    show(
+    write(
         b"with its room, a texture point at infinity",
-        endless,
-        untouched(&file) as u64,
+        0.5,
+        f64::NEG_INFINITY,
+        &mut file,
     );
-    let written = write(0.5, 0.5, &mut file);
-    show(b"with its room", written, untouched(&file) as u64);
+    write(b"with its room", 0.5, 0.5, &mut file);
     read(&file);
     largest(b"faces of 300 corners", 0, &mut file);
     largest(b"marked faces of 300 corners", 1, &mut file);
@@ -40,14 +37,13 @@ fn main() {
 
 // The largest faces, written and read.
 fn largest(what: &[u8], number: u32, file: &mut [u8]) {
-    let wide = write_largest(number, file);
-    show(what, wide, untouched(file) as u64);
-    read(front(file, wide.length));
+    let length = write_largest(what, number, file).min(file.len());
+    read(&file[..length]);
 }
 
 // 1,364 triangles and a quadrangle are 4,096 corners, each of which has a mark. The last coordinate of positions and normals is x, that of texture
 // points u.
-fn write(x: f64, u: f64, out: &mut [u8]) -> saving::Saved {
+fn write(what: &[u8], x: f64, u: f64, out: &mut [u8]) {
     let mut points = [0.5; mesh::POINT_NUMBERS];
     points[LAST_COORDINATE] = x;
     let mut textures = [0.5; mesh::TEXEL_NUMBERS];
@@ -55,34 +51,33 @@ fn write(x: f64, u: f64, out: &mut [u8]) -> saving::Saved {
     let corners = [1u32; mesh::CORNER_NUMBERS];
     let mut sizes = [3u32; mesh::FACES];
     sizes[LAST] = 4;
-    saving::write_panel(&points, &textures, &points, &corners, &sizes, out)
+    write_mesh(what, &points, &textures, &corners, &sizes, out);
 }
 
 // As many corners in as few faces as there can be; each number of a corner is this one, its mark too: kind 5, or 6 where it is not 0.
-fn write_largest(number: u32, out: &mut [u8]) -> saving::Saved {
+fn write_largest(what: &[u8], number: u32, out: &mut [u8]) -> usize {
     let points = [0.5; mesh::POINT_NUMBERS];
     let textures = [0.5; mesh::TEXEL_NUMBERS];
     let corners = [number; mesh::CORNER_NUMBERS];
     let mut sizes = [mesh::RING as u32; FEWEST];
     sizes[LAST_OF_FEWEST] = REST;
-    saving::write_panel(&points, &textures, &points, &corners, &sizes, out)
+    write_mesh(what, &points, &textures, &corners, &sizes, out)
 }
 
-// The first n bytes, or all of them where there are fewer.
-fn front(file: &[u8], n: usize) -> &[u8] {
-    if n <= file.len() {
-        return &file[0..n];
-    }
-    file
-}
-
-// The writer: its number, the file's length, and how many bytes at the front of the lent list are as they were.
-fn show(what: &[u8], r: saving::Saved, untouched: u64) {
-    io::write_all(1, what);
-    number(r.number as u64);
-    number(r.length as u64);
-    number(untouched);
-    io::write_all(1, b"\n");
+// The writer: its number, the file's length, which is answered, and how many bytes at the front of the lent list are as they were. The points are
+// positions and normals.
+fn write_mesh(
+    what: &[u8],
+    points: &[f64],
+    textures: &[f64],
+    corners: &[u32],
+    sizes: &[u32],
+    out: &mut [u8],
+) -> usize {
+    let r = saving::write_panel(points, textures, points, corners, sizes, out);
+    let untouched = out.iter().take_while(|byte| **byte == b'.').count();
+    show(what, &[r.number as usize, r.length, untouched]);
+    r.length
 }
 
 // The reader: its number, and the counts of positions, texture points, normals, corners and faces.
@@ -100,30 +95,25 @@ fn read(file: &[u8]) {
         &mut corners,
         &mut sizes,
     );
-    io::write_all(1, b"read again");
-    number(r.number as u64);
-    number(r.positions as u64);
-    number(r.textures as u64);
-    number(r.normals as u64);
-    number(r.corners as u64);
-    number(r.faces as u64);
-    io::write_all(1, b"\n");
+    show(
+        b"read again",
+        &[
+            r.number as usize,
+            r.positions,
+            r.textures,
+            r.normals,
+            r.corners,
+            r.faces,
+        ],
+    );
 }
 
-// A number behind a space.
-fn number(n: u64) {
-    io::write_all(1, b" ");
-    io::print_decimal(1, n);
-}
-
-// How many bytes stand before the first that is not '.'.
-fn untouched(out: &[u8]) -> usize {
-    let mut k: usize = 0;
-    while k < out.len() {
-        if out[k] != b'.' {
-            return k;
-        }
-        k += 1;
+// A line: what was tried, and the numbers that it gave, each behind a space.
+fn show(what: &[u8], numbers: &[usize]) {
+    io::write_all(1, what);
+    for n in numbers {
+        io::write_all(1, b" ");
+        io::print_decimal(1, *n as u64);
     }
-    k
+    io::write_all(1, b"\n");
 }
