@@ -3,6 +3,11 @@ ghost use Rattle.std.specs.Prelude.{◌+◌, ◌≤◌, ◌<◌, length};
 
 use crate::copies;
 
+// How many bytes a record's header has, and a coordinate.
+const HEADER: usize = 4;
+
+const COORDINATE: usize = 8;
+
 // Every coordinate, record by record.
 pub(crate) fn changes(file: &mut [u8], bits: u64, counts: &mut [u32]) {
     let mut at: usize = 0;
@@ -12,43 +17,19 @@ pub(crate) fn changes(file: &mut [u8], bits: u64, counts: &mut [u32]) {
     }
 }
 
-// Every coordinate of the record at a place: of a position, a texture point or a normal; the other kinds have none.
+// Every coordinate of the record at a place, as far as the file goes: of a position, a texture point or a normal; the other kinds have none.
 fn in_record(file: &mut [u8], at: usize, bits: u64, counts: &mut [u32])
     requires { at < length file.old }
 {
-    if file.len() - at < 4 {
+    if file.len() - at < HEADER {
         return;
     }
-    let kind = little::half(file, at + 2);
-    if kind == 0 {
-        return;
-    }
-    if 3 < kind {
-        return;
-    }
-    in_body(
-        file,
-        at + 4,
-        little::half(file, at) as usize / 8,
-        bits,
-        counts,
-    );
-}
-
-// The n coordinates from a place on, as far as the file goes.
-fn in_body(file: &mut [u8], from: usize, n: usize, bits: u64, counts: &mut [u32]) {
-    let mut at = from;
-    let mut k: usize = 0;
-    while k < n {
-        if file.len() < 8 {
-            return;
+    if matches!(little::half(file, at + 2), 1..=3) {
+        let body = at + HEADER;
+        let bytes = (little::half(file, at) as usize).min(file.len() - body);
+        for k in 0..bytes / COORDINATE {
+            change(file, body + COORDINATE * k, bits, counts);
         }
-        if file.len() - 8 < at {
-            return;
-        }
-        change(file, at, bits, counts);
-        at += 8;
-        k += 1;
     }
 }
 

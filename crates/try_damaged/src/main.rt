@@ -16,18 +16,15 @@ const MOST: usize = 4096;
 // How many numbers the table has, 0 among them.
 const NUMBERS: usize = 20;
 
-// The bits of what is not finite, and of the greatest that is.
-const NAN: u64 = 0x7ff8_0000_0000_0000;
+// The bits of what is not finite, and of the greatest numbers that are.
+const BROKEN: [u64; 4] = [
+    0x7ff8_0000_0000_0000,
+    0xfff0_0000_0000_0001,
+    0x7ff0_0000_0000_0000,
+    0xfff0_0000_0000_0000,
+];
 
-const OTHER_NAN: u64 = 0xfff0_0000_0000_0001;
-
-const INFINITY: u64 = 0x7ff0_0000_0000_0000;
-
-const MINUS_INFINITY: u64 = 0xfff0_0000_0000_0000;
-
-const GREATEST: u64 = 0x7fef_ffff_ffff_ffff;
-
-const LEAST: u64 = 0xffef_ffff_ffff_ffff;
+const LARGE: [u64; 2] = [0x7fef_ffff_ffff_ffff, 0xffef_ffff_ffff_ffff];
 
 fn main(rt: HostRuntime) -> std::io::Result<()> {
     for name in env::args(&rt)?.skip(1) {
@@ -39,52 +36,38 @@ fn main(rt: HostRuntime) -> std::io::Result<()> {
 // The file of this name.
 fn one_file(rt: &HostRuntime, name: &str) -> std::io::Result<()> {
     let mut file = fs::read(rt, name)?;
-    copies::print(b"== ");
-    copies::print(name.as_bytes());
-    copies::print(b"\n");
+    println!(rt; "== {name}")?;
     damage(&mut file);
     Ok(())
 }
 
 // The copies of a file: of its first bytes, where it is a long one.
 fn damage(file: &mut [u8]) {
-    let n = if file.len() < MOST { file.len() } else { MOST };
+    let n = file.len().min(MOST);
     count_all(&mut file[..n]);
 }
 
 fn count_all(file: &mut [u8]) {
     count_bytes(file);
-    count_broken(file);
-    count_large(file);
+    count_coordinates(b"broken coordinate", file, &BROKEN);
+    count_coordinates(b"large coordinate", file, &LARGE);
 }
 
 // Cuts, and changes of a header.
 fn count_bytes(file: &mut [u8]) {
-    let mut cut = [0u32; NUMBERS];
-    copies::cuts(file, &mut cut[..]);
-    copies::print_counts(b"cut", &cut[..]);
-    let mut changed = [0u32; NUMBERS];
-    copies::headers(file, &mut changed[..]);
-    copies::print_counts(b"changed header", &changed[..]);
+    let mut cut = [0; NUMBERS];
+    copies::cuts(file, &mut cut);
+    copies::print_counts(b"cut", &cut);
+    let mut changed = [0; NUMBERS];
+    copies::headers(file, &mut changed);
+    copies::print_counts(b"changed header", &changed);
 }
 
-// Coordinates that are not finite.
-fn count_broken(file: &mut [u8]) {
-    let mut broken = [0u32; NUMBERS];
-    change_both(file, NAN, OTHER_NAN, &mut broken[..]);
-    change_both(file, INFINITY, MINUS_INFINITY, &mut broken[..]);
-    copies::print_counts(b"broken coordinate", &broken[..]);
-}
-
-// The greatest that are.
-fn count_large(file: &mut [u8]) {
-    let mut large = [0u32; NUMBERS];
-    change_both(file, GREATEST, LEAST, &mut large[..]);
-    copies::print_counts(b"large coordinate", &large[..]);
-}
-
-// Each coordinate gets these bits, and then those.
-fn change_both(file: &mut [u8], these: u64, those: u64, counts: &mut [u32]) {
-    coordinates::changes(file, these, counts);
-    coordinates::changes(file, those, counts);
+// Each coordinate gets these bits, one after the other.
+fn count_coordinates(what: &[u8], file: &mut [u8], patterns: &[u64]) {
+    let mut counts = [0; NUMBERS];
+    for bits in patterns {
+        coordinates::changes(file, *bits, &mut counts);
+    }
+    copies::print_counts(what, &counts);
 }
