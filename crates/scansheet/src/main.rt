@@ -7,8 +7,7 @@
 fn main() {
     let mut file = [0u8; scanning::SCAN + 1];
     let mut out = [0u8; scanning::ROOM];
-    let n = io::read_full(0, &mut file[..]);
-    let answer = scanning::scan_sheet(&file[..n], &mut out[..]);
-    let length = answer.length;
-    io::write_all(1, &out[..length]);
+    let n = io::read_full(0, &mut file);
+    let answer = scanning::scan_sheet(&file[..n], &mut out);
+    io::write_all(1, &out[..answer.length]);
 }

@@ -1,8 +1,8 @@
-// Cases of the calls on files: the readers of panel files and of scans, and the cleaner. The room for the file is made in a function of its own.
-//
-// `list` is the list of answers, `at` where the case's own words begin, `subject` where the words of its file do.
+// Cases of the calls on files: the readers of panel files and of scans, and the cleaner.
 use crate::cases::Outcome;
-use crate::{bytes, list, reader};
+use crate::entry::Entry;
+use crate::list::Words;
+use crate::{bytes, lent, reader};
 
 // The calls, by the kind of their records.
 pub const READING: u32 = 11;
@@ -13,60 +13,27 @@ pub const CLEANING: u32 = 15;
 pub const BYTES: usize = 262144;
 
 // The cleaner and the readers: any other kind than the cleaner's is one of theirs.
-pub(crate) fn ask(list: &[u8], subject: usize, kind: u32, at: usize) -> Outcome {
+pub(crate) fn ask<'a>(subject: Words<'_>, kind: u32, case: Words<'a>) -> Outcome<'a> {
     let mut all = [0u8; BYTES];
-    ask_in(list, subject, kind, at, &mut all)
-}
-
-fn ask_in(list: &[u8], subject: usize, kind: u32, at: usize, all: &mut [u8]) -> Outcome {
-    copy_file(list, subject, all);
-    ask_of(
-        list,
-        kind,
-        at,
-        list::front_of_bytes(all, length(list, subject)),
-    )
-}
-
-fn ask_of(list: &[u8], kind: u32, at: usize, file: &[u8]) -> Outcome {
+    let length = subject.count(1).saturating_add(subject.count(2));
+    let file = lent::fill(&mut all, length, |i| file_byte(subject, i));
     if kind == CLEANING {
-        return bytes::clean_panel(list, at, file);
+        bytes::clean_panel(file, case)
+    } else {
+        reader::ask(file, kind, case)
     }
-    reader::ask(list, kind, at, file)
 }
 
-// ---- the file: some bytes, several times over, and then others
-
-// How many bytes stand there before the others begin.
-fn front(list: &[u8], at: usize) -> usize {
-    list::count(list, list::plus(at, 1))
-}
-
-// How many bytes the file has.
-fn length(list: &[u8], at: usize) -> usize {
-    list::plus(front(list, at), list::count(list, list::plus(at, 2)))
-}
-
-// Byte i of the file.
-fn file_byte(list: &[u8], at: usize, i: usize) -> u8 {
-    let u = list::count(list, at);
-    let before = front(list, at);
-    let begin = list::plus(at, 3);
-    if i < before {
-        if u > 0 {
-            return list::byte(list, begin, i % u);
-        }
-        return 0;
-    }
-    list::byte(list, list::plus(begin, list::words_for(u)), i - before)
-}
-
-// Writes the file to the front of `out`, as far as there is room.
-fn copy_file(list: &[u8], at: usize, out: &mut [u8]) {
-    let n = list::lesser(length(list, at), out.len());
-    let mut i = 0;
-    while i < n {
-        out[i] = file_byte(list, at, i);
-        i += 1;
+// Byte i of the file: some bytes, several times over, and then others.
+fn file_byte(subject: Words<'_>, i: usize) -> u8 {
+    let repeated = subject.count(0);
+    let filled = subject.count(1);
+    let bytes = subject.skip(3);
+    if i >= filled {
+        bytes.skip(u8::words_for(repeated)).byte(i - filled)
+    } else if repeated > 0 {
+        bytes.byte(i % repeated)
+    } else {
+        0
     }
 }

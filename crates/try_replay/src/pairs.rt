@@ -1,9 +1,9 @@
-// Cases of the calls that lend two lists of u32: hem edges, wires of both kinds, panels, and faces in any order. The lists that a call is
-// lent stand in the function that calls it.
-//
-// `list` is the list of answers, `at` where the case's own words begin; then come the five lists of the mesh.
-use crate::cases::Outcome;
-use crate::{cases, lent, list};
+// Cases of the calls that lend two lists of u32: hem edges, wires of both kinds, panels, and faces in any order.
+use crate::cases;
+use crate::cases::{Outcome, ROOM};
+use crate::lent::lend;
+use crate::list::Words;
+use crate::questions::Mesh;
 
 // The kinds of records.
 const HEMS: u32 = 7;
@@ -15,152 +15,90 @@ const HOUSE: u32 = 9;
 const PUSH: u32 = 13;
 
 // A call by its kind; any other kind than these four is panels.
-pub(crate) fn two_lists(
-    list: &[u8],
-    at: usize,
-    kind: u32,
-    positions: &[f64],
-    textures: &[f64],
-    normals: &[f64],
-    corners: &[u32],
-    sizes: &[u32],
-) -> Outcome {
-    if kind == PUSH {
-        return push(list, at, corners, sizes);
+pub(crate) fn ask<'a>(mesh: &Mesh<'_>, kind: u32, case: Words<'a>) -> Outcome<'a> {
+    match kind {
+        PUSH => two_lists(case, 2, |a, b| push(mesh, case, a, b)),
+        HEMS => two_lists(case, 1, |a, b| hem_edges(mesh, case, a, b)),
+        PORTED => two_lists(case, 2, |a, b| ported_wires(mesh, case, a, b)),
+        HOUSE => two_lists(case, 2, |a, b| house_wires(mesh, case, a, b)),
+        _ => two_lists(case, 2, |a, b| components(mesh, case, a, b)),
     }
-    if kind == HEMS {
-        return hem_edges(list, at, positions, textures, normals, corners, sizes);
-    }
-    if kind == PORTED {
-        return ported_wires(list, at, positions, textures, normals, corners, sizes);
-    }
-    if kind == HOUSE {
-        return house_wires(list, at, positions, textures, normals, corners, sizes);
-    }
-    components(list, at, positions, textures, normals, corners, sizes)
+}
+
+// A call of so many counts that is lent two lists, by the rooms of the case.
+fn two_lists<'a, F: FnOnce(&mut [u32], &mut [u32]) -> Outcome<'a>>(
+    case: Words<'a>,
+    counts: usize,
+    call: F,
+) -> Outcome<'a>
+    requires { F.IsAlwaysCallable call }
+{
+    let mut next = cases::lists_from(case, counts);
+    let mut a = [0u32; ROOM];
+    let mut b = [0u32; ROOM];
+    let said = call(lend(&mut next, &mut a), lend(&mut next, &mut b));
+    said.hold(&a).hold(&b)
 }
 
 // Faces in any order.
-fn push(list: &[u8], at: usize, corners: &[u32], sizes: &[u32]) -> Outcome {
-    let room = lent::rooms_of_words(list, at, 2);
-    let mut a = [0u32; cases::ROOM];
-    let mut b = [0u32; cases::ROOM];
-    let r = faces::push(
-        corners,
-        sizes,
-        lent::lend(&mut a, room.first),
-        lent::lend(&mut b, room.second),
-    );
-    let said = cases::answered(list, at, 2, r.number, r.corners, r.faces, 0);
-    let with_a = lent::hold(said, &a, list);
-    lent::hold(with_a, &b, list)
+fn push<'a>(mesh: &Mesh<'_>, case: Words<'a>, a: &mut [u32], b: &mut [u32]) -> Outcome<'a> {
+    let r = faces::push(mesh.corners, mesh.sizes, a, b);
+    cases::answered(case, (r.number, [r.corners, r.faces]))
 }
 
 // Hem edges.
-fn hem_edges(
-    list: &[u8],
-    at: usize,
-    positions: &[f64],
-    textures: &[f64],
-    normals: &[f64],
-    corners: &[u32],
-    sizes: &[u32],
-) -> Outcome {
-    let room = lent::rooms_of_words(list, at, 1);
-    let mut a = [0u32; cases::ROOM];
-    let mut b = [0u32; cases::ROOM];
+fn hem_edges<'a>(mesh: &Mesh<'_>, case: Words<'a>, a: &mut [u32], b: &mut [u32]) -> Outcome<'a> {
     let r = edges::hem_edges(
-        positions,
-        textures,
-        normals,
-        corners,
-        sizes,
-        lent::lend(&mut a, room.first),
-        lent::lend(&mut b, room.second),
+        mesh.positions,
+        mesh.textures,
+        mesh.normals,
+        mesh.corners,
+        mesh.sizes,
+        a,
+        b,
     );
-    let said = cases::answered(list, at, 1, r.number, r.count, 0, 0);
-    let with_a = lent::hold(said, &a, list);
-    lent::hold(with_a, &b, list)
+    cases::answered(case, (r.number, [r.count]))
 }
 
 // Wires as the Rust has them.
-fn ported_wires(
-    list: &[u8],
-    at: usize,
-    positions: &[f64],
-    textures: &[f64],
-    normals: &[f64],
-    corners: &[u32],
-    sizes: &[u32],
-) -> Outcome {
-    let room = lent::rooms_of_words(list, at, 2);
-    let mut a = [0u32; cases::ROOM];
-    let mut b = [0u32; cases::ROOM];
+fn ported_wires<'a>(mesh: &Mesh<'_>, case: Words<'a>, a: &mut [u32], b: &mut [u32]) -> Outcome<'a> {
     let r = ported::extract_boundaries(
-        positions,
-        textures,
-        normals,
-        corners,
-        sizes,
-        lent::lend(&mut a, room.first),
-        lent::lend(&mut b, room.second),
+        mesh.positions,
+        mesh.textures,
+        mesh.normals,
+        mesh.corners,
+        mesh.sizes,
+        a,
+        b,
     );
-    let said = cases::answered(list, at, 2, r.number, r.flat, r.wires, 0);
-    let with_a = lent::hold(said, &a, list);
-    lent::hold(with_a, &b, list)
+    cases::answered(case, (r.number, [r.flat, r.wires]))
 }
 
 // Wires by the house's order.
-fn house_wires(
-    list: &[u8],
-    at: usize,
-    positions: &[f64],
-    textures: &[f64],
-    normals: &[f64],
-    corners: &[u32],
-    sizes: &[u32],
-) -> Outcome {
-    let room = lent::rooms_of_words(list, at, 2);
-    let mut a = [0u32; cases::ROOM];
-    let mut b = [0u32; cases::ROOM];
+fn house_wires<'a>(mesh: &Mesh<'_>, case: Words<'a>, a: &mut [u32], b: &mut [u32]) -> Outcome<'a> {
     let r = house::house_wires(
-        positions,
-        textures,
-        normals,
-        corners,
-        sizes,
-        lent::lend(&mut a, room.first),
-        lent::lend(&mut b, room.second),
+        mesh.positions,
+        mesh.textures,
+        mesh.normals,
+        mesh.corners,
+        mesh.sizes,
+        a,
+        b,
     );
-    let said = cases::answered(list, at, 2, r.number, r.flat, r.wires, 0);
-    let with_a = lent::hold(said, &a, list);
-    lent::hold(with_a, &b, list)
+    cases::answered(case, (r.number, [r.flat, r.wires]))
 }
 
 // Panels; the setting is given.
-fn components(
-    list: &[u8],
-    at: usize,
-    positions: &[f64],
-    textures: &[f64],
-    normals: &[f64],
-    corners: &[u32],
-    sizes: &[u32],
-) -> Outcome {
-    let room = lent::rooms_of_words(list, at, 2);
-    let mut a = [0u32; cases::ROOM];
-    let mut b = [0u32; cases::ROOM];
+fn components<'a>(mesh: &Mesh<'_>, case: Words<'a>, a: &mut [u32], b: &mut [u32]) -> Outcome<'a> {
     let r = panels::components(
-        positions,
-        textures,
-        normals,
-        corners,
-        sizes,
-        list::word(list, at) != 0,
-        lent::lend(&mut a, room.first),
-        lent::lend(&mut b, room.second),
+        mesh.positions,
+        mesh.textures,
+        mesh.normals,
+        mesh.corners,
+        mesh.sizes,
+        case.word(0) != 0,
+        a,
+        b,
     );
-    let said = cases::answered(list, at, 2, r.number, r.faces, r.panels, 0);
-    let with_a = lent::hold(said, &a, list);
-    lent::hold(with_a, &b, list)
+    cases::answered(case, (r.number, [r.faces, r.panels]))
 }

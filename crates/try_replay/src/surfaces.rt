@@ -1,70 +1,40 @@
 // Cases of smoothing, which is given the cosines beside its mesh. It lends positions, corners and sizes.
-//
-// `list` is the list of answers, `at` where the case's own words begin, `cosines` where those of the cosines do; then come the five lists
-// of the mesh.
-use crate::cases::Outcome;
-use crate::{cases, lent, list};
+use crate::cases;
+use crate::cases::{Outcome, ROOM};
+use crate::lent::{lend, read};
+use crate::list::Words;
+use crate::questions::Mesh;
 
 // The kind of its records, and of those that hold the cosines.
 pub const SMOOTHING: u32 = 16;
 
 pub const COSINES: u32 = 17;
 
-// How many counts it answers.
-const COUNTS: usize = 3;
-
 // More than any list of cosines has.
 const ANGLES: usize = 72;
 
-// Reads the cosines of pi/n and then those of 2·pi/n.
-pub(crate) fn ask(
-    list: &[u8],
-    at: usize,
-    cosines: usize,
-    positions: &[f64],
-    textures: &[f64],
-    normals: &[f64],
-    corners: &[u32],
-    sizes: &[u32],
-) -> Outcome {
-    let mut first = [0.0; ANGLES];
-    let mut second = [0.0; ANGLES];
-    let ones = list::floats(list, cosines, &mut first);
-    let twos = list::floats(list, list::after_floats(list, cosines), &mut second);
-    smooth(
-        list, at, positions, textures, normals, corners, sizes, ones, twos,
-    )
-}
-
-fn smooth(
-    list: &[u8],
-    at: usize,
-    positions: &[f64],
-    textures: &[f64],
-    normals: &[f64],
-    corners: &[u32],
-    sizes: &[u32],
-    ones: &[f64],
-    twos: &[f64],
-) -> Outcome {
-    let room = lent::rooms_of_smoothing(list, at);
-    let mut p = [0.0; cases::ROOM];
-    let mut c = [0u32; cases::ROOM];
-    let mut s = [0u32; cases::ROOM];
+// `cosines` is where those of pi/n begin; behind them stand those of 2·pi/n.
+pub(crate) fn ask<'a>(mesh: &Mesh<'_>, cosines: Words<'_>, case: Words<'a>) -> Outcome<'a> {
+    let mut next = cases::lists_from(case, 3);
+    let mut ones = [0.0; ANGLES];
+    let mut twos = [0.0; ANGLES];
+    let mut p = [0.0; ROOM];
+    let mut c = [0u32; ROOM];
+    let mut s = [0u32; ROOM];
     let r = smoothing::loop_subdivision(
-        positions,
-        textures,
-        normals,
-        corners,
-        sizes,
-        ones,
-        twos,
-        lent::lend_floats(&mut p, room.first),
-        lent::lend(&mut c, room.second),
-        lent::lend(&mut s, room.third),
+        mesh.positions,
+        mesh.textures,
+        mesh.normals,
+        mesh.corners,
+        mesh.sizes,
+        read(cosines, &mut ones),
+        read(cosines.after::<f64>(), &mut twos),
+        lend(&mut next, &mut p),
+        lend(&mut next, &mut c),
+        lend(&mut next, &mut s),
     );
-    let said = cases::answered(list, at, COUNTS, r.number, r.positions, r.corners, r.faces);
-    let with_p = lent::hold_floats(said, &p, list);
-    let with_c = lent::hold(with_p, &c, list);
-    lent::hold(with_c, &s, list)
+    cases::answered(case, (r.number, [r.positions, r.corners, r.faces]))
+        .hold(&p)
+        .hold(&c)
+        .hold(&s)
 }

@@ -13,31 +13,16 @@ fn main(rt: HostRuntime) -> io::Result<()> {
     Ok(())
 }
 
-// The file of this name.
+// The file of this name. One byte more than a scan may have is taken, as `scansheet` reads one more.
 fn one_file(rt: &HostRuntime, name: &str) -> io::Result<()> {
     let file = fs::read(rt, name)?;
-    print(rt, b"== ")?;
-    print(rt, name.as_bytes())?;
-    print(rt, b"\n")?;
-    print_sheet(rt, front(&file))
-}
-
-// One byte more than a scan may have is taken, as `scansheet` reads one more.
-fn front(file: &[u8]) -> &[u8] {
-    if file.len() <= scanning::SCAN {
-        return file;
-    }
-    &file[..scanning::SCAN + 1]
+    println!(rt; "== {name}")?;
+    print_sheet(rt, &file[..file.len().min(scanning::SCAN + 1)])
 }
 
 // Its sheet.
 fn print_sheet(rt: &HostRuntime, file: &[u8]) -> io::Result<()> {
     let mut out = [0u8; scanning::ROOM];
-    let answer = scanning::scan_sheet(file, &mut out[..]);
-    let length = answer.length;
-    print(rt, &out[..length])
-}
-
-fn print(rt: &HostRuntime, text: &[u8]) -> io::Result<()> {
-    rt.stdout().write_all(text)
+    let answer = scanning::scan_sheet(file, &mut out);
+    rt.stdout().write_all(&out[..answer.length])
 }
