@@ -52,8 +52,5 @@ fn compacted(what: &[u8], p: usize, t: usize, n: usize, room: usize) {
         &[3],
         front_mut(&mut numbers, room),
     );
-    show::line(
-        what,
-        &[r.number as usize, r.positions, r.textures, r.normals],
-    );
+    show::answer(what, r.map(|of| [of.positions, of.textures, of.normals]));
 }

@@ -32,5 +32,5 @@ fn part(what: &[u8], c: usize, sizes: &[u32], k: usize) {
 fn part_of(what: &[u8], corners: &[u32], sizes: &[u32], k: usize) {
     let one = [0.0; 3];
     let face = mesh::face(&one, front(&one, 2), &one, corners, sizes, k);
-    show::line(what, &[face.len()]);
+    show::line(what, face.len(), &[]);
 }

@@ -77,5 +77,5 @@ fn lent(what: &[u8], a: usize, b: usize) {
 
 fn pushed(what: &[u8], corners: &[u32], sizes: &[u32], c: &mut [u32], s: &mut [u32]) {
     let r = faces::push(corners, sizes, c, s);
-    show::line(what, &[r.number as usize, r.corners, r.faces]);
+    show::answer(what, r.map(|of| [of.corners, of.faces]));
 }

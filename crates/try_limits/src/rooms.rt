@@ -2,7 +2,7 @@
 // sheet with exactly its room, and with one byte less.
 use crate::fronts::{front, front_mut};
 use crate::show;
-use mesh::MISSING;
+use mesh::{MISSING, Mesh};
 
 // Compaction: the number, and the counts of positions, texture points and normals.
 pub(crate) fn compaction_rooms() {
@@ -22,21 +22,21 @@ fn compacted(what: &[u8], c: usize, p: usize, t: usize, n: usize) {
     let mut positions = [0.0; 18];
     let mut textures = [0.0; 4];
     let mut normals = [0.0; 6];
+    let mesh = Mesh {
+        positions: &many,
+        textures: front(&many, 4),
+        normals: front(&many, 6),
+        corners: &corners,
+        sizes: &[3],
+    };
     let r = compaction::remove_unused_attrs(
-        &many,
-        front(&many, 4),
-        front(&many, 6),
-        &corners,
-        &[3],
+        &mesh,
         front_mut(&mut newcorners, c),
         front_mut(&mut positions, p),
         front_mut(&mut textures, t),
         front_mut(&mut normals, n),
     );
-    show::line(
-        what,
-        &[r.number as usize, r.positions, r.textures, r.normals],
-    );
+    show::answer(what, r.map(|of| [of.positions, of.textures, of.normals]));
 }
 
 // The sheet: the number, its length, and how many bytes at the front of the lent list are as they were.
@@ -49,5 +49,5 @@ pub(crate) fn sheet_rooms() {
 fn printed(what: &[u8], out: &mut [u8]) {
     let r = sheet::sheet(&[0; 4], out);
     let untouched = out.iter().take_while(|byte| **byte == b'.').count();
-    show::line(what, &[r.number as usize, r.length, untouched]);
+    show::line(what, r.number as usize, &[r.length, untouched]);
 }

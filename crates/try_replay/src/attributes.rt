@@ -3,8 +3,8 @@ use crate::cases;
 use crate::cases::{Outcome, ROOM};
 use crate::lent::lend;
 use crate::list::Words;
-use crate::questions::Mesh;
 use merging::Merged;
+use mesh::Mesh;
 
 // The calls, by the kind of their records.
 pub const COMPACTION: u32 = 3;
@@ -21,17 +21,14 @@ pub(crate) fn compaction<'a>(mesh: &Mesh<'_>, case: Words<'a>) -> Outcome<'a> {
     let mut t = [0.0; ROOM];
     let mut n = [0.0; ROOM];
     let r = compaction::remove_unused_attrs(
-        mesh.positions,
-        mesh.textures,
-        mesh.normals,
-        mesh.corners,
-        mesh.sizes,
+        mesh,
         lend(&mut next, &mut c),
         lend(&mut next, &mut p),
         lend(&mut next, &mut t),
         lend(&mut next, &mut n),
     );
-    cases::answered(case, (r.number, [r.positions, r.textures, r.normals]))
+    let said = cases::told(r.map(|of| [of.positions, of.textures, of.normals]));
+    cases::answered(case, said)
         .hold(&c)
         .hold(&p)
         .hold(&t)

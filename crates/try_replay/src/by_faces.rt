@@ -2,9 +2,9 @@
 // three lists of u32, and in `pairs` those that lend two.
 use crate::cases::Outcome;
 use crate::list::Words;
-use crate::questions::Mesh;
 use crate::{cases, pairs, removing};
 use edges::{Judged, ShellCondition};
+use mesh::Mesh;
 
 // The calls that lend nothing, by the kind of their records; `removing` and `pairs` have the others.
 const MESH_NUMBER: u32 = 1;
@@ -29,14 +29,7 @@ pub(crate) fn ask<'a>(mesh: &Mesh<'_>, kind: u32, case: Words<'a>) -> Outcome<'a
 
 // The number of a mesh.
 fn mesh_number<'a>(mesh: &Mesh<'_>, case: Words<'a>) -> Outcome<'a> {
-    let number = mesh::number(
-        mesh.positions,
-        mesh.textures,
-        mesh.normals,
-        mesh.corners,
-        mesh.sizes,
-    );
-    cases::answered(case, (number, []))
+    cases::answered(case, cases::told(mesh.check().map(|()| [])))
 }
 
 // The part of a face: its length, and that it holds what the list of corners has from its start on; an empty part starts at 0. The call has no

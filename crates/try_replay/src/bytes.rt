@@ -4,7 +4,7 @@ use crate::cases::Outcome;
 use crate::files::BYTES;
 use crate::lent::lend;
 use crate::list::Words;
-use crate::questions::Mesh;
+use mesh::Mesh;
 
 // The kind of the writer's records.
 pub const WRITING: u32 = 14;

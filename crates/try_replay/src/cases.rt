@@ -6,6 +6,7 @@
 use crate::entry::Entry;
 use crate::lent;
 use crate::list::Words;
+use mesh::Refusal;
 
 // More than any room of the list for u32 or f64.
 pub const ROOM: usize = 16400;
@@ -19,6 +20,14 @@ pub struct About<'a> {
 
 // What a call said: its number, and its counts.
 pub type Said<const N: usize> = (u32, [usize; N]);
+
+// An answer: a refusal has its number, and no counts.
+pub(crate) fn told<const N: usize>(answer: Result<[usize; N], Refusal>) -> Said<N> {
+    match answer {
+        Ok(counts) => (0, counts),
+        Err(refusal) => (refusal.number(), [0; N]),
+    }
+}
 
 // Where a case's lent lists begin, behind so many counts.
 pub(crate) fn lists_from(case: Words<'_>, counts: usize) -> Words<'_> {

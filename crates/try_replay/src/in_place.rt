@@ -28,8 +28,9 @@ pub(crate) fn ask<'a>(subject: Words<'a>, case: Words<'a>) -> Outcome<'a> {
         lent::read(places.sizes, &mut s),
         lent::fill(&mut numbers, room, |i| u32::pattern(i)),
     );
-    let said = cases::answered(case, (r.number, [r.positions, r.textures, r.normals]));
-    let done = r.number == 0;
+    let counts = r.map(|of| [of.positions, of.textures, of.normals]);
+    let said = cases::answered(case, cases::told(counts));
+    let done = said.number == 0;
     let differs = lent::differs(&numbers, room, |i| {
         if done { 0 } else { u32::pattern(i) }
     });

@@ -3,7 +3,7 @@ use crate::cases;
 use crate::cases::{Outcome, ROOM};
 use crate::lent::lend;
 use crate::list::Words;
-use crate::questions::Mesh;
+use mesh::Mesh;
 
 // The kinds of records.
 const HEMS: u32 = 7;
@@ -43,7 +43,7 @@ fn two_lists<'a, F: FnOnce(&mut [u32], &mut [u32]) -> Outcome<'a>>(
 // Faces in any order.
 fn push<'a>(mesh: &Mesh<'_>, case: Words<'a>, a: &mut [u32], b: &mut [u32]) -> Outcome<'a> {
     let r = faces::push(mesh.corners, mesh.sizes, a, b);
-    cases::answered(case, (r.number, [r.corners, r.faces]))
+    cases::answered(case, cases::told(r.map(|of| [of.corners, of.faces])))
 }
 
 // Hem edges.

@@ -2,23 +2,14 @@
 use crate::cases::{About, Outcome};
 use crate::list::Words;
 use crate::{attributes, by_faces, bytes, files, in_place, lent, reader, surfaces};
+use mesh::Mesh;
 
 // The kind of a record that holds a mesh, and of one that holds a panel file or a scan. The modules that ask the calls have the kinds of theirs.
 pub const MESH: u32 = 0;
 
 pub const FILE: u32 = 12;
 
-// A mesh, as the calls are given it.
-#[derive(Clone, Copy)]
-pub struct Mesh<'a> {
-    pub positions: &'a [f64],
-    pub textures: &'a [f64],
-    pub normals: &'a [f64],
-    pub corners: &'a [u32],
-    pub sizes: &'a [u32],
-}
-
-// Where the words of its five lists begin.
+// Where the words of the five lists of a mesh begin.
 #[derive(Clone, Copy)]
 pub struct Places<'a> {
     pub positions: Words<'a>,

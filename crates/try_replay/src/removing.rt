@@ -3,7 +3,7 @@ use crate::cases;
 use crate::cases::{Outcome, ROOM};
 use crate::lent::lend;
 use crate::list::Words;
-use crate::questions::Mesh;
+use mesh::Mesh;
 
 // The kind of its records.
 pub const REMOVAL: u32 = 4;
@@ -14,17 +14,11 @@ pub(crate) fn ask<'a>(mesh: &Mesh<'_>, case: Words<'a>) -> Outcome<'a> {
     let mut s = [0u32; ROOM];
     let mut o = [0u32; ROOM];
     let r = folded::remove_degenerate_faces(
-        mesh.positions,
-        mesh.textures,
-        mesh.normals,
-        mesh.corners,
-        mesh.sizes,
+        mesh,
         lend(&mut next, &mut c),
         lend(&mut next, &mut s),
         lend(&mut next, &mut o),
     );
-    cases::answered(case, (r.number, [r.corners, r.faces]))
-        .hold(&c)
-        .hold(&s)
-        .hold(&o)
+    let said = cases::told(r.map(|of| [of.corners, of.faces]));
+    cases::answered(case, said).hold(&c).hold(&s).hold(&o)
 }

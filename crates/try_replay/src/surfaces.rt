@@ -3,7 +3,7 @@ use crate::cases;
 use crate::cases::{Outcome, ROOM};
 use crate::lent::{lend, read};
 use crate::list::Words;
-use crate::questions::Mesh;
+use mesh::Mesh;
 
 // The kind of its records, and of those that hold the cosines.
 pub const SMOOTHING: u32 = 16;
