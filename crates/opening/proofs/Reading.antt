@@ -2,11 +2,14 @@
 -- Assumes nothing.
 use mathlib.Core.Path.{◌≡◌, ◌∙◌, sym, ap}
 use mathlib.Core.List.{List, []}
-use Prim.Native.Nat.{ℕ}
+use Prim.Native.Nat.{ℕ, ◌*◌, ◌≤◌}
+use native.Mathlib.Omega.{arith}
 use lib.ListN.{length}
 use lib.Ieee.{Float}
+use Rattle.mesh.specs.Limits.{point_width, texel_width, width, point_numbers, texel_numbers, corner_numbers}
 use Rattle.mesh.specs.Mesh.{Mesh, mesh_of}
 use Rattle.mesh.specs.Table.{mesh_number, short}
+use Rattle.mesh.proofs.Accepted.{accepted}
 use Rattle.mesh.proofs.Numbers.{first_head}
 use Rattle.mesh.proofs.MeshFronts.{front_positions, front_textures, front_normals, front_corners, front_sizes}
 use Rattle.reading.specs.declared.MeshRead.{MeshRead}
@@ -16,7 +19,7 @@ use Rattle.reading.proofs.Ending.{read_accepted}
 use Rattle.cleaning.specs.Cleaning.{cleaned}
 use Rattle.cleaning.proofs.Cleaned.{cleaned_accepted}
 use Rattle.opening.specs.Opening.{FullRoom, front_of, Fronts, Standing, Kept, Opened}
-use Rattle.opening.proofs.Fronts.{fronts_are, fronts_own}
+use Rattle.opening.proofs.Fronts.{front_length, fronts_are, fronts_own}
 
 -- the mesh of a file that the reader takes is accepted, and so is what is left of it
 pub panel_accepted : (file : List ℕ) → reading_number [] file ≡ 0 → mesh_number (panel_mesh file) ≡ 0
@@ -25,6 +28,25 @@ panel_accepted file h = read_accepted file (first_head (finish file (read_all fi
 
 pub opened_accepted : (file : List ℕ) → reading_number [] file ≡ 0 → mesh_number (cleaned (panel_mesh file)) ≡ 0
 opened_accepted file h = cleaned_accepted (panel_mesh file) (panel_accepted file h)
+
+-- the counts of what is left, by how many numbers they stand for
+pub record Few (r : MeshRead) : Type 0 where
+  pub positions : point_width * r.positions ≤ point_numbers
+  pub textures : texel_width * r.textures ≤ texel_numbers
+  pub normals : point_width * r.normals ≤ point_numbers
+  pub corners : width * r.corners ≤ corner_numbers
+
+pub opened_few : {file : List ℕ} {afterwards : Mesh} {r : MeshRead} → Opened file afterwards r → r.number ≡ 0 → Few r
+opened_few {file} o z =
+    let m = cleaned (panel_mesh file) in
+    let limits = (accepted m (opened_accepted file (sym o.number ∙ z))).limits in
+    let f = o.left z in
+    record {
+      positions = omega (arith, front_length f.positions, limits.positions);
+      textures = omega (arith, front_length f.textures, limits.textures);
+      normals = omega (arith, front_length f.normals, limits.normals);
+      corners = omega (arith, front_length f.corners, limits.corners);
+    }
 
 module _ {file : List ℕ} {before afterwards : Mesh} {r : MeshRead} (long : FullRoom before) (still : FullRoom afterwards)
     (drawn : FileDrawn file before afterwards r) where
