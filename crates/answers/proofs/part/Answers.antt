@@ -1,7 +1,6 @@
 -- `answers::part` meets its contract: an empty part starts at 0, any other behind the faces before it. Assumes nothing.
 use Rattle.answers.proofs.PartOfFace.{there, few, empty, filled}
 use native.Mathlib.Omega.{arith}
-use borrow.Author.Rules.{rules}
 use Rattle.answers.proofs.part.Goals as goal
 
 pub offset-requires : goal.offset-requires

@@ -4,7 +4,6 @@ use Prim.Native.Nat.{ℕ}
 use Rattle.edges.specs.Answers.{verdict_of}
 use Rattle.edges.specs.declared.ShellCondition.{ShellCondition}
 use Rattle.answers.specs.Answers.{verdict_number}
-use borrow.Author.Rules.{rules}
 use Rattle.answers.proofs.verdict_number.Goals as goal
 
 abbrev numbered : ShellCondition → ℕ

@@ -1,7 +1,6 @@
 -- `barleyhinge::bh_extract_boundaries` meets its contract: what the call promises of its answer, taken apart. Assumes nothing.
 use Rattle.ported.specs.Answers.{PortedAnswer}
 use Rattle.barleyhinge.proofs.Taken.{taken}
-use borrow.Author.Rules.{rules}
 use Rattle.barleyhinge.proofs.bh_extract_boundaries.Goals as goal
 
 pub returns : goal.returns

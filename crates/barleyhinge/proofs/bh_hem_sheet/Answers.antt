@@ -1,7 +1,6 @@
 -- `barleyhinge::bh_hem_sheet` meets its contract: what the call promises of its answer, taken apart. Assumes nothing.
 use Rattle.hemfile.specs.HemFile.{HemsPrinted}
 use Rattle.barleyhinge.proofs.Taken.{taken}
-use borrow.Author.Rules.{rules}
 use Rattle.barleyhinge.proofs.bh_hem_sheet.Goals as goal
 
 pub returns : goal.returns

@@ -1,7 +1,6 @@
 -- `barleyhinge::bh_list_hems` meets its contract: what the call promises of its answer, taken apart. Assumes nothing.
 use Rattle.hemlist.specs.Answer.{HemsListed}
 use Rattle.barleyhinge.proofs.Taken.{taken}
-use borrow.Author.Rules.{rules}
 use Rattle.barleyhinge.proofs.bh_list_hems.Goals as goal
 
 pub returns : goal.returns

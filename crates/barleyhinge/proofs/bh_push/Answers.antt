@@ -1,7 +1,6 @@
 -- `barleyhinge::bh_push` meets its contract: what the call promises of its answer, taken apart. Assumes nothing.
 use Rattle.faces.specs.Faces.{Grouped}
 use Rattle.barleyhinge.proofs.Taken.{taken}
-use borrow.Author.Rules.{rules}
 use Rattle.barleyhinge.proofs.bh_push.Goals as goal
 
 pub returns : goal.returns

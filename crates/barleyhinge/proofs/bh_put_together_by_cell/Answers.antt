@@ -1,7 +1,6 @@
 -- `barleyhinge::bh_put_together_by_cell` meets its contract: what the call promises of its answer, taken apart. Assumes nothing.
 use Rattle.merging.specs.Merging.{PutTogether}
 use Rattle.barleyhinge.proofs.Taken.{taken}
-use borrow.Author.Rules.{rules}
 use Rattle.barleyhinge.proofs.bh_put_together_by_cell.Goals as goal
 
 pub returns : goal.returns

@@ -1,7 +1,6 @@
 -- `barleyhinge::bh_read_scan` meets its contract: what the call promises of its answer, taken apart. Assumes nothing.
 use Rattle.scanned.specs.Answer.{ScanRead}
 use Rattle.barleyhinge.proofs.Taken.{taken}
-use borrow.Author.Rules.{rules}
 use Rattle.barleyhinge.proofs.bh_read_scan.Goals as goal
 
 pub returns : goal.returns

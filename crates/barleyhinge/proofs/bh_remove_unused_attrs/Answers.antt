@@ -1,7 +1,6 @@
 -- `barleyhinge::bh_remove_unused_attrs` meets its contract: what the call promises of its answer, taken apart. Assumes nothing.
 use Rattle.unused.specs.Compaction.{Compaction}
 use Rattle.barleyhinge.proofs.Taken.{taken}
-use borrow.Author.Rules.{rules}
 use Rattle.barleyhinge.proofs.bh_remove_unused_attrs.Goals as goal
 
 pub returns : goal.returns

@@ -1,7 +1,6 @@
 -- `barleyhinge::bh_sheet` meets its contract: what the call promises of its answer, taken apart. Assumes nothing.
 use Rattle.sheet.specs.Sheet.{Printed}
 use Rattle.barleyhinge.proofs.Taken.{taken}
-use borrow.Author.Rules.{rules}
 use Rattle.barleyhinge.proofs.bh_sheet.Goals as goal
 
 pub returns : goal.returns

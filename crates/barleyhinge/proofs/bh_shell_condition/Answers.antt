@@ -1,6 +1,5 @@
 -- `barleyhinge::bh_shell_condition` meets its contract: the verdict that was found, or the number of the refusal. Assumes nothing.
 use Rattle.barleyhinge.proofs.Verdict.{found, refused}
-use borrow.Author.Rules.{rules}
 use Rattle.barleyhinge.proofs.bh_shell_condition.Goals as goal
 
 pub returns-in-Found : goal.returns-in-Found

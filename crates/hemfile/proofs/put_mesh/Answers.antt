@@ -4,24 +4,19 @@ use mathlib.Core.Path.{sym}
 use lib.Seq.{length-take-le}
 use Rattle.hemtext.proofs.Texts.{sheeted_as}
 use Rattle.hemfile.proofs.Printing.{cut_text}
-use borrow.Author.Rules.{rules}
 use Rattle.hemfile.proofs.put_mesh.Goals as goal
 
 pub returns-then-bytes-positions : goal.returns-then-bytes-positions
-returns-then-bytes-positions c =
-    let refused = c in
-    sheeted_as (cut_text _ _ _ refused.if-bytes-positions.true) refused.put_refusal.ensures
+returns-then-bytes-positions c = sheeted_as (cut_text _ _ _ c.if-bytes-positions.true) c.put_refusal.ensures
 
 pub slice_bounds-put_placed-end : goal.slice_bounds-put_placed-end
 slice_bounds-put_placed-end c = sym (length-take-le _ _ (array-borrow-prefix-coordinates c.before))
 
 pub put_placed-requires : goal.put_placed-requires
 put_placed-requires c =
-    let whole = c in
-    let start = c in
     record {
-      printable = start.requires;
-      whole = whole.if-bytes-positions.false;
+      printable = c.requires;
+      whole = c.if-bytes-positions.false;
       long = length-take-le _ _ (array-borrow-prefix-coordinates c.before.before);
     }
 

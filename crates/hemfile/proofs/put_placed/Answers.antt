@@ -1,7 +1,6 @@
 -- `put_placed` meets its contract: the coordinates are those of the bytes, and the sheet is that of the mesh and them (`Printing`). Assumes
 -- nothing.
 use native.Mathlib.Omega.{arith}
-use borrow.Author.Rules.{rules}
 use Rattle.hemtext.proofs.Texts.{sheeted_as}
 use Rattle.hemfile.proofs.Printing.{textable, placed_text}
 use Rattle.hemfile.proofs.put_placed.Goals as goal
@@ -13,13 +12,10 @@ put_coordinates-requires c =
 
 pub put_sheet-requires : goal.put_sheet-requires
 put_sheet-requires c =
-    let coordinates = c in
-    let pre = coordinates.requires in
-    textable _ _ pre.whole pre coordinates.put_coordinates.ensures
+    let pre = c.requires in
+    textable _ _ pre.whole pre c.put_coordinates.ensures
 
 pub returns : goal.returns
 returns c =
-    let sheet = c in
-    let coordinates = c in
-    let pre = coordinates.requires in
-    sheeted_as (placed_text _ _ pre.whole pre coordinates.put_coordinates.ensures _) sheet.put_sheet.ensures
+    let pre = c.requires in
+    sheeted_as (placed_text _ _ pre.whole pre c.put_coordinates.ensures _) c.put_sheet.ensures

@@ -19,11 +19,9 @@ use Rattle.listing.proofs.Answering.{
   row_10,
   refusal,
   listed,
-use native.Mathlib.Omega.{arith}
-use borrow.Author.Rules.{rules}
-use Rattle.listing.proofs.list_hems.Goals as goal
-
 }
+use native.Mathlib.Omega.{arith}
+use Rattle.listing.proofs.list_hems.Goals as goal
 
 pub returns-then-number-ne0 : goal.returns-then-number-ne0
 returns-then-number-ne0 c =

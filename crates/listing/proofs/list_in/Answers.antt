@@ -8,85 +8,40 @@ pub house_of-house-requires : goal.house_of-house-requires
 house_of-house-requires c = house_room c.requires
 
 pub returns-then-refusal-ne0 : goal.returns-then-refusal-ne0
-returns-then-refusal-ne0 c =
-    let at-house-of = c in
-    let start = c in
-    list_refused start.requires at-house-of.house_of-house.ensures c.if-refusal-ne0.true c.refused.ensures
+returns-then-refusal-ne0 c = list_refused c.requires c.house_of-house.ensures c.if-refusal-ne0.true c.refused.ensures
 
 pub slice_bounds-put_lengths-end : goal.slice_bounds-put_lengths-end
-slice_bounds-put_lengths-end c =
-    let at-house-of = c in
-    let start = c in
-    flat_fits start.requires at-house-of.house_of-house.ensures c.if-refusal-ne0.false
+slice_bounds-put_lengths-end c = flat_fits c.requires c.house_of-house.ensures c.if-refusal-ne0.false
 
 pub slice_bounds-put_lengths-end-2 : goal.slice_bounds-put_lengths-end-2
-slice_bounds-put_lengths-end-2 c =
-    let at-if = c in
-    let at-house-of = c in
-    let start = c in
-    flat_counted start.requires at-house-of.house_of-house.ensures at-if.if-refusal-ne0.false
+slice_bounds-put_lengths-end-2 c = flat_counted c.requires c.house_of-house.ensures c.if-refusal-ne0.false
 
 pub slice_bounds-put_lengths-end-3 : goal.slice_bounds-put_lengths-end-3
-slice_bounds-put_lengths-end-3 c =
-    let at-if = c in
-    let at-house-of = c in
-    let start = c in
-    edges_fit start.requires at-house-of.house_of-house.ensures at-if.if-refusal-ne0.false
+slice_bounds-put_lengths-end-3 c = edges_fit c.requires c.house_of-house.ensures c.if-refusal-ne0.false
 
 pub slice_bounds-put_lengths-end-4 : goal.slice_bounds-put_lengths-end-4
-slice_bounds-put_lengths-end-4 c =
-    let at-if = c in
-    let at-house-of = c in
-    let start = c in
-    edges_long start.requires at-house-of.house_of-house.ensures at-if.if-refusal-ne0.false
+slice_bounds-put_lengths-end-4 c = edges_long c.requires c.house_of-house.ensures c.if-refusal-ne0.false
 
 pub put_lengths-requires : goal.put_lengths-requires
-put_lengths-requires c =
-    let at-if = c in
-    let at-house-of = c in
-    let start = c in
-    measurable start.requires at-house-of.house_of-house.ensures at-if.if-refusal-ne0.false
+put_lengths-requires c = measurable c.requires c.house_of-house.ensures c.if-refusal-ne0.false
 
 pub slice_bounds-put_panels-end : goal.slice_bounds-put_panels-end
-slice_bounds-put_panels-end c =
-    let at-if = c in
-    let at-house-of = c in
-    let start = c in
-    flat_fits start.requires at-house-of.house_of-house.ensures at-if.if-refusal-ne0.false
+slice_bounds-put_panels-end c = flat_fits c.requires c.house_of-house.ensures c.if-refusal-ne0.false
 
 pub slice_bounds-put_panels-end-2 : goal.slice_bounds-put_panels-end-2
-slice_bounds-put_panels-end-2 c =
-    let at-if = c in
-    let at-house-of = c in
-    let start = c in
-    flat_counted start.requires at-house-of.house_of-house.ensures at-if.if-refusal-ne0.false
+slice_bounds-put_panels-end-2 c = flat_counted c.requires c.house_of-house.ensures c.if-refusal-ne0.false
 
 pub slice_bounds-put_panels-end-3 : goal.slice_bounds-put_panels-end-3
-slice_bounds-put_panels-end-3 c =
-    let at-if = c in
-    let at-house-of = c in
-    let start = c in
-    edges_fit start.requires at-house-of.house_of-house.ensures at-if.if-refusal-ne0.false
+slice_bounds-put_panels-end-3 c = edges_fit c.requires c.house_of-house.ensures c.if-refusal-ne0.false
 
 pub slice_bounds-put_panels-end-4 : goal.slice_bounds-put_panels-end-4
-slice_bounds-put_panels-end-4 c =
-    let at-if = c in
-    let at-house-of = c in
-    let start = c in
-    edges_long start.requires at-house-of.house_of-house.ensures at-if.if-refusal-ne0.false
+slice_bounds-put_panels-end-4 c = edges_long c.requires c.house_of-house.ensures c.if-refusal-ne0.false
 
 pub put_panels-requires : goal.put_panels-requires
-put_panels-requires c =
-    let at-if = c in
-    let at-house-of = c in
-    let start = c in
-    panelled start.requires at-house-of.house_of-house.ensures at-if.if-refusal-ne0.false
+put_panels-requires c = panelled c.requires c.house_of-house.ensures c.if-refusal-ne0.false
 
 pub returns : goal.returns
 returns c =
     let put-panels = c.put_panels in
     let put-lengths = c.put_lengths in
-    let at-if = c in
-    let at-house-of = c in
-    let start = c in
-    list_done start.requires at-house-of.house_of-house.ensures at-if.if-refusal-ne0.false put-lengths.ensures put-panels.ensures
+    list_done c.requires c.house_of-house.ensures c.if-refusal-ne0.false put-lengths.ensures put-panels.ensures
