@@ -58,7 +58,7 @@ fn put_file(file: &[u8], out: &mut [u8]) -> usize
     if file.len() < COUNT_BYTES {
         return lines::put_refusal(11, out);
     }
-    let end = COUNT_BYTES + lists::wide(little::word(file, 0));
+    let end = COUNT_BYTES + little::word(file, 0) as usize;
     if file.len() < end {
         return lines::put_refusal(11, out);
     }

@@ -12,11 +12,11 @@ returns-then-file-lt-COUNT_BYTES c = sheeted_as (short_text _ c.if-file-gt-FILE.
 
 pub returns-then-file-end : goal.returns-then-file-end
 returns-then-file-end c =
-    sheeted_as (under_text _ c.if-file-gt-FILE.false c.if-file-lt-COUNT_BYTES.false _ _ _ c.word.ensures c.wide-end.ensures refl c.if-file-end.true)
+    sheeted_as (under_text _ c.if-file-gt-FILE.false c.if-file-lt-COUNT_BYTES.false _ _ _ c.word.ensures refl refl c.if-file-end.true)
     c.put_refusal-then-file-end.ensures
 
 pub returns : goal.returns
 returns c =
     sheeted_as
-    (split_text _ c.if-file-gt-FILE.false c.if-file-lt-COUNT_BYTES.false _ _ _ c.word.ensures c.wide-end.ensures refl c.if-file-end.false)
+    (split_text _ c.if-file-gt-FILE.false c.if-file-lt-COUNT_BYTES.false _ _ _ c.word.ensures refl refl c.if-file-end.false)
     c.put_panel.ensures
