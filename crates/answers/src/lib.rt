@@ -45,11 +45,7 @@ pub fn part(
 }
 
 // Faces that are grouped, or that are left where folded ones are removed: corners and faces.
-pub fn filled(
-    answer: Result<Filled, Refusal>,
-    corners: &mut usize,
-    faces: &mut usize,
-) -> u32
+pub fn filled(answer: Result<Filled, Refusal>, corners: &mut usize, faces: &mut usize) -> u32
     ensures pushed { want.pushed_by result corners.new faces.new ≡ pushed_of answer }
     ensures removed { want.removed_by result corners.new faces.new ≡ removed_of answer }
 {

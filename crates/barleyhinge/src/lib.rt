@@ -118,7 +118,13 @@ pub extern "C" fn bh_remove_unused_attrs(
         corners,
         sizes,
     };
-    let made = compaction::remove_unused_attrs(&mesh, newcorners, newpositions, newtextures, newnormals);
+    let made = compaction::remove_unused_attrs(
+        &mesh,
+        newcorners,
+        newpositions,
+        newtextures,
+        newnormals,
+    );
     answers::compacted(made, positioncount, texturecount, normalcount)
 }
 
