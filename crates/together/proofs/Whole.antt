@@ -7,11 +7,28 @@ use lib.Seq.{sets}
 use lib.Ieee.{Float}
 use Rattle.lists.specs.Lists.{joined}
 use Rattle.mesh.specs.Mesh.{Mesh, Corner, corners_in, position_count, texture_count, normal_count}
+use Rattle.mesh.specs.Table.{after}
+use Rattle.mesh.proofs.After.{after_refused}
 use Rattle.floating.specs.Scaling.{scaled_list}
 use Rattle.nearby.specs.Pairs.{compared_pairs}
 use Rattle.together.specs.Merging.{merge_number, merged_to, position_pairs, texture_pairs, normal_pairs, merged_corners, PutTogether}
 use Rattle.together.specs.Working.{Settled, sent_corner}
 use Rattle.together.proofs.Ready.{corners_same}
+
+-- a refusal
+pub refused :
+    (m : Mesh) (t : Float) (out : List ℕ) (n : ℕ) → n ≡ merge_number m t (length out) → (n ≡ 0 → ⊥)
+    → PutTogether m t out out (record { number = n; positions = 0; textures = 0; normals = 0 })
+refused m t out n e h = record {
+  number = e;
+  position_pairs_is = sym (old _ 0);
+  texture_pairs_is = sym (old _ 0);
+  normal_pairs_is = sym (old _ 0);
+  corners = sym (old _ out);
+}
+  where
+    old : {A : Type 0} (x y : A) → after n x y ≡ y
+    old x y = after_refused n x y h
 
 -- a mesh that earns 0
 module _
