@@ -44,7 +44,7 @@ pub fn part(
     }
 }
 
-// Faces that are grouped, or that are left where folded ones are removed: corners and faces.
+// What `pushed` and `removed` have in common: corners and faces.
 pub fn filled(answer: Result<Filled, Refusal>, corners: &mut usize, faces: &mut usize) -> u32
     ensures pushed { want.pushed_by result corners.new faces.new ≡ pushed_of answer }
     ensures removed { want.removed_by result corners.new faces.new ≡ removed_of answer }
@@ -61,6 +61,13 @@ pub fn filled(answer: Result<Filled, Refusal>, corners: &mut usize, faces: &mut 
             refusal.number()
         }
     }
+}
+
+// Faces that are grouped: corners and faces.
+pub fn pushed(grouped: Result<Filled, Refusal>, corners: &mut usize, faces: &mut usize) -> u32
+    ensures { want.pushed_by result corners.new faces.new ≡ pushed_of grouped }
+{
+    filled(grouped, corners, faces)
 }
 
 // Compaction: positions, texture points and normals.
@@ -86,6 +93,13 @@ pub fn compacted(
             refused.number()
         }
     }
+}
+
+// Removal of folded faces: corners and faces.
+pub fn removed(left: Result<Filled, Refusal>, corners: &mut usize, faces: &mut usize) -> u32
+    ensures { want.removed_by result corners.new faces.new ≡ removed_of left }
+{
+    filled(left, corners, faces)
 }
 
 // Merging: the pairs compared among positions, texture points and normals.

@@ -66,7 +66,7 @@ first_two v (more {x = w} {l = ws} q r) =
 -- ---- two lists
 
 module _ (first second : List ℕ) (v w : ℕ) where
-  given_is :
+  pub given_is :
       (x y : ℕ) → x ≡ filled (get_or first v 0) w → y ≡ second_filled (get_or first v 0) (get_or second v 0) w
       → ◌≡◌ {A = Hems} (set first v x, set second v y) (given v w (first, second))
   given_is x y p q = ap₂ (λ (a b : ℕ). (set first v a, set second v b)) p q

@@ -86,7 +86,7 @@ pub extern "C" fn bh_push(
         (answer.pushed_by result cornercount.new facecount.new) }
 {
     let pushed = faces::push(corners, sizes, newcorners, newsizes);
-    answers::filled(pushed, cornercount, facecount)
+    answers::pushed(pushed, cornercount, facecount)
 }
 
 // Compaction.
@@ -179,7 +179,7 @@ pub extern "C" fn bh_remove_degenerate_faces(
         sizes,
     };
     let left = folded::remove_degenerate_faces(&mesh, newcorners, newsizes, origins);
-    answers::filled(left, cornercount, facecount)
+    answers::removed(left, cornercount, facecount)
 }
 
 // Merging: the new corners, and how many pairs were compared among positions, texture points and normals.

@@ -64,7 +64,8 @@ pub fn put_word(out: &mut [u8], at: usize, x: u32)
     requires { at + 4 ≤ length out.old }
     ensures { out.new ≡ sets out.old at (little.word_bytes x) }
 {
-    lists::put(&x.to_le_bytes(), out, at);
+    let four = x.to_le_bytes();
+    lists::put(&four, out, at);
 }
 
 // The eight bytes of a number that has more.
@@ -72,5 +73,6 @@ pub fn put_long(out: &mut [u8], at: usize, x: u64)
     requires { at + 8 ≤ length out.old }
     ensures { out.new ≡ sets out.old at (little.long_bytes x) }
 {
-    lists::put(&x.to_le_bytes(), out, at);
+    let eight = x.to_le_bytes();
+    lists::put(&eight, out, at);
 }

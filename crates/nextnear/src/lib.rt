@@ -29,14 +29,19 @@ fn better(
     if j < best {
         return best;
     }
-    if seen[j] || j < low || from <= j {
+    if seen[j] {
+        return best;
+    }
+    if j < low {
+        return best;
+    }
+    if from <= j {
         return best;
     }
     if floating::distance2(w, floating::attr_at(s, w, i), floating::attr_at(s, w, j)) < t * t {
-        j + 1
-    } else {
-        best
+        return j + 1;
     }
+    best
 }
 
 // The same over a run, the places from `fore` to below `rear`: from its end on, since of one cell the highest point stands last.

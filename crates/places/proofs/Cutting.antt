@@ -57,7 +57,7 @@ module _ {key : ℕ → ℕ} {r : List ℕ} {i j : ℕ} (s : Found key r i j) wh
   second : j ≡ mate_of (map key r) (first_mated (map key r))
   second = s.second ∙ ap (mate_of (map key r)) s.first
 
-  cut : Pair r i j
+  pub cut : Pair r i j
   cut = record { ordered = s.ordered; within = s.within }
 
   -- t is the row that begins at i

@@ -3,7 +3,7 @@
 // written behind those that were taken before. No level of the calls has a row of its own.
 #![tactic(auto)]
 
-ghost use Rattle.std.specs.Prelude.{◌≡◌, map, false, ◌+◌, ◌*◌, ◌<◌, ◌≤◌, length, MatchOption};
+ghost use Rattle.std.specs.Prelude.{◌≡◌, map, false, ◌+◌, ◌*◌, ◌<◌, ◌≤◌, ◌++◌, length, take, drop, MatchOption};
 ghost use Rattle.std.proofs.lemmas.List.Edits.{sets};
 ghost use Rattle.lists.specs.Lists.{joined, span};
 ghost use Rattle.mesh.specs.Limits.{width};
@@ -66,6 +66,17 @@ fn repeats(face: &[u32], row: &[u32]) -> usize
     row.len().saturating_sub(1)
 }
 
+// The row begins with what stood at i; what stood before it goes to the end. By three reversals: the library's `rotate_left` moves what it
+// turns by memmove, and an archive for C asks for memcpy and memset alone.
+fn rotate(row: &mut [u32], i: usize)
+    requires { i ≤ length row.old }
+    ensures { row.new ≡ drop i row.old ++ take i row.old }
+{
+    row[..i].reverse();
+    row[i..].reverse();
+    row.reverse();
+}
+
 // A ring that is not folded is one piece where it has three places or more.
 fn put_piece(face: &[u32], row: &[u32], took: &mut [u32], lens: &mut [u32], at: Filled) -> Filled
     requires room { Room (length row.now) took.old lens.old at.corners at.faces }
@@ -108,7 +119,7 @@ fn split_places(
     }
     if let Some((i, j)) = first_pair(face, row) {
         let m = j - i;
-        row.rotate_left(i);
+        rotate(row, i);
         let mid = split_places(face, &mut row[..m], took, lens, at);
         return split_places(face, &mut row[m..], took, lens, mid);
     }

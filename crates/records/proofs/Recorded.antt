@@ -1,5 +1,5 @@
 -- One record, row by row: an attribute, a face by its count, a record by its header and its length. Assumes nothing.
-use mathlib.Core.Path.{◌≡◌}
+use mathlib.Core.Path.{◌≡◌, refl}
 use mathlib.Core.Bool.{Bool, true, false, not}
 use mathlib.Core.List.{List}
 use Prim.Native.Nat.{ℕ, ◌+◌, ◌*◌, ◌-◌, ◌≤◌, ◌<◌}
@@ -8,11 +8,11 @@ use borrow.Author.Tests.{eq-eqb, lt-ltb, le-ltb}
 use Rattle.lists.specs.Lists.{every}
 use Rattle.floating.specs.Limits.{finite}
 use Rattle.records.specs.declared.Record.{Record}
-use Rattle.records.specs.declared.Record.TheVariants.{Face, Refused}
+use Rattle.records.specs.declared.Record.TheVariants.{Position, Texture, Normal, Face, End, Refused}
 use Rattle.little.specs.Little.{half}
 use Rattle.records.specs.Lengths.{header_length, corner_size}
 use Rattle.records.specs.Lengths.{last_kind}
-use Rattle.records.specs.Records.{values_of, length_fits, attribute, ring_from, lacks_marks, counted, body_from, record_from}
+use Rattle.records.specs.Records.{number_of, values_of, length_fits, attribute, ring_from, lacks_marks, counted, body_from, record_from}
 
 -- ---- an attribute, with b whether its coordinates are finite
 
@@ -52,3 +52,13 @@ module _ (s : List ℕ) (at n k : ℕ) (h : header_length ≤ length s - at) (en
   pub body_whole : k ≤ last_kind → not (length_fits k n) ≡ false → n ≤ length s - (at + header_length) → body_from s (at + header_length) n k ≡ record_from s at
   unfolding record_from
   body_whole l w c = rw (le-ltb (length s - at) header_length h, ← ek, ← en, le-ltb last_kind k l, w, le-ltb (length s - (at + header_length)) n c)
+
+-- ---- answers of other variants
+
+pub not_refused : (r : Record) → ((n : ℕ) → r ≡ Refused n → ⊥) → 0 ≡ number_of r
+not_refused (Position p) k = refl
+not_refused (Texture t) k = refl
+not_refused (Normal p) k = refl
+not_refused (Face a n m) k = refl
+not_refused End k = refl
+not_refused (Refused n) k = absurd (k n refl)

@@ -51,3 +51,14 @@ squares_most x y z s =
     let b : y * y ≤ span_limit * span_limit = square_most y s.second in
     let c : z * z ≤ span_limit * span_limit = square_most z s.third in
     omega arith
+
+-- by numbers that are equal to the differences
+pub spanned_by :
+    (a b : Point) (x y z : ℕ) → x ≡ apart_by a.0 b.0 → y ≡ apart_by a.1 b.1 → z ≡ apart_by a.2 b.2
+    → Reached a → Reached b → Spanned x y z
+spanned_by a b x y z p q r m n =
+    let s : Spanned (apart_by a.0 b.0) (apart_by a.1 b.1) (apart_by a.2 b.2) = spanned a b m n in
+    let f : _ = s.first in
+    let g : _ = s.second in
+    let h : _ = s.third in
+    record { first = omega arith; second = omega arith; third = omega arith }

@@ -1,3 +1,4 @@
 pub mod Greatest
+pub mod Halved
 pub mod Signs
 pub mod Distances

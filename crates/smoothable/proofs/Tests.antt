@@ -23,7 +23,7 @@ low_is : neg (of_bits binary64 0x3ff0_0000_0000_0000) ≡ fin true 1 (pos 0)
 unfolding neg of_bits
 low_is = refl
 
-within_one_lem :
+pub within_one_lem :
     (c : Float) → (le (neg (of_bits binary64 0x3ff0_0000_0000_0000)) c && le c (of_bits binary64 0x3ff0_0000_0000_0000)) ≡ within_one c
 within_one_lem c = rw (low_is, one_is)
 

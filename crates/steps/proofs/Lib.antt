@@ -5,3 +5,4 @@ pub mod Normals
 pub mod Ends
 pub mod Rings
 pub mod Known
+pub mod Cases

@@ -5,9 +5,19 @@ use Rattle.mesh.specs.Limits.{width, entry_limit, corner_limit, face_limit, poin
 use Rattle.mesh.specs.Mesh.{Mesh}
 use Rattle.grouping.specs.Push.{corner_count}
 use Rattle.records.specs.declared.Record.{Record}
+use Rattle.records.specs.declared.Record.TheVariants.{Position, Texture, Normal, Face, End, Refused}
 use Rattle.records.specs.Records.{end_of, Placed}
 use Rattle.steps.specs.declared.Progress.{Progress}
 use Rattle.steps.specs.Taking.{Reader, take_record}
+
+-- the cases of a record, in their order
+abbrev pub case_of : Record → ℕ
+case_of (Position p) = 0
+case_of (Texture t) = 1
+case_of (Normal p) = 2
+case_of (Face a n m) = 3
+case_of End = 4
+case_of (Refused n) = 5
 
 -- the counts are within the limits, and the place within the file
 pub record Within (size : ℕ) (y : Progress) : Type 0 where

@@ -29,7 +29,14 @@ pub(crate) fn ask<'a>(mesh: &Mesh<'_>, kind: u32, case: Words<'a>) -> Outcome<'a
 
 // The number of a mesh.
 fn mesh_number<'a>(mesh: &Mesh<'_>, case: Words<'a>) -> Outcome<'a> {
-    cases::answered(case, cases::told(mesh.check().map(|()| [])))
+    let number = mesh::number(
+        mesh.positions,
+        mesh.textures,
+        mesh.normals,
+        mesh.corners,
+        mesh.sizes,
+    );
+    cases::answered(case, (number, []))
 }
 
 // The part of a face: its length, and that it holds what the list of corners has from its start on; an empty part starts at 0. The call has no

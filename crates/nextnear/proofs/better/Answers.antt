@@ -3,17 +3,17 @@ use mathlib.Core.Path.{sym, ◌∙◌}
 use Rattle.nearby.proofs.Fresh.{not_new, by_distance}
 use Rattle.nextnear.proofs.Looking.{not_fresh, below_low, from_on, is_wanted, better_none, better_one}
 use Rattle.nextnear.proofs.better.Goals as goal
-use Rattle.nextnear.proofs.better.Goals.{then-seen-j-via-then-seen-j, then-seen-j-via-else-seen-j+then-j-low, then-seen-j-via-else-seen-j+else-j-low+then-from-j}
 
 pub returns-then-seen-j : goal.returns-then-seen-j
 returns-then-seen-j c =
     let args = c.args in
-    better_none
-    (elim c.then-seen-j.branch [
-      | then-seen-j-via-then-seen-j w ↦ not_fresh args.t _ _ _ _ _ args.low args.from _ (sym (not_new args.t _ _ _ _ _ _ w.if-seen-j.true))
-      | then-seen-j-via-else-seen-j+then-j-low w ↦ below_low args.t _ _ _ _ _ args.low args.from _ w.if-j-low.true
-      | then-seen-j-via-else-seen-j+else-j-low+then-from-j w ↦ from_on args.t _ _ _ _ _ args.low args.from _ w.if-from-j.true
-    ])
+    better_none (not_fresh args.t _ _ _ _ _ args.low args.from _ (sym (not_new args.t _ _ _ _ _ _ c.if-seen-j.true)))
+
+pub returns-then-j-low : goal.returns-then-j-low
+returns-then-j-low c = let args = c.args in better_none (below_low args.t _ _ _ _ _ args.low args.from _ c.if-j-low.true)
+
+pub returns-then-from-j : goal.returns-then-from-j
+returns-then-from-j c = let args = c.args in better_none (from_on args.t _ _ _ _ _ args.low args.from _ c.if-from-j.true)
 
 pub returns-then-distance2-t : goal.returns-then-distance2-t
 returns-then-distance2-t c =
@@ -32,8 +32,8 @@ returns-then-distance2-t c =
     (sym (by_distance args.t args.w args.s.now args.cells.now args.seen.now args.i args.j pre.4 if2.false
     attr-at.result attr-at2.result distance2.result attr-at.ensures attr-at2.ensures distance2.ensures) ∙ if5.true))
 
-pub returns-else-distance2-t : goal.returns-else-distance2-t
-returns-else-distance2-t c =
+pub returns : goal.returns
+returns c =
     let args = c.args in
     let pre = c.requires in
     let if2 = c.if-seen-j in

@@ -25,13 +25,13 @@ slice_bounds-split_places-end-in-Some t c = omega (arith, c.in-Some.ensures.with
 pub split_places-mid-requires : goal.split_places-mid-requires
 split_places-mid-requires t c =
     let s = c.in-Some.ensures in
-    let e = c.rotate_left.ensures.after in
+    let e = c.rotate.ensures in
     (omega (arith, shorter_one s e, c.decreases), (places_one s e c.args.face.now c.requires.places, room_one s e _ _ _ _ c.requires.room))
 
 pub split_places-requires-in-Some : goal.split_places-requires-in-Some
 split_places-requires-in-Some t c =
     let s = c.in-Some.ensures in
-    let e = c.rotate_left.ensures.after in
+    let e = c.rotate.ensures in
     let y = c.split_places-mid.new.row in
     let k = c.split_places-mid.auto.row in
     let room = room_two s e y k _ _ _ _ _ _ _ _ c.split_places-mid.ensures.taken c.requires.room c.split_places-mid.auto.took c.split_places-mid.auto.lens in
@@ -39,7 +39,7 @@ split_places-requires-in-Some t c =
 
 pub returns-in-Some : goal.returns-in-Some
 returns-in-Some t c =
-    cut_parted c.in-Some.ensures c.rotate_left.ensures.after c.split_places-mid.new.row c.split_places-mid.auto.row _ _ _ _ _ _ _ _ c.split_places-mid.ensures.taken
+    cut_parted c.in-Some.ensures c.rotate.ensures c.split_places-mid.new.row c.split_places-mid.auto.row _ _ _ _ _ _ _ _ c.split_places-mid.ensures.taken
     c.split_places-in-Some.new.row _ _ _ _ _ c.split_places-mid.ensures.rings c.split_places-in-Some.ensures refl
 
 pub returns : goal.returns
