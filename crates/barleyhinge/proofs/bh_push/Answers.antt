@@ -4,4 +4,4 @@ use Rattle.barleyhinge.proofs.Taken.{taken}
 use Rattle.barleyhinge.proofs.bh_push.Goals as goal
 
 pub returns : goal.returns
-returns c = taken (Grouped _ _ _) _ _ c.filled.ensures.pushed c.push-pushed.ensures
+returns c = taken (Grouped _ _ _) _ _ c.pushed.ensures c.push-pushed.ensures

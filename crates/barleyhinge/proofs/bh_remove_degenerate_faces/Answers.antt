@@ -4,4 +4,4 @@ use Rattle.barleyhinge.proofs.Taken.{taken}
 use Rattle.barleyhinge.proofs.bh_remove_degenerate_faces.Goals as goal
 
 pub returns : goal.returns
-returns c = taken (Removal _ _ _) _ _ c.filled.ensures.removed c.remove_degenerate_faces-left.ensures
+returns c = taken (Removal _ _ _) _ _ c.removed.ensures c.remove_degenerate_faces-left.ensures
