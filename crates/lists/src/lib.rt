@@ -22,10 +22,13 @@ pub fn next_of(i: usize, n: usize) -> usize
     if i + 1 < n { i + 1 } else { 0 }
 }
 
-// What stands in `part` goes to `out`, from place `at` on, bit for bit.
+// What stands in `part` goes to `out`, from place `at` on, bit for bit. By a loop: the library's `copy_from_slice` asks for memmove, which an
+// archive for C is not to ask for.
 pub fn put<T: Copy>(part: &[T], out: &mut [T], at: usize)
     requires { at + length part.now ≤ length out.old }
     ensures { out.new ≡ sets out.old at part.now }
 {
-    out[at..at + part.len()].copy_from_slice(part);
+    for (i, x) in part.iter().enumerate() {
+        out[at + i] = *x;
+    }
 }
